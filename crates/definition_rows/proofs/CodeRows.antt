@@ -9,12 +9,12 @@ use Rattle.sp_code.specs.declared.code.Formal.{Formal}
 use Rattle.sp_code.specs.declared.code.Formal.TheVariants as formal
 use Rattle.sp_code.specs.declared.code.Layout.{Layout}
 use Rattle.sp_code.specs.declared.code.Parts.{Parts}
-use Rattle.sp_rules.specs.Areas.{Body, instr_at}
-use Rattle.sp_rules.specs.Shapes.{Shape, instr_shapes}
-use Rattle.sp_rules.specs.Reach.{Brings, LeadsWith}
-use Rattle.sp_rules.specs.Named.{BreaksV1, OutOfRange, in_range}
-use Rattle.sp_rules.specs.Rules.{BreaksV5, AnswersByReference}
-use Rattle.sp_rules.specs.Verdict.{is_stop, HasStop, BreaksV8}
+use Rattle.sp_verify_rules.specs.Areas.{Body, instr_at}
+use Rattle.sp_verify_rules.specs.Shapes.{Shape, instr_shapes}
+use Rattle.sp_verify_rules.specs.Reach.{BringsShapes, LeadsWith}
+use Rattle.sp_verify_rules.specs.Named.{BreaksV1, OutOfRange, in_range}
+use Rattle.sp_verify_rules.specs.Rules.{BreaksV5, AnswersByReference}
+use Rattle.sp_verify_rules.specs.Verdict.{is_stop, HasStop, BreaksV8}
 
 -- the program's frame has one variable, number 2 there: 0 and 1 are the input and the output
 abbrev main : Layout
@@ -115,7 +115,7 @@ after_tick : (ts : List Shape) (p : ℕ) (ss : List Shape) → Leads ts p ss 1 �
 after_tick ts p ss (inl l) = l.0
 after_tick ts p ss (inr l) = absurd l
 
-comes_to : (n p : ℕ) (ss : List Shape) → Brings ticking (Body 1) n p ss → (p ≡ 1) ⊎ (p ≡ 2)
+comes_to : (n p : ℕ) (ss : List Shape) → BringsShapes ticking (Body 1) n p ss → (p ≡ 1) ⊎ (p ≡ 2)
 comes_to zero p ss h = inl h.0
 comes_to (suc n) p ss h = by (comes_to n h.0 h.1 h.2)
   where

@@ -9,13 +9,13 @@ use Rattle.sp_code.specs.declared.instr.Instr.TheVariants as i
 use Rattle.sp_code.specs.declared.code.Layout.{Layout}
 use Rattle.sp_code.specs.declared.code.Parts.{Parts}
 use Rattle.sp_code.specs.Machine.{layout_of}
-use Rattle.sp_rules.specs.Areas.{Area, Body, instr_at, child_at}
-use Rattle.sp_rules.specs.Shapes.{Shape, O, A}
-use Rattle.sp_rules.specs.Reach.{IsIn, Reaches}
-use Rattle.sp_rules.specs.Effects.{Kind, Stored, Loaded, Does, does_at, EffectBy, IsEffect, HasEffect, IsCalled}
-use Rattle.sp_rules.specs.Effects.{Becomes}
-use Rattle.sp_rules.specs.Forks.{BreaksV7Inside}
-use Rattle.sp_rules.specs.Verdict.{HasStop, Inside, BreaksV7, BreaksV8}
+use Rattle.sp_verify_rules.specs.Areas.{Area, Body, instr_at, child_at}
+use Rattle.sp_verify_rules.specs.Shapes.{Shape, O, A}
+use Rattle.sp_verify_rules.specs.Reach.{IsIn, Reaches}
+use Rattle.sp_verify_rules.specs.Effects.{Kind, Stored, Loaded, Does, does_at, EffectBy, IsEffect, HasEffect, IsCalled}
+use Rattle.sp_verify_rules.specs.Effects.{Becomes}
+use Rattle.sp_verify_rules.specs.Forks.{BreaksV7Inside}
+use Rattle.sp_verify_rules.specs.Verdict.{HasStop, Inside, BreaksV7, BreaksV8}
 
 -- the program's variable is number 2
 abbrev main : Layout

@@ -14,7 +14,8 @@
 //! - `proofs/EffectRows.antt`: procedures that are called inside themselves, which breaks V7 if they have an effect
 //!   outside, and not if the output is their only one; and a function that stores outside itself, which breaks V8.
 //! - `proofs/ParallelRows.antt`: the schedules of the program of both laws, which `specs/Programs.antt` has.
-//! - Nothing runs here, and no program uses this crate. `sp_rules` and `sp_meaning` have more rows in their `proofs/`.
+//! - Nothing runs here, and no program uses this crate. `sp_verify_rules` and `sp_meaning` have more rows in their
+//!   `proofs/`.
 #![tactic(auto)]
 
 mod parallel;

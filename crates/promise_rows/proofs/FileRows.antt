@@ -15,10 +15,10 @@ use Rattle.sp_codefile.specs.CodeText.{IsTextOf, LayoutFits, TableFits, code_tex
 use Rattle.sp_codefile.specs.Verifying.{rule_of}
 use Rattle.sp_codefile.specs.declared.verifier.VRule.TheVariants as v
 use Rattle.sp_kernel.specs.declared.closed.Closed.{Closed}
-use Rattle.sp_rules.specs.Areas.{Body}
-use Rattle.sp_rules.specs.Named.{BreaksV1, OutOfRange}
-use Rattle.sp_rules.specs.Reach.{IsInCodeOf}
-use Rattle.sp_rules.specs.Verdict.{IsRejected, IsVerified, Rule, V1, number}
+use Rattle.sp_verify_rules.specs.Areas.{Body}
+use Rattle.sp_verify_rules.specs.Named.{BreaksV1, OutOfRange}
+use Rattle.sp_verify_rules.specs.Reach.{IsInCodeOf}
+use Rattle.sp_verify_rules.specs.Verdict.{IsRejected, IsVerified, Rule, V1, number}
 use Rattle.sp_words.specs.Words.{command_of}
 use Rattle.superpascal.specs.declared.ending.Ending.{Ending}
 use Rattle.superpascal.specs.declared.ending.Ending.TheVariants as e
@@ -205,7 +205,8 @@ module _ {c : Call} {input out notes : List ℕ} (o : Observed c (codes "exec" �
       go (inl long) = omega (arith, short, long)
       go (inr (inl (n, bad))) = bad.whole (code, text)
       go (inr (inr (other, w, i, is, r))) =
-          verified (rule_of w) i (subst (λ (z : Parts). Rattle.sp_rules.specs.Verdict.BreaksRuleAt z (rule_of w) i)
+          verified (rule_of w) i (subst (λ (z : Parts). Rattle.sp_verify_rules.specs.Verdict.BreaksRuleAt z
+          (rule_of w) i)
           (one other code bytes is text) r.broken)
 
 due_is_final : (s d : ℕ) → IsFinal s → (s ≡ d) ⊎ (s ≡ 6) → IsFinal d

@@ -25,7 +25,7 @@ use Rattle.superpascal.specs.Answers.{line_of, status_of}
 use Rattle.superpascal.specs.Calls.{Call, IsFinal, SaysEnding}
 use Rattle.superpascal.specs.Headline.{IsMeant, Prints}
 use Rattle.superpascal.specs.Runs.{ending_of}
-use Rattle.superpascal.specs.Statuses.{IsWell}
+use Rattle.superpascal.specs.Statuses.{IsRegularStatus}
 use Rattle.superpascal.specs.Texts.{command_of_run}
 use Rattle.promise_rows.specs.Observed.{Ends, Holds, IsQuiet, Observed}
 use Rattle.promise_rows.specs.Programs.{calls_unknown, waits, writes_42}
@@ -111,7 +111,7 @@ module _ {c : Call} {out notes : List ℕ} (o : Observed c (codes "run" ∷ code
     a_run_writes_42 q told = go (o.promise.statuses.complete (command_of_run a_run) text (asked o) held
         (is_accepted_text text t) (works c o.promise q (command_of_run a_run) [] o.input (omega (arith))))
       where
-        go : IsWell (command_of_run a_run) c.outcome.status
+        go : IsRegularStatus (command_of_run a_run) c.outcome.status
             → Ends c 0 ((out ≡ codes "42") × (notes ≡ codes "done\nordered\n"))
         go (inl f) =
             let r = o.promise.statuses.ran (command_of_run a_run) (asked o) tt f in
@@ -157,7 +157,7 @@ module _ {c : Call} {out notes : List ℕ} (o : Observed c (codes "run" ∷ code
             ),
           )
 
-      go : IsWell (command_of_run a_run) c.outcome.status
+      go : IsRegularStatus (command_of_run a_run) c.outcome.status
           → Ends c 4 ((out ≡ []) × (notes ≡ codes "deadlock\nwaits 0 receive 0#0\nordered\n"))
       go (inl f) =
           let r = o.promise.statuses.ran (command_of_run a_run) (asked o) tt f in

@@ -74,7 +74,7 @@ the_one_waits = (_, refl, refl, refl)
 
 -- what a process waits for, in its condition
 abbrev way_in : Condition Process LocationContent Address → Way
-way_in (Waits o) = way_of o.cargo
+way_in (Waits o) = way_of o.payload
 way_in Absent = way.Send
 way_in (Works own) = way.Send
 way_in (Joins fork count next_state) = way.Send

@@ -4,7 +4,7 @@ ghost use Rattle.std.specs.Prelude.{◌≡◌, ◌⊎◌, ◌<◌, ◌≤◌, �
 ghost use Rattle.sp_codefile.specs.CodeText.{IsTextOf, code_text};
 ghost use Rattle.sp_code.specs.declared.code.Parts.{Parts};
 ghost use Rattle.sp_kernel.specs.declared.closed.Closed.{Closed as AClosed};
-ghost use Rattle.sp_rules.specs.Verdict.{IsVerified};
+ghost use Rattle.sp_verify_rules.specs.Verdict.{IsVerified};
 ghost use Rattle.superpascal.specs.Calls.{Call};
 ghost use Rattle.promise_rows.specs.Observed.{Ends, Holds, IsQuiet, Observed};
 ghost use Rattle.promise_rows.specs.Files.{no_variable};

@@ -53,7 +53,7 @@ the_one = record { who = []; way = way.Receive; channel = first_channel }
 
 -- what a process waits for, in its condition
 abbrev way_in : Condition Process LocationContent Address → Way
-way_in (Waits o) = way_of o.cargo
+way_in (Waits o) = way_of o.payload
 way_in _ = way.Send
 
 abbrev channel_in : Condition Process LocationContent Address → Channel

@@ -18,7 +18,7 @@ use Rattle.sp_code.specs.Places.{after_statement, after_block}
 use Rattle.sp_code.specs.Lengths.{stmt_length, tree_length}
 use Rattle.sp_code.specs.Emitted.{tables_in, texts_in, texts_of, end_instr, code, tables, block_code, blocks_code}
 use Rattle.sp_code.specs.Emitted.{blocks_texts, layout_of, layouts_from, blocks_tables, program_code}
-use Rattle.sp_code.specs.CodeOfTree.{HasAt, BlockAt, BlocksAt, IsFine}
+use Rattle.sp_code.specs.CodeOfTree.{HasAt, BlockAt, BlocksAt, IsSoundBlock}
 use Rattle.sp_code.proofs.Counts.{last_count, blocks_count, code_count, stmt_after}
 use Rattle.sp_code.proofs.Standing.{has_front, has_back, stands, code_stop, tables_stop, texts_stop}
 
@@ -74,7 +74,7 @@ module _ (p : Program) (moves shares : Stmt → List ℕ) where
   module _ (all : Parts) (callable : ℕ → Type 0) where
     -- the block that stands first
     first_stands : (b t n q : ℕ) (k : Block) (more : List Instr) (tables_more : List ForkTable)
-        (texts_more : List (List ℕ)) → IsFine p moves shares callable b q k
+        (texts_more : List (List ℕ)) → IsSoundBlock p moves shares callable b q k
         → slice_get all.layouts b ≡ Some (layout_of p b q k)
         → HasAt all.instrs q (block_code p b t n q k ++ more)
         → HasAt all.forks t (tables p moves shares q k.body ++ tables_more)
@@ -108,7 +108,7 @@ module _ (p : Program) (moves shares : Stmt → List ℕ) where
         )
 
     blocks_stand_from : (b t n q : ℕ) (ks : List Block)
-        → ((f r : ℕ) (k : Block) → slice_get ks f ≡ Some k → IsFine p moves shares callable (b + f) r k)
+        → ((f r : ℕ) (k : Block) → slice_get ks f ≡ Some k → IsSoundBlock p moves shares callable (b + f) r k)
         → HasAt all.layouts b (layouts_from p b q ks) → HasAt all.instrs q (blocks_code p b t n q ks)
         → HasAt all.forks t (blocks_tables p moves shares q ks) → HasAt all.texts n (blocks_texts ks)
         → (f : ℕ) (k : Block) → slice_get ks f ≡ Some k → BlockAt p moves shares all callable (b + f) k
@@ -119,14 +119,15 @@ module _ (p : Program) (moves shares : Stmt → List ℕ) where
         subst (λ (x : ℕ). BlockAt p moves shares all callable x k) (sym z)
         (subst (λ (x : Block). BlockAt p moves shares all callable b x) same
         (first_stands b t n q j _ _ _
-        (subst (λ (x : ℕ). IsFine p moves shares callable x q j) z (fine 0 q j refl)) l.0 h a
+        (subst (λ (x : ℕ). IsSoundBlock p moves shares callable x q j) z (fine 0 q j refl)) l.0 h a
         w))
     blocks_stand_from b t n q (j ∷ ks) fine l h a w (suc f) k e =
         let z : suc b + f ≡ b + suc f = omega arith in
         let y : b + 1 ≡ suc b = omega arith in
         subst (λ (x : ℕ). BlockAt p moves shares all callable x k) z
         (blocks_stand_from (suc b) (t + tables_in j.body) (n + texts_in j.body) (after_block p q j) ks
-        (λ g r i d. subst (λ (x : ℕ). IsFine p moves shares callable x r i) (next_goes_left b g) (fine (suc g) r i d))
+        (λ g r i d. subst (λ (x : ℕ). IsSoundBlock p moves shares callable x r i) (next_goes_left b g)
+        (fine (suc g) r i d))
         (subst (λ (x : ℕ). HasAt all.layouts x (layouts_from p (suc b) (after_block p q j) ks)) y l.1)
         (has_back all.instrs q (after_block p q j) (block_code p b t n q j) _ (block_stop b t n q j) h)
         (has_back all.forks t _ (tables p moves shares q j.body) _
@@ -135,11 +136,11 @@ module _ (p : Program) (moves shares : Stmt → List ℕ) where
 
   -- in its own code
   pub blocks_stand : (callable : ℕ → Type 0) → ((f q : ℕ) (b : Block) → slice_get p.blocks f ≡ Some b
-      → IsFine p moves shares callable f q b) → BlocksAt p moves shares (program_code p moves shares) callable
+      → IsSoundBlock p moves shares callable f q b) → BlocksAt p moves shares (program_code p moves shares) callable
   blocks_stand callable fine f b e =
       let all = program_code p moves shares in
       let none : 0 + f ≡ f = omega arith in
       subst (λ (x : ℕ). BlockAt p moves shares all callable x b) none
       (blocks_stand_from all callable 0 0 0 0 p.blocks
-      (λ g r k d. subst (λ (x : ℕ). IsFine p moves shares callable x r k) (sym (zero-add g)) (fine g r k d))
+      (λ g r k d. subst (λ (x : ℕ). IsSoundBlock p moves shares callable x r k) (sym (zero-add g)) (fine g r k d))
       (has_self all.layouts) (has_self all.instrs) (has_self all.forks) (has_self all.texts) f b e)

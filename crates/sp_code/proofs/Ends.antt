@@ -1,7 +1,7 @@
 -- A turn along which the ranks fall ends.
 use Rattle.std.proofs.Common.{◌≡◌, suc, refl}
 use Rattle.sp_code.specs.Machine.{Config}
-use Rattle.sp_code.specs.Turns.{Turn, Ran, Ended, Lacks, GoesOn, IsTurn, IsSafe, turn_within}
+use Rattle.sp_code.specs.Turns.{Turn, TurnProgress, Ended, Lacks, GoesOn, IsTurn, IsSafe, turn_within}
 use Rattle.sp_code.specs.Memory.{CodeRun, Stores, Memory, memory}
 use Rattle.sp_code.specs.Ranks.{IsRankedAlong}
 use Rattle.sp_code.specs.Budgets.{IsOver, ticks_left, most_steps}
@@ -19,7 +19,7 @@ module _ {S : Type 0} (stores : Stores S) (g : CodeRun) where
   safe_turn c ranked safe = go (turn_within (memory stores g) g.code (suc (most_steps g c)) c) refl
       (ranked_over c ranked)
     where
-      go : (r : Ran (Memory S)) → turn_within (memory stores g) g.code (suc (most_steps g c)) c ≡ r → IsOver r
+      go : (r : TurnProgress (Memory S)) → turn_within (memory stores g) g.code (suc (most_steps g c)) c ≡ r → IsOver r
           → (t : Turn (Memory S)) × IsTurn (memory stores g) g.code c t
       go (Ended t) e o = (t, within_ended (memory stores g) g.code (suc (most_steps g c)) c t e)
       go (Lacks d) e o = let h = within_lacks (memory stores g) g.code (suc (most_steps g c)) c d e in

@@ -8,7 +8,7 @@ use Rattle.sp_code.specs.declared.instr.Instr.{Instr}
 use Rattle.sp_code.specs.declared.instr.Instr.TheVariants as i
 use Rattle.sp_code.specs.declared.code.ChildTable.{ChildTable}
 use Rattle.sp_code.specs.declared.code.ForkTable.{ForkTable}
-use Rattle.sp_code.specs.Turns.{Turn, Ran, Ended, Lacks, GoesOn, turn_within}
+use Rattle.sp_code.specs.Turns.{Turn, TurnProgress, Ended, Lacks, GoesOn, turn_within}
 use Rattle.sp_code.specs.Memory.{CodeRun, Memory, memory}
 use Rattle.sp_code.specs.Control.{control, front, standing, Running, IsDone, IsDeadlock, IsFault, IsMemory}
 use Rattle.sp_code.specs.System.{System, Condition, Absent, Working, Waits, Joins, Laid, Gone, Over, event_of}
@@ -23,7 +23,8 @@ module _ (g : CodeRun) where
       × List ℕ
   after_turn go q m t = let r = go (system_after_turn small g q t m) in (event_of g.limits m t ∷ r.0, r.1)
 
-  abbrev by_turn : (System Small → List Event × List ℕ) → ℕ → System Small → Ran (Memory Small) → List Event × List ℕ
+  abbrev by_turn : (System Small → List Event × List ℕ) → ℕ → System Small → TurnProgress (Memory Small)
+      → List Event × List ℕ
   by_turn go q m (Ended t) = after_turn go q m t
   by_turn go q m (Lacks c) = ([], [])
   by_turn go q m (GoesOn c) = ([], [])

@@ -12,7 +12,7 @@ use Rattle.sp_code.specs.declared.instr.Instr.{Instr}
 use Rattle.sp_code.specs.declared.code.Layout.{Layout}
 use Rattle.sp_code.specs.declared.code.Parts.{Parts}
 use Rattle.sp_code.specs.Machine.{Stop, Config, At}
-use Rattle.sp_code.specs.Turns.{Turn, Stopped, Faulted, Ran, Ended, Lacks, GoesOn, turn_within}
+use Rattle.sp_code.specs.Turns.{Turn, Stopped, Faulted, TurnProgress, Ended, Lacks, GoesOn, turn_within}
 use Rattle.sp_code.specs.Memory.{CodeRun, Stores, Memory, memory, first_process, bytes_in, is_there}
 use Rattle.sp_code.specs.PlainStore.{piece_of}
 
@@ -113,7 +113,7 @@ abbrev pub main : List ℕ → Layout
 main sizes = record { block = 0; entry = 0; parent = None; answer = false; sizes = sizes; variables = []; formals = [] }
 
 -- the first turn of this code, with no more than 200 instructions
-abbrev pub first_turn : CodeRun → Ran (Memory Small)
+abbrev pub first_turn : CodeRun → TurnProgress (Memory Small)
 first_turn g = turn_within (memory small g) g.code 200 (first_process small g)
 
 -- where it ended, and the output there
@@ -127,7 +127,7 @@ abbrev pub seen_turn : Turn (Memory Small) → Seen
 seen_turn (Stopped s c) = (Some s, None, written c)
 seen_turn (Faulted f c) = (None, Some f, written c)
 
-abbrev pub seen : Ran (Memory Small) → Seen
+abbrev pub seen : TurnProgress (Memory Small) → Seen
 seen (Ended t) = seen_turn t
 seen (Lacks c) = (None, None, codes "lacks")
 seen (GoesOn c) = (None, None, codes "goes on")

@@ -32,7 +32,7 @@ use Rattle.sp_code.specs.Emitted.{tables_children, tables_arms}
 use Rattle.sp_code.specs.CodeOfTree.{AnyInstr, AnyTable, AnyText, CodeAt, HasFork, HasWords, HasAt, VarRole, VarAt}
 use Rattle.sp_code.specs.CodeOfTree.{ReadAt, UnaryAt, StandardAt, InputAt, Around, CallAt, ValueAt, FormAt, PlaceAt}
 use Rattle.sp_code.specs.CodeOfTree.{SelectedAt, ActualsAt, OrdinalAt, WidthAt, ReadsAt, RightAt, TestAt, TestsAt}
-use Rattle.sp_code.specs.CodeOfTree.{StandsAt, AllAt, ChildrenAt, ArmsAt}
+use Rattle.sp_code.specs.CodeOfTree.{StatementAt, AllAt, ChildrenAt, ArmsAt}
 use Rattle.sp_code.proofs.Counts.{value_after, form_after, var_after, actuals_after, width_after, tests_after}
 use Rattle.sp_code.proofs.Counts.{stmt_after, value_count, form_count, var_count, actuals_count, width_count}
 use Rattle.sp_code.proofs.Counts.{tests_count, code_count, texts_count, tables_count}
@@ -70,10 +70,10 @@ module _ (p : Program) (moves shares : Stmt → List ℕ) (all : Parts) (callabl
   SV sc q e = ValueAt p moves shares (CodeAt all) (HasFork all) (HasWords all) callable sc q e
 
   abbrev F : Bool → List Scope → ℕ → Stmt → Type 0
-  F free sc q s = StandsAt p moves shares AnyInstr AnyTable AnyText callable free sc q s
+  F free sc q s = StatementAt p moves shares AnyInstr AnyTable AnyText callable free sc q s
 
   abbrev S : Bool → List Scope → ℕ → Stmt → Type 0
-  S free sc q s = StandsAt p moves shares (CodeAt all) (HasFork all) (HasWords all) callable free sc q s
+  S free sc q s = StatementAt p moves shares (CodeAt all) (HasFork all) (HasWords all) callable free sc q s
 
   -- the place behind a part's code
   pub value_stop : (sc : List Scope) (q : ℕ) (e : Expr) → q + length (value_code p sc e) ≡ after_value q e

@@ -3,7 +3,8 @@ use Rattle.std.proofs.Common.{◌≡◌, ℕ, zero, suc, Bool, true, false, refl
 use Rattle.sp_base.specs.declared.fault.Fault.TheVariants as fault
 use Rattle.sp_code.specs.declared.code.Parts.{Parts}
 use Rattle.sp_code.specs.Machine.{Config, StepResult, Goes, Stops, Fails, Stuck, Ops, next_step}
-use Rattle.sp_code.specs.Turns.{Turn, Stopped, Faulted, Ran, Ended, Lacks, BeginsOrFaults, RunsIn, RunsTo, EndsSo, Runs}
+use Rattle.sp_code.specs.Turns.{Turn, Stopped, Faulted, TurnProgress, Ended, Lacks, BeginsOrFaults, RunsIn, RunsTo}
+use Rattle.sp_code.specs.Turns.{EndsSo, Runs}
 use Rattle.sp_code.specs.Turns.{frames_fit}
 use Rattle.sp_code.specs.Turns.{IsTurn, run_after_step, run_within, run_if_begun, turn_within}
 
@@ -43,7 +44,7 @@ module _ {M : Type 0} (ops : Ops M) (code : Parts) where
 
   -- what is computed
 
-  ended_is : (t u : Turn M) → ◌≡◌ {A = Ran M} (Ended t) (Ended u) → t ≡ u
+  ended_is : (t u : Turn M) → ◌≡◌ {A = TurnProgress M} (Ended t) (Ended u) → t ≡ u
   ended_is t u e = cc
 
   further : (c d e : Config M) → next_step ops code c ≡ Goes d → RunsTo ops code d e → RunsTo ops code c e

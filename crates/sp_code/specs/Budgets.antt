@@ -8,7 +8,7 @@ use Rattle.sp_code.specs.declared.instr.Instr.{Instr}
 use Rattle.sp_code.specs.declared.code.Layout.{Layout}
 use Rattle.sp_code.specs.Machine.{Entry, Number, Chan, Pointer, Cells, Link, Reply, Done, Ops, Config, At}
 use Rattle.sp_code.specs.Memory.{CodeRun, Memory}
-use Rattle.sp_code.specs.Turns.{Ran, Ended, Lacks, GoesOn}
+use Rattle.sp_code.specs.Turns.{TurnProgress, Ended, Lacks, GoesOn}
 use Rattle.sp_code.specs.Ranks.{rank}
 
 -- a memory has only so many ticks left: a tick and a call take one, and nothing gives one back
@@ -47,7 +47,7 @@ abbrev pub most_steps : {S : Type 0} → CodeRun → Config (Memory S) → ℕ
 most_steps g c = left_by g.code.instrs (ticks_left g) c
 
 -- it has come to an end
-abbrev pub IsOver : {M : Type 0} → Ran M → Type 0
+abbrev pub IsOver : {M : Type 0} → TurnProgress M → Type 0
 IsOver (Ended t) = Unit {0}
 IsOver (Lacks c) = Unit {0}
 IsOver (GoesOn c) = ⊥

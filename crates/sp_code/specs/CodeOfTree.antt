@@ -221,85 +221,87 @@ module _ (p : Program) (moves shares : Stmt → List ℕ) (Is : ℕ → Instr �
 
   abbrev mutual
     -- a statement that stands at q; free: no function is being called
-    pub StandsAt : (free : Bool) → List Scope → ℕ → Stmt → Type 0
-    StandsAt free sc q Empty = Unit {0}
-    StandsAt free sc q (Assign v (Typed k form)) = PlaceAt sc q v k × IsTarget v
+    pub StatementAt : (free : Bool) → List Scope → ℕ → Stmt → Type 0
+    StatementAt free sc q Empty = Unit {0}
+    StatementAt free sc q (Assign v (Typed k form)) = PlaceAt sc q v k × IsTarget v
         × RightAt sc (after_var q v) k (sort p k) form
-    StandsAt free sc q (Call f args) =
+    StatementAt free sc q (Call f args) =
         (b : Block) × ActualsAt sc q args b.formals × CallAt sc (after_actuals q args) f b × (b.answer ≡ None)
         × IsCallable callable free f
-    StandsAt free sc q (Sequence ss) = AllAt free sc q ss
-    StandsAt free sc q (If e a) =
+    StatementAt free sc q (Sequence ss) = AllAt free sc q ss
+    StatementAt free sc q (If e a) =
         let t = after_value q e in
-        OrdinalAt sc q e × Is t (i.Jumpf (after_statement p (t + 1) a)) × StandsAt free sc (t + 1) a
-    StandsAt free sc q (IfElse e a b) =
+        OrdinalAt sc q e × Is t (i.Jumpf (after_statement p (t + 1) a)) × StatementAt free sc (t + 1) a
+    StatementAt free sc q (IfElse e a b) =
         let t = after_value q e in
         let j = after_statement p (t + 1) a in
-        OrdinalAt sc q e × Is t (i.Jumpf (j + 1)) × StandsAt free sc (t + 1) a
+        OrdinalAt sc q e × Is t (i.Jumpf (j + 1)) × StatementAt free sc (t + 1) a
         × Is j (i.Jump (after_statement p (j + 1) b))
-        × StandsAt free sc (j + 1) b
-    StandsAt free sc q (While e s) =
+        × StatementAt free sc (j + 1) b
+    StatementAt free sc q (While e s) =
         let t = after_value q e in
         let j = after_statement p (t + 1 + 1) s in
-        OrdinalAt sc q e × Is t (i.Jumpf (j + 1)) × Is (t + 1) i.Tick × StandsAt free sc (t + 1 + 1) s × Is j (i.Jump q)
-    StandsAt free sc q (Repeat s e) =
+        OrdinalAt sc q e × Is t (i.Jumpf (j + 1)) × Is (t + 1) i.Tick × StatementAt free sc (t + 1 + 1) s
+        × Is j (i.Jump q)
+    StatementAt free sc q (Repeat s e) =
         let t = after_statement p (q + 1) s in
-        Is q i.Tick × StandsAt free sc (q + 1) s × OrdinalAt sc t e × Is (after_value t e) (i.Jumpf q)
-    StandsAt free sc q (For x from down to s) =
+        Is q i.Tick × StatementAt free sc (q + 1) s × OrdinalAt sc t e × Is (after_value t e) (i.Jumpf q)
+    StatementAt free sc q (For x from down to s) =
         let t = after_value (after_value q from) to in
         OrdinalAt sc q from × OrdinalAt sc (after_value q from) to
-        × TurnsAt sc t x down (after_statement p (t + 1 + 1) s) (StandsAt free sc (t + 1 + 1) s)
-    StandsAt free sc q (Case e arms) =
+        × TurnsAt sc t x down (after_statement p (t + 1 + 1) s) (StatementAt free sc (t + 1 + 1) s)
+    StatementAt free sc q (Case e arms) =
         let t = after_value q e in
         let b = after_tests t arms in
         OrdinalAt sc q e × TestsAt t arms (b + 1) × Is b i.Nocase
         × ArmsAt free sc (b + 1) arms (after_arms p (b + 1) arms)
-    StandsAt free sc q (Parallel ss) =
+    StatementAt free sc q (Parallel ss) =
         (t : ℕ) × HasTable t (record { children = children_tables p moves shares (q + 1 + 1) ss }) × Is q (i.Fork t)
         × Is (q + 1) (i.Jump (after_children p (q + 1 + 1) ss)) × ChildrenAt free sc (q + 1 + 1) ss × (free ≡ true)
-    StandsAt free sc q (Forall x from to s) =
+    StatementAt free sc q (Forall x from to s) =
         let b = after_value (after_value q from) to in
         (t : ℕ) × HasTable t (record { children = child_table p moves shares (b + 1 + 1) (Some x) s ∷ [] })
         × OrdinalAt sc q from × OrdinalAt sc (after_value q from) to × Is b (i.Forall t)
         × Is (b + 1) (i.Jump (after_statement p (b + 1 + 1) s + 1))
-        × StandsAt free (OfIndex x ∷ sc) (b + 1 + 1) s × Is (after_statement p (b + 1 + 1) s) i.End × (free ≡ true)
-    StandsAt free sc q (Assume e) = OrdinalAt sc q e × Is (after_value q e) i.Assume
-    StandsAt free sc q (ReadValue v) = (k : ℕ) × (t : KindOf) × PlaceAt sc q v k × IsTarget v × (kind_at p k ≡ Some t)
+        × StatementAt free (OfIndex x ∷ sc) (b + 1 + 1) s × Is (after_statement p (b + 1 + 1) s) i.End × (free ≡ true)
+    StatementAt free sc q (Assume e) = OrdinalAt sc q e × Is (after_value q e) i.Assume
+    StatementAt free sc q (ReadValue v) = (k : ℕ) × (t : KindOf) × PlaceAt sc q v k × IsTarget v
+        × (kind_at p k ≡ Some t)
         × ReadsAt (after_var q v) t
-    StandsAt free sc q ReadLine = Is q i.Readln
-    StandsAt free sc q (WriteValue e w) =
+    StatementAt free sc q ReadLine = Is q i.Readln
+    StatementAt free sc q (WriteValue e w) =
         (t : KindOf) × OrdinalAt sc q e × (kind_at p (kind_of e) ≡ Some t) × WidthAt sc (after_value q e) w
         × Is (after_width (after_value q e) w) (write_instr (Some t) (is_given w)) × IsWritten t
-    StandsAt free sc q (WriteText t w) = (n : ℕ) × HasText n t × WidthAt sc q w
+    StatementAt free sc q (WriteText t w) = (n : ℕ) × HasText n t × WidthAt sc q w
         × Is (after_width q w) (if is_given w then i.WritewText n else i.WriteText n)
-    StandsAt free sc q WriteLine = Is q i.Writeln
-    StandsAt free sc q (Open v) = (k : ℕ) × PlaceAt sc q v k × IsTarget v × (sort p k ≡ Channels)
+    StatementAt free sc q WriteLine = Is q i.Writeln
+    StatementAt free sc q (Open v) = (k : ℕ) × PlaceAt sc q v k × IsTarget v × (sort p k ≡ Channels)
         × Is (after_var q v) i.Open × (free ≡ true)
-    StandsAt free sc q (Send c e) =
+    StatementAt free sc q (Send c e) =
         ValueAt sc q c × (sort p (kind_of c) ≡ Channels) × ValueAt sc (after_value q c) e
         × Is (after_value (after_value q c) e) (i.Send (kind_of e)) × (free ≡ true)
-    StandsAt free sc q (Receive c v) =
+    StatementAt free sc q (Receive c v) =
         (k : ℕ) × ValueAt sc q c × (sort p (kind_of c) ≡ Channels) × PlaceAt sc (after_value q c) v k × IsTarget v
         × Is (after_var (after_value q c) v) (i.Receive k) × (free ≡ true)
 
     pub AllAt : Bool → List Scope → ℕ → Stmts → Type 0
     AllAt free sc q No = Unit {0}
-    AllAt free sc q (And s rest) = StandsAt free sc q s × AllAt free sc (after_statement p q s) rest
+    AllAt free sc q (And s rest) = StatementAt free sc q s × AllAt free sc (after_statement p q s) rest
 
     -- the children of a fork, each with what it is handed
     pub ChildrenAt : Bool → List Scope → ℕ → Stmts → Type 0
     ChildrenAt free sc q No = Unit {0}
     ChildrenAt free sc q (And s rest) =
-        StandsAt free sc q s × Is (after_statement p q s) i.End × ChildrenAt free sc (after_statement p q s + 1) rest
+        StatementAt free sc q s × Is (after_statement p q s) i.End × ChildrenAt free sc (after_statement p q s + 1) rest
 
     pub ArmsAt : Bool → List Scope → ℕ → Arms → (end : ℕ) → Type 0
     ArmsAt free sc q NoArm end = Unit {0}
-    ArmsAt free sc q (Or (On ms s) rest) end = StandsAt free sc q s × Is (after_statement p q s) (i.Jump end)
+    ArmsAt free sc q (Or (On ms s) rest) end = StatementAt free sc q s × Is (after_statement p q s) (i.Jump end)
         × ArmsAt free sc (after_statement p q s + 1) rest end
 
   -- the code of block f stands at q
   pub record BlockStands (f q : ℕ) (b : Block) : Type 0 where
-    pub body : (free : Bool) → IsCallable callable free f → StandsAt free (scopes_of p f) q b.body
+    pub body : (free : Bool) → IsCallable callable free f → StatementAt free (scopes_of p f) q b.body
     pub end : Is (after_statement p q b.body) (end_instr f)
     -- a function leads to no kernel statement, and its result is an ordinal of its own frame
     pub callable_function : (x : ℕ) → b.answer ≡ Some x → callable f
@@ -346,8 +348,9 @@ abbrev pub AnyText : ℕ → List ℕ → Type 0
 AnyText n text = Unit {0}
 
 -- a tree that keeps the rules, at its block f
-abbrev pub IsFine : (p : Program) (moves shares : Stmt → List ℕ) (callable : ℕ → Type 0) → (f q : ℕ) → Block → Type 0
-IsFine p moves shares callable f q b = BlockStands p moves shares AnyInstr AnyTable AnyText callable f q b
+abbrev pub IsSoundBlock : (p : Program) (moves shares : Stmt → List ℕ) (callable : ℕ → Type 0) → (f q : ℕ) → Block
+    → Type 0
+IsSoundBlock p moves shares callable f q b = BlockStands p moves shares AnyInstr AnyTable AnyText callable f q b
 
 -- these items stand in a list from place q on
 abbrev pub HasAt : {X : Type 0} → List X → ℕ → List X → Type 0

@@ -14,10 +14,10 @@ pub data Turn (M : Type 0) : Type 0 where
 
 -- what a process that is run for some instructions comes to: the end of its turn, an instruction that lacks what it
 -- needs, or neither yet
-pub data Ran (M : Type 0) : Type 0 where
-  Ended : (turn : Turn M) → Ran M
-  Lacks : (c : Config M) → Ran M
-  GoesOn : (c : Config M) → Ran M
+pub data TurnProgress (M : Type 0) : Type 0 where
+  Ended : (turn : Turn M) → TurnProgress M
+  Lacks : (c : Config M) → TurnProgress M
+  GoesOn : (c : Config M) → TurnProgress M
 
 -- the live frames of a process fit, as the test says; else F12 comes before its first instruction
 abbrev pub BeginsOrFaults : {M : Type 0} → Bool → Config M → Turn M → Type 0 → Type 0
@@ -57,22 +57,22 @@ module _ {M : Type 0} (ops : Ops M) (code : Parts) where
   IsSafe c = frames_fit c ≡ true → (d : Config M) → RunsTo c d → next_step ops code d ≡ Stuck → ⊥
 
   -- what the outcome of one instruction comes to, where go runs on
-  abbrev pub run_after_step : (Config M → Ran M) → Config M → StepResult M → Ran M
+  abbrev pub run_after_step : (Config M → TurnProgress M) → Config M → StepResult M → TurnProgress M
   run_after_step go c (Goes d) = go d
   run_after_step go c (Stops s d) = Ended (Stopped s d)
   run_after_step go c (Fails f) = Ended (Faulted f c)
   run_after_step go c Stuck = Lacks c
 
   -- the same, computed: no more than n instructions
-  abbrev pub run_within : ℕ → Config M → Ran M
+  abbrev pub run_within : ℕ → Config M → TurnProgress M
   run_within zero c = GoesOn c
   run_within (suc n) c = run_after_step (run_within n) c (next_step ops code c)
 
   -- n instructions, where it may begin
-  abbrev pub run_if_begun : ℕ → Bool → Config M → Ran M
+  abbrev pub run_if_begun : ℕ → Bool → Config M → TurnProgress M
   run_if_begun n true c = run_within n c
   run_if_begun n false c = Ended (Faulted fault.F12 c)
 
   -- the turn of c, if it has no more than n instructions
-  abbrev pub turn_within : ℕ → Config M → Ran M
+  abbrev pub turn_within : ℕ → Config M → TurnProgress M
   turn_within n c = run_if_begun n (frames_fit c) c

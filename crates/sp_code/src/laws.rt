@@ -17,7 +17,7 @@ ghost use Rattle.sp_code.specs.Budgets.{IsOver, most_steps};
 ghost use Rattle.sp_code.specs.Scopes.{Scope};
 ghost use Rattle.sp_code.specs.Lengths.{stmt_length, tree_length};
 ghost use Rattle.sp_code.specs.Emitted.{code, program_code};
-ghost use Rattle.sp_code.specs.CodeOfTree.{IsFine, BlocksAt};
+ghost use Rattle.sp_code.specs.CodeOfTree.{IsSoundBlock, BlocksAt};
 ghost use Rattle.sp_code.specs.NeverStops.{NeverStops};
 
 /// One instruction, and one turn, is a function of the process; and where a turn is computed to an end, that is its
@@ -66,7 +66,7 @@ pub fn code_has_its_length()
 /// should; and a call finds the layout that the block has in the tree.
 pub fn code_stands()
     ensures blocks { (p : Program) (moves shares : Stmt → List ℕ)
-        → ((f q : ℕ) (b : Block) → slice_get p.blocks f ≡ Some b → IsFine p moves shares (NeverStops p) f q b)
+        → ((f q : ℕ) (b : Block) → slice_get p.blocks f ≡ Some b → IsSoundBlock p moves shares (NeverStops p) f q b)
         → BlocksAt p moves shares (program_code p moves shares) (NeverStops p) }
     ensures layouts { (p : Program) (moves shares : Stmt → List ℕ) (f : ℕ) (l : Layout)
         → slice_get (program_code p moves shares).layouts f ≡ Some l

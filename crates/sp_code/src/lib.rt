@@ -21,8 +21,8 @@
 //! - `laws::systems_are_functions`: a turn makes at most one event, and there is at most one system along a journal.
 //! - `laws::code_has_its_length`: the code of a statement, and of a program, has exactly the number of instructions of
 //!   the table of lengths.
-//! - `laws::code_stands`: where each block keeps the rules of names, types and variables (`IsFine`), its code stands
-//!   in that of the program; and a call finds the layout that the block has in the tree.
+//! - `laws::code_stands`: where each block keeps the rules of names, types and variables (`IsSoundBlock`), its
+//!   code stands in that of the program; and a call finds the layout that the block has in the tree.
 //!
 //! To know:
 //! - What code does: `specs/Machine.antt` (one instruction, over any memory), `Turns.antt`, `Memory.antt` (frames and

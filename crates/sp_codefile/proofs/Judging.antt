@@ -1,14 +1,14 @@
 -- What the verifier knows of the rules before the one that it asks: each of them is kept.
 use Rattle.std.proofs.Common.{◌≡◌, subst, ℕ, ◌<◌, Some, arith}
 use Rattle.sp_code.specs.declared.code.Parts.{Parts}
-use Rattle.sp_rules.specs.Named.{BreaksV1}
-use Rattle.sp_rules.specs.Rules.{BreaksV2, BreaksV3, BreaksV4, BreaksV5}
-use Rattle.sp_rules.specs.Verdict.{Rule, V1, V2, V3, V4, V5, V6, V7, V8, V9, number, BreaksRuleAt, IsRejected}
-use Rattle.sp_areas.specs.LeastPlaces.{IsLeast}
-use Rattle.sp_shapes.specs.Shapes.{AreShapes, IsOutcome}
-use Rattle.sp_shapes.specs.declared.shapes.Outcome.{Outcome}
-use Rattle.sp_shapes.specs.declared.shapes.Outcome.TheVariants as outcome
-use Rattle.sp_shapes.specs.declared.shapes.Shapes.{Shapes}
+use Rattle.sp_verify_rules.specs.Named.{BreaksV1}
+use Rattle.sp_verify_rules.specs.Rules.{BreaksV2, BreaksV3, BreaksV4, BreaksV5}
+use Rattle.sp_verify_rules.specs.Verdict.{Rule, V1, V2, V3, V4, V5, V6, V7, V8, V9, number, BreaksRuleAt, IsRejected}
+use Rattle.sp_verify_areas.specs.LeastPlaces.{IsLeast}
+use Rattle.sp_verify_shapes.specs.Shapes.{AreShapes, IsOutcome}
+use Rattle.sp_verify_shapes.specs.declared.shapes.Outcome.{Outcome}
+use Rattle.sp_verify_shapes.specs.declared.shapes.Outcome.TheVariants as outcome
+use Rattle.sp_verify_shapes.specs.declared.shapes.Shapes.{Shapes}
 use Rattle.sp_codefile.specs.Verifying.{KeepsBefore}
 
 -- each rule before is kept

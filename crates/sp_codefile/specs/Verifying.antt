@@ -3,8 +3,8 @@
 -- other.
 use Rattle.std.specs.Prelude.{◌≡◌, ℕ, ◌<◌, Result, Ok, Err}
 use Rattle.sp_code.specs.declared.code.Parts.{Parts}
-use Rattle.sp_rules.specs.Verdict.{Rule, V1, V2, V3, V4, V5, V6, V7, V8, V9, number, BreaksRuleAt, IsVerified}
-use Rattle.sp_rules.specs.Verdict.{IsRejected}
+use Rattle.sp_verify_rules.specs.Verdict.{Rule, V1, V2, V3, V4, V5, V6, V7, V8, V9, number, BreaksRuleAt, IsVerified}
+use Rattle.sp_verify_rules.specs.Verdict.{IsRejected}
 use Rattle.sp_codefile.specs.declared.verifier.VRule.{VRule}
 use Rattle.sp_codefile.specs.declared.verifier.VRule.TheVariants as rule
 use Rattle.sp_codefile.specs.declared.verifier.Rejected.{Rejected}

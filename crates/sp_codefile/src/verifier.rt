@@ -1,42 +1,42 @@
-//! The verifier (`verify`): all rules in their order, by the passes of `sp_areas`, `sp_shapes` and `sp_effects`.
-//! `Verified` is code that breaks none.
+//! The verifier (`verify`): all rules in their order, by the passes of `sp_verify_areas`, `sp_verify_shapes` and
+//! `sp_verify_effects`. `Verified` is code that breaks none.
 
 ghost use Rattle.std.specs.Prelude.{◌≡◌, ◌+◌, IfOk, IfErr, OnOk};
 ghost use Rattle.sp_code.specs.Sound.{IsSound};
-ghost use Rattle.sp_rules.specs.Named.{Homeless};
-ghost use Rattle.sp_rules.specs.Verdict.{BreaksRuleAt, IsVerified, number};
-ghost use Rattle.sp_areas.specs.Blocks.{IsNumbered};
-ghost use Rattle.sp_areas.specs.Homes.{AreHomes};
-ghost use Rattle.sp_areas.specs.LeastPlaces.{IsLeast};
-ghost use Rattle.sp_areas.specs.Owners.{AreOwners};
-ghost use Rattle.sp_shapes.specs.Shapes.{AreShapes};
-ghost use Rattle.sp_effects.specs.Effects.{AreEffects};
-ghost use Rattle.sp_effects.specs.PassContexts.{IsPassContext};
+ghost use Rattle.sp_verify_rules.specs.Named.{OrphanBlock};
+ghost use Rattle.sp_verify_rules.specs.Verdict.{BreaksRuleAt, IsVerified, number};
+ghost use Rattle.sp_verify_areas.specs.Blocks.{IsNumbered};
+ghost use Rattle.sp_verify_areas.specs.Homes.{AreHomes};
+ghost use Rattle.sp_verify_areas.specs.LeastPlaces.{IsLeast};
+ghost use Rattle.sp_verify_areas.specs.Owners.{AreOwners};
+ghost use Rattle.sp_verify_shapes.specs.Shapes.{AreShapes};
+ghost use Rattle.sp_verify_effects.specs.Effects.{AreEffects};
+ghost use Rattle.sp_verify_effects.specs.PassContexts.{IsPassContext};
 ghost use Rattle.sp_codefile.specs.declared.verifier.Rejected.TheVariants.{Memory as OutOfMemory};
 ghost use Rattle.sp_codefile.specs.Verifying.{IsRefused, KeepsBefore, Verifies, rule_of};
 
 use crate::have;
-use sp_areas::around::homes;
-use sp_areas::blocks::Blocks;
-use sp_areas::homeless::first_homeless;
-use sp_areas::homes::Homes;
-use sp_areas::led::led;
-use sp_areas::owners::{Owner, owners};
-use sp_areas::rounds::first_round;
-use sp_areas::whole::first_v1;
 use sp_base::{List, Memory};
 use sp_code::Code;
-use sp_effects::clash::first_clash;
-use sp_effects::effects::{Effects, find_effects};
-use sp_effects::handed::first_ill_handed;
-use sp_effects::loud::first_loud;
-use sp_effects::pass_context::PassContext;
-use sp_rules::laws::verified_code_is_sound;
-use sp_shapes::calls::first_unfit;
-use sp_shapes::cells::first_passing;
-use sp_shapes::messages::first_length;
-use sp_shapes::repeats::repeats_of;
-use sp_shapes::shapes::{Outcome, Shapes, shapes_of};
+use sp_verify_areas::around::homes;
+use sp_verify_areas::blocks::Blocks;
+use sp_verify_areas::homes::Homes;
+use sp_verify_areas::led::led;
+use sp_verify_areas::orphan_block::first_orphan_block;
+use sp_verify_areas::owners::{Owner, owners};
+use sp_verify_areas::rounds::first_round;
+use sp_verify_areas::whole::first_v1;
+use sp_verify_effects::clash::first_clash;
+use sp_verify_effects::effects::{Effects, find_effects};
+use sp_verify_effects::handed::first_ill_handed;
+use sp_verify_effects::pass_context::PassContext;
+use sp_verify_effects::side_effects::first_side_effect;
+use sp_verify_rules::laws::verified_code_is_sound;
+use sp_verify_shapes::calls::first_unfit;
+use sp_verify_shapes::cells::first_passing;
+use sp_verify_shapes::messages::first_length;
+use sp_verify_shapes::repeats::repeats_of;
+use sp_verify_shapes::shapes::{Outcome, Shapes, shapes_of};
 use std::marker::Model;
 use thiserror::Error;
 
@@ -90,7 +90,7 @@ pub struct Verified {
 
 impl Model for Verified {
     ghost use Rattle.sp_code.specs.declared.code.Parts.{Parts};
-    ghost use Rattle.sp_rules.specs.Verdict.{IsVerified};
+    ghost use Rattle.sp_verify_rules.specs.Verdict.{IsVerified};
 
     ghost Value = { Parts };
 
@@ -186,7 +186,7 @@ fn keep_effects(g: &PassContext, effects: &Effects) -> Result<(), Rejected>
     keep(g.code, VRule::V6, handed)?;
     let clash = have!(first_clash(g, effects), Rejected::Memory);
     keep(g.code, VRule::V7, clash)?;
-    keep(g.code, VRule::V8, first_loud(g, effects))
+    keep(g.code, VRule::V8, first_side_effect(g, effects))
 }
 
 // Whether V3 to V8 are.
@@ -227,23 +227,23 @@ fn keep_between(
     })
 }
 
-// Whether all rules are, by what is around instructions, and by what `first_homeless` finds.
+// Whether all rules are, by what is around instructions, and by what `first_orphan_block` finds.
 fn keep_all(
     code: &Code,
     blocks: &Blocks,
     owners: &List<Owner>,
     homes: &Homes,
-    homeless: Option<u32>,
+    orphan_block: Option<u32>,
 ) -> Result<(), Rejected>
     requires blocks { IsNumbered blocks.now.first code.now.layouts }
     requires owners { AreOwners code.now owners.now }
     requires homes { AreHomes code.now homes.now }
-    requires homeless { IsLeast (Homeless code.now) homeless }
+    requires orphan_block { IsLeast (OrphanBlock code.now) orphan_block }
     ensures ok { OnOk result (IsVerified code.now) }
     ensures err { IfErr result (λ e. IsRefused code.now e) }
 {
     let first = have!(
-        first_v1(code, blocks, owners, homes, homeless),
+        first_v1(code, blocks, owners, homes, orphan_block),
         Rejected::Memory
     );
     keep(code, VRule::V1, first)?;
@@ -260,9 +260,9 @@ fn keep_owned(code: &Code, blocks: &Blocks, owners: &List<Owner>) -> Result<(), 
     ensures err { IfErr result (λ e. IsRefused code.now e) }
 {
     let led = have!(led(code, blocks), Rejected::Memory);
-    let homeless = have!(first_homeless(code, blocks, &led), Rejected::Memory);
+    let orphan_block = have!(first_orphan_block(code, blocks, &led), Rejected::Memory);
     let homes = have!(homes(code, blocks, owners, led), Rejected::Memory);
-    keep_all(code, blocks, owners, &homes, homeless)
+    keep_all(code, blocks, owners, &homes, orphan_block)
 }
 
 // The same, by the blocks.

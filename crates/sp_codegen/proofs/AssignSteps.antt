@@ -24,7 +24,7 @@ use Rattle.sp_code.specs.Places.{after_form, after_var, after_right}
 use Rattle.sp_code.specs.CodeOfTree.{CodeAt, HasFork, HasWords, RightAt}
 use Rattle.sp_codegen.specs.FramePairs.{FramePair}
 use Rattle.sp_codegen.specs.Executions.{Execution}
-use Rattle.sp_codegen.specs.Relation.{Stood, OneCell, cell_of}
+use Rattle.sp_codegen.specs.Relation.{StackHolds, OneCell, cell_of}
 use Rattle.sp_codegen.proofs.Runs.{HasKnownValue, stays, goes, known_bind, holds_when}
 use Rattle.sp_codegen.proofs.Values.{form_gives, place_gives}
 use Rattle.sp_codegen.proofs.Follows.{makes_bind, makes_known, makes_went}
@@ -50,7 +50,7 @@ module _ {M : Type 0} (ex : Execution M) where
 
   -- one cell is assigned
   store_one : (q : ℕ) (z : Sort) (k : ℕ) (v : Value) (e : Entry) (a : Ptr) (stack : List Entry) (n : M)
-      → Stood rel p z k v e → OneCell z → ops.has a 1 n ≡ true → slice_get code.instrs q ≡ Some i.Store
+      → StackHolds rel p z k v e → OneCell z → ops.has a 1 n ≡ true → slice_get code.instrs q ≡ Some i.Store
       → next_step ops code (m.At q (e ∷ m.Pointer a ∷ stack) n) ≡ Goes (m.At (q + 1) stack (ops.put a (cell_of e) n))
   store_one q Ordinals k v e a stack n (_, _, entry_is) y ha h =
       subst (λ u. next_step ops code (m.At q (u ∷ m.Pointer a ∷ stack) n)
@@ -65,8 +65,8 @@ module _ {M : Type 0} (ex : Execution M) where
 
   pub assign_gives : {fs : List FramePair} {c : Config M} {o : LocalState} {s : Store} {n : M} (q : ℕ) (a : Address)
       (t : Ptr)
-      (v : Value) (e : Entry) (stack : List Entry) → rel.Stand fs o s n → rel.Points fs a t → R a.spot
-      → OneCell (sort p a.kind) → Stood rel p (sort p a.kind) a.kind v e
+      (v : Value) (e : Entry) (stack : List Entry) → rel.Agrees fs o s n → rel.Points fs a t → R a.spot
+      → OneCell (sort p a.kind) → StackHolds rel p (sort p a.kind) a.kind v e
       → next_step ops code c ≡ Goes (m.At q stack (ops.put t (cell_of e) n))
       → G ex fs c o s q (λ (u : Unit {0}) (z : Unit {0}). stack) (λ u z. Unit {0}) (assign a v)
   assign_gives {n = n} q a t v e stack st pt r oc sd ge =
@@ -89,7 +89,7 @@ module _ {M : Type 0} (ex : Execution M) where
   pub assign_makes : (call : Calls) → Oks ex call
       → (end : ℕ) (base : List Entry) (below : List FramePair) (z : Sort) (k : ℕ)
       (form : ExprForm) (sc : List Scope) (q : ℕ) (stack : List Entry) (todo : List Item) (a : Address) (u : Ptr)
-      (fs : List FramePair) (o : LocalState) (s : Store) (n : M) → rel.Stand fs o s n → Pl ex sc fs (In_form form)
+      (fs : List FramePair) (o : LocalState) (s : Store) (n : M) → rel.Agrees fs o s n → Pl ex sc fs (In_form form)
       → sort p k ≡ z
       → a.kind ≡ k → rel.Points fs a u → R a.spot
       → RightAt p moves shares (CodeAt code) (HasFork code) (HasWords code) callable sc q k z form
@@ -99,15 +99,15 @@ module _ {M : Type 0} (ex : Execution M) where
   assign_makes call ok end base below Ordinals k form sc q stack todo a u fs o s n t pl ez ek pt ra h fo =
       makes_bind ex _ (form_gives ex call ok k form sc q (m.Pointer u ∷ stack) fs o s n t pl h.0) (λ v e o1 s1 n1 t1 x.
       makes_bind ex _ (assign_gives (after_form q form + 1) a u v e stack t1 pt ra
-      (subst OneCell (sym (ap (sort p) ek ∙ ez)) tt) (subst (λ y. Stood rel p (sort p y) y v e) (sym ek) x)
-      (store_one (after_form q form) Ordinals k v e u stack n1 (subst (λ y. Stood rel p y k v e) ez x) tt
+      (subst OneCell (sym (ap (sort p) ek ∙ ez)) tt) (subst (λ y. StackHolds rel p (sort p y) y v e) (sym ek) x)
+      (store_one (after_form q form) Ordinals k v e u stack n1 (subst (λ y. StackHolds rel p y k v e) ez x) tt
       (law.has_one t1 a u pt ra) h.1)) (λ x1 x2 o2 s2 n2 t2 x3.
       makes_went ex todo fs (after_form q form + 1) stack n2 (stays ops rel w code _) t2 fo))
   assign_makes call ok end base below Channels k form sc q stack todo a u fs o s n t pl ez ek pt ra h fo =
       makes_bind ex _ (form_gives ex call ok k form sc q (m.Pointer u ∷ stack) fs o s n t pl h.0) (λ v e o1 s1 n1 t1 x.
       makes_bind ex _ (assign_gives (after_form q form + 1) a u v e stack t1 pt ra
-      (subst OneCell (sym (ap (sort p) ek ∙ ez)) tt) (subst (λ y. Stood rel p (sort p y) y v e) (sym ek) x)
-      (store_one (after_form q form) Channels k v e u stack n1 (subst (λ y. Stood rel p y k v e) ez x) tt
+      (subst OneCell (sym (ap (sort p) ek ∙ ez)) tt) (subst (λ y. StackHolds rel p (sort p y) y v e) (sym ek) x)
+      (store_one (after_form q form) Channels k v e u stack n1 (subst (λ y. StackHolds rel p y k v e) ez x) tt
       (law.has_one t1 a u pt ra) h.1)) (λ x1 x2 o2 s2 n2 t2 x3.
       makes_went ex todo fs (after_form q form + 1) stack n2 (stays ops rel w code _) t2 fo))
   assign_makes call ok end base below Many k (Read (Entire y ss)) sc q stack todo a u fs o s n t pl ez ek pt ra h fo =
@@ -119,7 +119,7 @@ module _ {M : Type 0} (ex : Execution M) where
       v : Var
       v = Entire y ss
 
-      by_place : (pl : Place) (b : Ptr) (o1 : LocalState) (s1 : Store) (n1 : M) → rel.Stand fs o1 s1 n1
+      by_place : (pl : Place) (b : Ptr) (o1 : LocalState) (s1 : Store) (n1 : M) → rel.Agrees fs o1 s1 n1
           → PlaceIs ex fs y k pl b → K ex (m.At (after_var q v) (m.Pointer b ∷ m.Pointer u ∷ stack) n1) o1 s1
           (After ex end base below) (bind (read_at g pl) (λ v. bind (assign a v) (λ x. give (Stepped todo))))
       by_place (Fixed z) b o1 s1 n1 t1 x = absurd (subst IsMany (sym ez ∙ x.0) tt)
@@ -142,7 +142,7 @@ module _ {M : Type 0} (ex : Execution M) where
               fs,
               goes ops rel w code (at_one ex (after_var q v) _ n1 h.1
                   ∙ holds_when (ops.has b (size p k) n1 && ops.has u (size p k) n1) _ (and_from _ _ has_from has_to)),
-              subst (λ y. rel.Stand fs o1 (at_key same_loc a.spot
+              subst (λ y. rel.Agrees fs o1 (at_key same_loc a.spot
                   (content_with a (s1 a.spot) (Tree (get_at c.path (value_in (s1 c.spot))))) s1)
                   (ops.copy u b (size p y) n1)) ek (law.copy t1 a c u b pt x.1 ra x.2 (ek ∙ sym x.0)),
               fo,

@@ -29,7 +29,7 @@ use Rattle.sp_code.specs.PlainStore.{plain}
 use Rattle.sp_code.specs.NeverStops.{NeverStops}
 use Rattle.sp_code.specs.Scopes.{Scope, OfIndex, scopes_of}
 use Rattle.sp_code.specs.Shares.{SetsAre}
-use Rattle.sp_code.specs.CodeOfTree.{BlockAt, BlocksAt, StandsAt, CodeAt as Instr_at, HasFork, HasWords}
+use Rattle.sp_code.specs.CodeOfTree.{BlockAt, BlocksAt, StatementAt, CodeAt as Instr_at, HasFork, HasWords}
 use Rattle.sp_code.specs.System.{child_process, handing_of}
 use Rattle.sp_code.proofs.Blocks.{blocks_stand, layout_found}
 use Rattle.sp_codegen.specs.Following.{CodeFollows}
@@ -42,7 +42,7 @@ use Rattle.sp_codegen.specs.ProcessInfos.{IsAway}
 use Rattle.sp_codegen.specs.TurnAgrees.{code_run}
 use Rattle.sp_codegen.specs.Parents.{ChildIs, JoiningStands, GivesBack}
 use Rattle.sp_codegen.specs.Relation.{Placed}
-use Rattle.sp_codegen.specs.Standing.{Stand}
+use Rattle.sp_codegen.specs.Standing.{Agrees}
 use Rattle.sp_codegen.proofs.Begins.{child_begins, index_child_begins, memory_in}
 use Rattle.sp_codegen.proofs.Birth.{low_small}
 use Rattle.sp_codegen.proofs.Born.{child_follows}
@@ -220,7 +220,7 @@ module _ (g : RunInput) (moves shares : Stmt → List ℕ) (pause : ℕ) (tree :
     pub index_child_begins_so : (x : ℕ) (pairs_from to : Expr) (st : Stmt) (entry k : ℕ)
         → (pl : IsPlaced g moves shares pause life sc js (In_stmt (Forall x pairs_from to st)))
         → ((u : Use) → In_stmt st u → IsFormedUse g.program u)
-        → StandsAt g.program moves shares (Instr_at code) (HasFork code) (HasWords code) (NeverStops g.program) true
+        → StatementAt g.program moves shares (Instr_at code) (HasFork code) (HasWords code) (NeverStops g.program) true
         (OfIndex x ∷ sc) entry st → slice_get code.instrs (after_statement g.program entry st) ≡ Some i.End
         → HasHanded n (handing_of code.layouts n.frames value k (child_table g.program moves shares entry (Some x) st))
         → (j : FramePair) × (j.source ≡ record {
@@ -362,15 +362,15 @@ module _ (g : RunInput) (moves shares : Stmt → List ℕ) (pause : ℕ) (tree :
         (λ h. Indexes g moves shares pause child h) child.low child.base child.born child.since pause child.moved
         stands gb.live gb.no_index gb.input gb.output gb.kept gb.old)
       where
-        stands : Stand g (program_code g.program moves shares) child.who (λ c j. slice_get life.channels j ≡ Some c)
+        stands : Agrees g (program_code g.program moves shares) child.who (λ c j. slice_get life.channels j ≡ Some c)
             (λ q k. slice_get life.processes k ≡ Some q) (λ l. IsWritableLoc g moves shares pause child l)
             (λ l. IsReadable g moves shares pause child l) (λ h. Indexes g moves shares pause child h) child.low
             child.base child.born child.since pause child.moved ks oc s nc
-        stands = subst (λ cs. Stand g (program_code g.program moves shares) child.who (λ c j. slice_get cs j ≡ Some c)
+        stands = subst (λ cs. Agrees g (program_code g.program moves shares) child.who (λ c j. slice_get cs j ≡ Some c)
             (λ q k. slice_get life.processes k ≡ Some q) (λ l. IsWritableLoc g moves shares pause child l)
             (λ l. IsReadable g moves shares pause child l) (λ h. Indexes g moves shares pause child h) child.low
             child.base child.born child.since pause child.moved ks oc s nc) ec
-            (subst (λ ps. Stand g (program_code g.program moves shares) child.who
+            (subst (λ ps. Agrees g (program_code g.program moves shares) child.who
             (λ c j. slice_get child.channels j ≡ Some c) (λ q k. slice_get ps k ≡ Some q)
             (λ l. IsWritableLoc g moves shares pause child l) (λ l. IsReadable g moves shares pause child l)
             (λ h. Indexes g moves shares pause child h) child.low child.base child.born child.since pause

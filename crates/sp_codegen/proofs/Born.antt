@@ -29,7 +29,7 @@ use Rattle.sp_code.specs.Places.{after_statement}
 use Rattle.sp_code.specs.Scopes.{Scope, level, one_more, is_index, as_list, is_local, frame_of}
 use Rattle.sp_code.specs.Scopes as s
 use Rattle.sp_code.specs.Emitted.{children_tables}
-use Rattle.sp_code.specs.CodeOfTree.{CodeAt, HasFork, HasWords, StandsAt}
+use Rattle.sp_code.specs.CodeOfTree.{CodeAt, HasFork, HasWords, StatementAt}
 use Rattle.sp_codegen.specs.FramePairs.{FramePair, sources, machines, pairs_from, up_at, HomeIs, Chain}
 use Rattle.sp_tree.specs.Formed.{IsFormed, IsFormedUse, is_parameter, is_answer, numbers_with_role}
 use Rattle.sp_tree.proofs.Members.{member_either}
@@ -147,7 +147,7 @@ module _ {M : Type 0} (ex : Execution M) where
   -- a child's code is that of its statement, and then comes its end
   pub child_follows : (st : Stmt) (sc : List Scope) (entry : ℕ) (moved shared : List ℕ) (index : Option ℕ)
       (js : List FramePair) → Placed g W R J sc js (In_stmt st)
-      → StandsAt g.program moves shares (CodeAt code) (HasFork code) (HasWords code) callable true sc entry st
+      → StatementAt g.program moves shares (CodeAt code) (HasFork code) (HasWords code) callable true sc entry st
       → CodeFollows ex (after_statement g.program entry st) [] js entry [] js (push st [])
   child_follows st sc entry moved shared index js pl h =
       push_follows ex st (after_statement g.program entry st) [] js sc entry [] js [] pl h (slides ex _ _, refl, refl)

@@ -135,7 +135,7 @@ module _ {M : Type 0} (ex : Execution M) where
       )
 
   pub call_finds : {fs : List FramePair} {o : LocalState} {s : Store} {n : M} (f : ℕ) (args : Actuals) (b : Block)
-      (sc : List Scope) (q : ℕ) (stack : List Entry) (gs : List ArgumentValue) (es : List Entry) → rel.Stand fs o s n
+      (sc : List Scope) (q : ℕ) (stack : List Entry) (gs : List ArgumentValue) (es : List Entry) → rel.Agrees fs o s n
       → Pl ex sc fs (In_call f args)
       → CallAt p moves shares (CodeAt code) (HasFork code) (HasWords code) callable sc q f b
       → (z : BlockIs f b) → GivensAre rel p fs b.formals gs es → Gave p (sources fs) args gs
@@ -215,7 +215,7 @@ module _ {M : Type 0} (ex : Execution M) where
   -- a procedure's call
   pub call_makes : Blocks → (end : ℕ) (base : List Entry) (below : List FramePair) (f : ℕ) (args : Actuals) (b : Block)
       (sc : List Scope) (q : ℕ) (stack : List Entry) (gs : List ArgumentValue) (es : List Entry) (todo : List Item)
-      (fs : List FramePair) (o : LocalState) (s : Store) (n : M) → rel.Stand fs o s n → Pl ex sc fs (In_call f args)
+      (fs : List FramePair) (o : LocalState) (s : Store) (n : M) → rel.Agrees fs o s n → Pl ex sc fs (In_call f args)
       → CallAt p moves shares (CodeAt code) (HasFork code) (HasWords code) callable sc q f b → b.answer ≡ None
       → IsCallable callable (is_in_no_function stack) f → GivensAre rel p fs b.formals gs es
       → Gave p (sources fs) args gs

@@ -20,7 +20,7 @@ use Rattle.sp_code.specs.PlainStore.{plain}
 use Rattle.sp_code.specs.Places.{after_statement}
 use Rattle.sp_code.specs.Scopes.{scopes_of}
 use Rattle.sp_code.specs.Emitted.{program_code}
-use Rattle.sp_code.specs.CodeOfTree.{BlockAt, BlocksAt, IsFine}
+use Rattle.sp_code.specs.CodeOfTree.{BlockAt, BlocksAt, IsSoundBlock}
 use Rattle.sp_code.specs.NeverStops.{NeverStops}
 use Rattle.sp_code.proofs.Blocks.{blocks_stand, layout_found}
 use Rattle.sp_tree.specs.Formed.{IsFormed}
@@ -192,7 +192,7 @@ module _ (g : RunInput) (code : Code) (formed : IsFormed g.program) (types : Has
 pub first_turn_of_tree : (g : RunInput) (moves shares : Stmt → List ℕ) (pause k : ℕ) (b : Block) → IsFormed g.program
     → HasSmallTypes g.program → IsFreeOfInterference g.program
     → ((f q : ℕ) (b : Block) → slice_get g.program.blocks f ≡ Some b
-    → IsFine g.program moves shares (NeverStops g.program) f q b)
+    → IsSoundBlock g.program moves shares (NeverStops g.program) f q b)
     → slice_get g.program.blocks 0 ≡ Some b → g.limits.depth ≤ 4294967295 → size_of_frame g 0 ≤ g.limits.cells
     → EndsAlike (code_run g (program_code g.program moves shares) pause)
     (first_process plain (code_run g (program_code g.program moves shares) pause))

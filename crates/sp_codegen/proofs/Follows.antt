@@ -6,7 +6,7 @@ use Rattle.sp_tree.specs.Plain.{Program, Stmt, Empty, Assign, Call, Sequence, If
 use Rattle.sp_tree.specs.Plain.{Parallel, Forall, Assume, ReadValue, ReadLine, WriteValue, WriteText, WriteLine, Open}
 use Rattle.sp_tree.specs.Plain.{Send, Receive, Stmts, No, And, Typed}
 use Rattle.sp_tree.specs.Uses.{Use, In_stmt, In_stmts}
-use Rattle.sp_meaning.specs.Model.{Channel, Cargo}
+use Rattle.sp_meaning.specs.Model.{Channel, Payload}
 use Rattle.sp_meaning.specs.LocalWork.{LocationContent, Address, LocalState, Item, Do, First, Again, Test, Leave, Break}
 use Rattle.sp_meaning.specs.LocalWork.{WorkOutcome, Computed, EndsInFault, IllFormed}
 use Rattle.sp_meaning.specs.LocalWork.{OutOfFuel, Work, bind, give, fail, tick}
@@ -20,7 +20,7 @@ use Rattle.sp_code.specs.Machine.{instruction}
 use Rattle.sp_code.specs.Turns.{RunsTo}
 use Rattle.sp_code.specs.Scopes.{Scope}
 use Rattle.sp_code.specs.Places.{after_statement, after_all}
-use Rattle.sp_code.specs.CodeOfTree.{CodeAt, HasFork, HasWords, StandsAt, AllAt}
+use Rattle.sp_code.specs.CodeOfTree.{CodeAt, HasFork, HasWords, StatementAt, AllAt}
 use Rattle.sp_codegen.specs.FramePairs.{FramePair}
 use Rattle.sp_codegen.specs.Executions.{Execution}
 use Rattle.sp_codegen.specs.Following as following
@@ -88,7 +88,8 @@ module _ {M : Type 0} (ex : Execution M) where
   mutual
     pub push_follows : (s : Stmt) (end : ℕ) (base : List Entry) (below : List FramePair) (sc : List Scope) (q : ℕ)
         (stack : List Entry) (fs : List FramePair) (todo : List Item) → Pl sc fs (In_stmt s)
-        → StandsAt p moves shares (CodeAt code) (HasFork code) (HasWords code) callable (is_in_no_function stack) sc q s
+        → StatementAt p moves shares (CodeAt code) (HasFork code) (HasWords code) callable
+        (is_in_no_function stack) sc q s
         → CodeFollows end base below (after_statement p q s) stack fs todo
         → CodeFollows end base below q stack fs (push s todo)
     push_follows Empty end base below sc q stack fs todo ch h k = k
@@ -144,8 +145,8 @@ module _ {M : Type 0} (ex : Execution M) where
       ∙ outside_follows end base below back under outer todo rest
   outside_follows end base below pc stack fs (Break f ∷ todo) h = absurd h
 
-  abbrev pub CargoIs : List FramePair → Channel → ℕ → Cargo LocationContent Address → Stop → Type 0
-  CargoIs fs c k x z = following.CargoIs ex fs c k x z
+  abbrev pub PayloadIs : List FramePair → Channel → ℕ → Payload LocationContent Address → Stop → Type 0
+  PayloadIs fs c k x z = following.PayloadIs ex fs c k x z
 
   abbrev pub ForkIs : Bool → List FramePair → List Birth → Stop → Type 0
   ForkIs free fs bs z = following.ForkIs ex free fs bs z
@@ -229,12 +230,12 @@ module _ {M : Type 0} (ex : Execution M) where
     comes,
     stops,
     stands,
-    cargo,
+    payload,
     rest,
     outside,
     owned,
   ) =
-      (to, st, n1, frames, before, stop, comes_on ops rel w code h comes, stops, stands, cargo, rest, outside, owned)
+      (to, st, n1, frames, before, stop, comes_on ops rel w code h comes, stops, stands, payload, rest, outside, owned)
   made_after c d Q (Computed Ended o, s) h (to, st, n1, frames, comes, stops, stands, rest, outside) =
       (to, st, n1, frames, comes_on ops rel w code h comes, stops, stands, rest, outside)
   made_after c d Q (EndsInFault f, s) h k = breaks_after ops rel w code h k
@@ -251,7 +252,7 @@ module _ {M : Type 0} (ex : Execution M) where
       {h : Work A}
       (gg : A → Work Action)
       → Realizes ops rel w code fs c o s pc st F h
-      → ((a : A) (e : E) (o1 : LocalState) (s1 : Store) (n1 : M) → rel.Stand fs o1 s1 n1 → F a e
+      → ((a : A) (e : E) (o1 : LocalState) (s1 : Store) (n1 : M) → rel.Agrees fs o1 s1 n1 → F a e
       → Makes (At pc (st a e) n1) o1 s1 Q (gg a)) → Makes c o s Q (bind h gg)
   makes_bind {A} {E} {fs} {c} {o} {s} {pc} {st} {F} {Q} {h} gg k next =
       record { proof = subst (Made c Q) (sym (run_bind h gg w o s)) (go (run h w o s) k.proof) }
@@ -277,7 +278,7 @@ module _ {M : Type 0} (ex : Execution M) where
   pub makes_went : {c : Config M} {o : LocalState} {s : Store} {Q : List Item → List FramePair → ℕ → List Entry
       → Type 0}
       (todo : List Item) (fs : List FramePair) (pc : ℕ) (st : List Entry) (n : M) → RunsTo ops code c (At pc st n)
-      → rel.Stand fs o s n → Q todo fs pc st → Makes c o s Q (give (Stepped todo))
+      → rel.Agrees fs o s n → Q todo fs pc st → Makes c o s Q (give (Stepped todo))
   makes_went todo fs pc st n e t q = record { proof = (pc, st, n, fs, e, t, q) }
 
   pub makes_fail : {c : Config M} {o : LocalState} {s : Store} {Q : List Item → List FramePair → ℕ → List Entry

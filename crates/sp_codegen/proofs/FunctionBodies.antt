@@ -38,7 +38,7 @@ use Rattle.sp_codegen.specs.FramePairs.{FramePair, sources, Chain}
 use Rattle.sp_codegen.specs.Shapes.{CellIs}
 use Rattle.sp_codegen.specs.Executions.{Execution}
 use Rattle.sp_codegen.specs.Following.{StandsFor}
-use Rattle.sp_codegen.specs.Relation.{Stood, OneCell, CallMatches, GivensAre, frame_for}
+use Rattle.sp_codegen.specs.Relation.{StackHolds, OneCell, CallMatches, GivensAre, frame_for}
 use Rattle.sp_codegen.proofs.Runs.{HasKnownValue, RealizesResult, ends_after, goes, comes_on, breaks, gives_after}
 use Rattle.sp_codegen.proofs.Runs.{gives_bind}
 use Rattle.sp_codegen.proofs.Runs.{gives_known, known_bind, gives_give, gives_by, holds_when, run_assoc}
@@ -81,7 +81,7 @@ module _ {M : Type 0} (ex : Execution M) where
   pub record AllMeets (go : List Item → Work (List Item)) : Type 0 where
     pub proof : (end : ℕ) (base : List Entry) (below : List FramePair) → is_in_no_function base ≡ false
         → (todo : List Item) (pc : ℕ) (stack : List Entry) (fs : List FramePair) (o : LocalState) (s : Store) (n : M)
-        → rel.Stand fs o s n → F ex end base below pc stack fs todo
+        → rel.Agrees fs o s n → F ex end base below pc stack fs todo
         → G ex below (m.At pc stack n) o s end (BaseTop base) No_more (go todo)
 
   -- inside a function no step pauses and none is a kernel step
@@ -135,12 +135,12 @@ module _ {M : Type 0} (ex : Execution M) where
       }
 
   abbrev StK : ℕ → Value → Entry → Type 0
-  StK k v e = Stood rel p (sort p k) k v e
+  StK k v e = StackHolds rel p (sort p k) k v e
 
   -- a function's return
   answer_gives : (r k : ℕ) (stack : List Entry) (fs : List FramePair) (fr : FramePair) (c : Config M) (o : LocalState)
       (s : Store)
-      (n : M) → StandsFor rel c s → rel.Stand fs (without_frame g o.frames o) s (ops.close_frame n)
+      (n : M) → StandsFor rel c s → rel.Agrees fs (without_frame g o.frames o) s (ops.close_frame n)
       → sort p k ≡ Ordinals → (v : Value) (u : Cell) → CellIs rel.Named v u
       → next_step ops code c ≡ ordinal_in u (λ a. Goes (m.At r (m.Number a ∷ stack) (ops.close_frame n)))
       → G ex fs c o s r (Top ex stack) (StK k) (bind (ordinal_read v) (λ y. bind (leave g) (λ z. give y)))
@@ -162,18 +162,18 @@ module _ {M : Type 0} (ex : Execution M) where
           ops.close_frame n,
           goes ops rel w code ge,
           t,
-          subst (λ z. Stood rel p z k (Ordinal a) (m.Number b)) (sym e) (a, refl, ap m.Number (sym oi)),
+          subst (λ z. StackHolds rel p z k (Ordinal a) (m.Number b)) (sym e) (a, refl, ap m.Number (sym oi)),
         );
       }
 
   rest_gives : Blocks ex → (go : List Item → Work (List Item)) → AllMeets go → Oks ex (call_by g go)
       → (end : ℕ) (base : List Entry) (below : List FramePair) → is_in_no_function base ≡ false
       → (todo : List Item) (pc : ℕ) (stack : List Entry) (fs : List FramePair) (o : LocalState) (s : Store) (n : M)
-      → rel.Stand fs o s n → F ex end base below pc stack fs todo → LoopMayGoOn ex fs o s n todo
+      → rel.Agrees fs o s n → F ex end base below pc stack fs todo → LoopMayGoOn ex fs o s n todo
       → G ex below (m.At pc stack n) o s end (BaseTop base) No_more (rest_by g go todo)
   rest_gives bl go ih ok end base below ob [] pc stack fs o s n t h r =
       gives_give ops rel w code [] tt (subst (λ y. C ex (m.At pc stack n) (m.At end y n)) h.1 (h.0.proof n))
-      (subst (λ y. rel.Stand y o s n) h.2 t) tt
+      (subst (λ y. rel.Agrees y o s n) h.2 t) tt
   rest_gives bl go ih ok end base below ob (item ∷ todo) pc stack fs o s n t h r =
       inside_gives end base below ob go ih (m.At pc stack n) o s (item_action g (call_by g go) item todo)
       (act_makes ex (call_by g go) ok bl end base below item pc stack todo fs o s n t h r)
@@ -198,7 +198,7 @@ module _ {M : Type 0} (ex : Execution M) where
   -- the answer's place, in the newest frame
   answer_place : {fr : FramePair} {fs : List FramePair} {o : LocalState} {s : Store} {n : M} (f x : ℕ) (sc : List Scope)
       (v : Variable)
-      → rel.Stand (fr ∷ fs) o s n → Chain (places.OfBlock f ∷ sc) (fr ∷ fs) → slice_get p.variables x ≡ Some v
+      → rel.Agrees (fr ∷ fs) o s n → Chain (places.OfBlock f ∷ sc) (fr ∷ fs) → slice_get p.variables x ≡ Some v
       → v.role ≡ role.Answer → v.block ≡ f
       → HasKnownValue ops rel w code o s (place_of g x) (AtAddress (in_frame g x v fr.source))
   answer_place {fr} {fs} {o} {s} {n} f x sc v t ch ev er eb =
@@ -223,7 +223,8 @@ module _ {M : Type 0} (ex : Execution M) where
   }
     where
       function_gives : (f : ℕ) (args : Actuals) (b : Block) (sc : List Scope) (q k : ℕ) (stack : List Entry)
-          (fs : List FramePair) (o : LocalState) (s : Store) (n : M) → rel.Stand fs o s n → Pl ex sc fs (In_call f args)
+          (fs : List FramePair) (o : LocalState) (s : Store) (n : M) → rel.Agrees fs o s n
+          → Pl ex sc fs (In_call f args)
           → CallAt p moves shares (CodeAt code) (HasFork code) (HasWords code) callable sc q f b
           → ((x : ℕ) × (b.answer ≡ Some x)) → sort p k ≡ Ordinals
           → (gs : List ArgumentValue) (es : List Entry) → GivensAre rel p fs b.formals gs es
@@ -262,7 +263,7 @@ module _ {M : Type 0} (ex : Execution M) where
           ends = z.stands.end ∙ ap Some (return_at ex f r.parent.0 b ca.1 r.parent.1)
 
           at_answer : (fr : FramePair) (v : Variable) (a1 : Ptr) → sort p v.kind ≡ Ordinals
-              → (o2 : LocalState) (s2 : Store) (n2 : M) → rel.Stand (fr ∷ fs) o2 s2 n2 → rel.Mine fr fs
+              → (o2 : LocalState) (s2 : Store) (n2 : M) → rel.Agrees (fr ∷ fs) o2 s2 n2 → rel.Mine fr fs
               → fr.source.owner ≡ w.name → ops.answer n2 ≡ Some a1
               → rel.Points (fr ∷ fs) (in_frame g ans.0 v fr.source) a1
               → G ex fs (m.At end st n2) o2 s2 (q + 1) (Top ex stack) (StK k)
@@ -291,7 +292,7 @@ module _ {M : Type 0} (ex : Execution M) where
 
           inner : (fr : FramePair) (o1 : LocalState) (s1 : Store) (n1 : M)
               → fr.source ≡ frame_for rel w f b fs r.around gs
-              → rel.Stand (fr ∷ fs) o1 s1 n1 → rel.Mine fr fs
+              → rel.Agrees (fr ∷ fs) o1 s1 n1 → rel.Mine fr fs
               → G ex fs (m.At l.entry st n1) o1 s1 (q + 1) (Top ex stack) (StK k) (body b)
           inner fr o1 s1 n1 ej t1 mi =
               let pl1 = r.placed fr ej in

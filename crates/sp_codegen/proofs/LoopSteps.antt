@@ -23,7 +23,7 @@ use Rattle.sp_code.specs.Places.{after_statement}
 use Rattle.sp_code.specs.CodeOfTree.{CodeAt, HasFork, HasWords, ForVar, TurnsAt}
 use Rattle.sp_codegen.specs.FramePairs.{FramePair, sources}
 use Rattle.sp_codegen.specs.Executions.{Execution}
-use Rattle.sp_codegen.specs.Relation.{Stood, OneCell, Owns}
+use Rattle.sp_codegen.specs.Relation.{StackHolds, OneCell, Owns}
 use Rattle.sp_codegen.proofs.Runs.{HasKnownValue, stays, goes, known_bind, holds_when}
 use Rattle.sp_codegen.proofs.Chains.{block_agrees, found, seek_all, find_in}
 use Rattle.sp_codegen.proofs.Follows.{slides, push_follows, makes_bind, makes_known, makes_went, makes_tick}
@@ -61,7 +61,7 @@ module _ {M : Type 0} (ex : Execution M) where
 
   pub for_place : {Here : Use → Type 0} {fs : List FramePair} {o : LocalState} {s : Store} {n : M} (sc : List Scope)
       (x : ℕ)
-      → rel.Stand fs o s n → Pl ex sc fs Here → Here (Target x)
+      → rel.Agrees fs o s n → Pl ex sc fs Here → Here (Target x)
       → ForVar p moves shares (CodeAt code) (HasFork code) (HasWords code) callable sc x → ForPlace fs x n o s
   for_place {fs = fs} {o = o} {s = s} {n = n} sc x t pl ai (v, known, role_is, level_is, sort_is) =
       let r = found (is_block v.block) (places.is_block v.block) (block_agrees v.block) sc fs 0 pl.chain level_is in
@@ -93,7 +93,7 @@ module _ {M : Type 0} (ex : Execution M) where
   pub turn_makes : (end : ℕ) (base : List Entry) (below : List FramePair) (x : ℕ) (v limit : ℤ) (down : Bool) (d : Stmt)
       (sc : List Scope) (q : ℕ) (st : List Entry) (todo : List Item) (fs : List FramePair) (c : Config M)
       (o : LocalState)
-      (s : Store) (n : M) → rel.Stand fs o s n → Pl ex sc fs (In_loop x d)
+      (s : Store) (n : M) → rel.Agrees fs o s n → Pl ex sc fs (In_loop x d)
       → TurnsAt p moves shares (CodeAt code) (HasFork code) (HasWords code) callable sc q x down
       (after_statement p (q + 1 + 1) d)
       (S ex (is_in_no_function st) sc (q + 1 + 1) d)
@@ -109,7 +109,7 @@ module _ {M : Type 0} (ex : Execution M) where
       (makes_bind ex _ (assign_gives ex (q + 1) z.address z.cell (Ordinal v) (m.Number v)
       (m.Number limit ∷ st) t z.points
       z.may (subst OneCell (sym z.sorted) tt)
-      (subst (λ y. Stood rel p y z.address.kind (Ordinal v) (m.Number v)) (sym z.sorted) (v, refl, refl)) ge)
+      (subst (λ y. StackHolds rel p y z.address.kind (Ordinal v) (m.Number v)) (sym z.sorted) (v, refl, refl)) ge)
       (λ x1 x2 o2 s2 n2 t2 x3.
       makes_tick ex (push d (Again x limit down d ∷ todo)) fs (q + 1 + 1) (m.Number limit ∷ st) (ops.tick n2) (_, _, t2)
       (law.tick t2) (at_one ex (q + 1) (m.Number limit ∷ st) n2 ticks)
@@ -136,7 +136,7 @@ module _ {M : Type 0} (ex : Execution M) where
       (sc : List Scope)
       (q : ℕ) (stack : List Entry) (todo : List Item) (fs : List FramePair) (lo hi : ℤ) (o : LocalState) (s : Store)
       (n : M)
-      → rel.Stand fs o s n → Pl ex sc fs (In_loop x d)
+      → rel.Agrees fs o s n → Pl ex sc fs (In_loop x d)
       → TurnsAt p moves shares (CodeAt code) (HasFork code) (HasWords code) callable sc q x down
       (after_statement p (q + 1 + 1) d)
       (S ex (is_in_no_function stack) sc (q + 1 + 1) d)

@@ -27,7 +27,7 @@ use Rattle.sp_code.specs.CodeOfTree.{CodeAt, HasFork, HasWords, UnaryAt, Operand
 use Rattle.sp_codegen.specs.FramePairs.{FramePair}
 use Rattle.sp_codegen.specs.Executions.{Execution}
 use Rattle.sp_codegen.specs.Following.{StandsFor}
-use Rattle.sp_codegen.specs.Relation.{Stood}
+use Rattle.sp_codegen.specs.Relation.{StackHolds}
 use Rattle.sp_codegen.proofs.Runs.{stays, goes, gives_bind, gives_known, gives_give, gives_fail, gives_by}
 use Rattle.sp_codegen.proofs.ValueForms.{G, at_one, Top, St, NumberTop, Nothing_more, ordinal_known, channel_known}
 use Rattle.sp_codegen.proofs.ValueForms.{rest_of}
@@ -51,17 +51,17 @@ module _ {M : Type 0} (ex : Execution M) where
 
   pub worked_gives : {js : List FramePair} {o : LocalState} {s : Store} (c : Config M) (pc k : ℕ) (stack : List Entry)
       (n : M)
-      → rel.Stand js o s n → StandsFor rel c s → sort p k ≡ Ordinals → (x : OperatorResult)
+      → rel.Agrees js o s n → StandsFor rel c s → sort p k ≡ Ordinals → (x : OperatorResult)
       → next_step ops code c ≡ on_result x (λ v. Goes (m.At pc (m.Number v ∷ stack) n))
       → G ex js c o s pc (Top ex stack) (St ex k) (work_of x)
   worked_gives c pc k stack n t f e (Yields v) h =
       gives_give ops rel w code (Ordinal v) (m.Number v) (goes ops rel w code h) t
-      (subst (λ z. Stood rel p z k (Ordinal v) (m.Number v)) (sym e) (v, refl, refl))
+      (subst (λ z. StackHolds rel p z k (Ordinal v) (m.Number v)) (sym e) (v, refl, refl))
   worked_gives c pc k stack n t f e (OperatorFault x) h = gives_fail ops rel w code x f h
 
   ordinal_top : {js : List FramePair} {o1 : LocalState} {s1 : Store} (k pc : ℕ) (stack : List Entry) (v : Value)
       (en : Entry)
-      (n1 : M) → rel.Stand js o1 s1 n1 → Stood rel p Ordinals k v en
+      (n1 : M) → rel.Agrees js o1 s1 n1 → StackHolds rel p Ordinals k v en
       → G ex js (m.At pc (en ∷ stack) n1) o1 s1 pc (NumberTop ex stack) (Nothing_more ex) (ordinal v)
   ordinal_top {js} {o1} {s1} k pc stack v en n1 t1 q =
       subst (λ z. G ex js (m.At pc (z ∷ stack) n1) o1 s1 pc (NumberTop ex stack) (Nothing_more ex) (ordinal v))
@@ -75,14 +75,14 @@ module _ {M : Type 0} (ex : Execution M) where
       → G ex js c o s pc (NumberTop ex stack) (Nothing_more ex) (as_ordinal h)
   as_ordinal_gives {pc = pc} k stack h e hh =
       gives_bind ops rel w code hh (λ v en o1 s1 n1 t1 q. ordinal_top k pc stack v en n1 t1
-      (subst (λ z. Stood rel p z k v en) e q))
+      (subst (λ z. StackHolds rel p z k v en) e q))
 
   -- an operand that is an ordinal, and then gg
   pub with_ordinal : {B E : Type 0} {js : List FramePair} {c : Config M} {o : LocalState} {s : Store} {pc pc2 : ℕ}
       {st2 : B → E → List Entry} {F2 : B → E → Type 0} (k : ℕ) (stack : List Entry) (h : Work Value) (gg : ℤ → Work B)
       → sort p k ≡ Ordinals
       → G ex js c o s pc (Top ex stack) (St ex k) h
-      → ((v : ℤ) (o1 : LocalState) (s1 : Store) (n1 : M) → rel.Stand js o1 s1 n1
+      → ((v : ℤ) (o1 : LocalState) (s1 : Store) (n1 : M) → rel.Agrees js o1 s1 n1
       → G ex js (m.At pc (m.Number v ∷ stack) n1) o1 s1 pc2 st2 F2 (gg v))
       → G ex js c o s pc2 st2 F2 (bind (as_ordinal h) gg)
   with_ordinal k stack h gg e hh next = gives_bind ops rel w code (as_ordinal_gives k stack h e hh)
@@ -91,13 +91,13 @@ module _ {M : Type 0} (ex : Execution M) where
   pub unary_gives : {js : List FramePair} {o : LocalState} {s : Store} (op : UnaryOp) (q k : ℕ) (stack : List Entry)
       (v : ℤ)
       (n : M)
-      → rel.Stand js o s n → sort p k ≡ Ordinals
+      → rel.Agrees js o s n → sort p k ≡ Ordinals
       → UnaryAt p moves shares (CodeAt code) (HasFork code) (HasWords code) callable q op
       → G ex js (m.At q (m.Number v ∷ stack) n) o s (after_unary op q) (Top ex stack) (St ex k)
       (work_of (unary_op op v))
   unary_gives unary.Plus q k stack v n t e h =
       gives_give ops rel w code (Ordinal v) (m.Number v) (stays ops rel w code _) t
-      (subst (λ z. Stood rel p z k (Ordinal v) (m.Number v)) (sym e) (v, refl, refl))
+      (subst (λ z. StackHolds rel p z k (Ordinal v) (m.Number v)) (sym e) (v, refl, refl))
   unary_gives unary.Minus q k stack v n t e h =
       worked_gives (m.At q (m.Number v ∷ stack) n) (q + 1) k stack n t (_, _, t) e (unary_op unary.Minus v)
       (at_one ex q (m.Number v ∷ stack) n h)
@@ -114,7 +114,7 @@ module _ {M : Type 0} (ex : Execution M) where
 
   -- two operands
   channels_gives : {js : List FramePair} {o : LocalState} {s : Store} (op : BinaryOp) (q k : ℕ) (stack : List Entry)
-      (c d : Channel) (a b : ℕ) (n : M) → rel.Stand js o s n → rel.Named c a → rel.Named d b → sort p k ≡ Ordinals
+      (c d : Channel) (a b : ℕ) (n : M) → rel.Agrees js o s n → rel.Named c a → rel.Named d b → sort p k ≡ Ordinals
       → slice_get code.instrs q ≡ Some (binary_instr op) → TakesChannels op
       → G ex js (m.At q (m.Chan b ∷ m.Chan a ∷ stack) n) o s (q + 1) (Top ex stack) (St ex k) (channels_op op c d)
   channels_gives binary.Eq q k stack c d a b n t x y e h z =
@@ -130,8 +130,9 @@ module _ {M : Type 0} (ex : Execution M) where
 
   pub binary_gives : {js : List FramePair} {o : LocalState} {s : Store} (op : BinaryOp) (q k ka kb : ℕ)
       (stack : List Entry)
-      (x y : Sort) (u v : Value) (d e : Entry) (n : M) → rel.Stand js o s n → Stood rel p x ka u d
-      → Stood rel p y kb v e → Operands op x y → sort p k ≡ Ordinals → slice_get code.instrs q ≡ Some (binary_instr op)
+      (x y : Sort) (u v : Value) (d e : Entry) (n : M) → rel.Agrees js o s n → StackHolds rel p x ka u d
+      → StackHolds rel p y kb v e → Operands op x y → sort p k ≡ Ordinals
+      → slice_get code.instrs q ≡ Some (binary_instr op)
       → G ex js (m.At q (e ∷ d ∷ stack) n) o s (q + 1) (Top ex stack) (St ex k) (operate op u v)
   binary_gives {js} {o} {s} op q k ka kb stack Ordinals Ordinals u v d e n t a b z r h =
       subst (λ y. G ex js (m.At q (y ∷ d ∷ stack) n) o s (q + 1) (Top ex stack) (St ex k) (operate op u v)) (sym b.2)
@@ -162,7 +163,7 @@ module _ {M : Type 0} (ex : Execution M) where
 
   pub standard_gives : {js : List FramePair} {o : LocalState} {s : Store} (f : StandardFn) (q k : ℕ) (ty : KindOf)
       (stack : List Entry)
-      (v : ℤ) (n : M) → rel.Stand js o s n → sort p k ≡ Ordinals
+      (v : ℤ) (n : M) → rel.Agrees js o s n → sort p k ≡ Ordinals
       → StandardAt p moves shares (CodeAt code) (HasFork code) (HasWords code) callable q f ty
       → G ex js (m.At q (m.Number v ∷ stack) n) o s (after_standard f q) (Top ex stack) (St ex k) (standard_op f ty v)
   standard_gives standard.Abs q k ty stack v n t e h =
@@ -176,7 +177,7 @@ module _ {M : Type 0} (ex : Execution M) where
       (at_one ex q (m.Number v ∷ stack) n h)
   standard_gives standard.Ord q k ty stack v n t e h =
       gives_give ops rel w code (Ordinal v) (m.Number v) (stays ops rel w code _) t
-      (subst (λ z. Stood rel p z k (Ordinal v) (m.Number v)) (sym e) (v, refl, refl))
+      (subst (λ z. StackHolds rel p z k (Ordinal v) (m.Number v)) (sym e) (v, refl, refl))
   standard_gives standard.Chr q k ty stack v n t e h =
       worked_gives (m.At q (m.Number v ∷ stack) n) (q + 1) k stack n t (_, _, t) e (value_in_range (pos 0) (pos 255) v)
       (at_one ex q (m.Number v ∷ stack) n h)
@@ -191,7 +192,7 @@ module _ {M : Type 0} (ex : Execution M) where
 
   pub input_gives : {js : List FramePair} {o : LocalState} {s : Store} (f : StandardFn) (q k : ℕ) (stack : List Entry)
       (n : M)
-      → rel.Stand js o s n → R Input → sort p k ≡ Ordinals
+      → rel.Agrees js o s n → R Input → sort p k ≡ Ordinals
       → InputAt p moves shares (CodeAt code) (HasFork code) (HasWords code) callable q f
       → G ex js (m.At q stack n) o s (q + 1) (Top ex stack) (St ex k) (input_op f (rest_of ex s))
   input_gives standard.Abs q k stack n t r e h = absurd h

@@ -50,7 +50,7 @@ module _ {M : Type 0} (ex : Execution M) where
   -- an item is written
   print_gives : {fs : List FramePair} {c : Config M} {o : LocalState} {s : Store} {n : M} (q : ℕ) (t : List ℕ)
       (stack : List Entry)
-      → rel.Stand fs o s n → StandsFor rel c s → R Output → next_step ops code c ≡ m.prints ops code t q stack n
+      → rel.Agrees fs o s n → StandsFor rel c s → R Output → next_step ops code c ≡ m.prints ops code t q stack n
       → G ex fs c o s q (λ (u : Unit {0}) (z : Unit {0}). stack) (λ u z. Unit {0}) (write g t)
   print_gives {n = n} q t stack st f ro ge =
       gives_alike ops rel w code q stack (ops.print t n) f (law.print st ro t)
@@ -58,7 +58,7 @@ module _ {M : Type 0} (ex : Execution M) where
 
   wide_makes : (Q : List Item → List FramePair → ℕ → List Entry → Type 0) (fs : List FramePair) (q : ℕ) (cut : Bool)
       (t : List ℕ) (mm : ℤ) (stack : List Entry) (todo : List Item) (c : Config M) (o : LocalState) (s : Store) (n : M)
-      → rel.Stand fs o s n → StandsFor rel c s → R Output → next_step ops code c ≡ m.prints_wide ops code cut t mm q
+      → rel.Agrees fs o s n → StandsFor rel c s → R Output → next_step ops code c ≡ m.prints_wide ops code cut t mm q
       stack n
       → Q todo fs q stack
       → K ex c o s Q (bind (in_width cut t (Some mm)) (λ bs. bind (write g bs) (λ u. give (Stepped todo))))
@@ -76,7 +76,7 @@ module _ {M : Type 0} (ex : Execution M) where
 
   pub plain_makes : (Q : List Item → List FramePair → ℕ → List Entry → Type 0) (fs : List FramePair) (q : ℕ)
       (t : List ℕ)
-      (stack : List Entry) (todo : List Item) (c : Config M) (o : LocalState) (s : Store) (n : M) → rel.Stand fs o s n
+      (stack : List Entry) (todo : List Item) (c : Config M) (o : LocalState) (s : Store) (n : M) → rel.Agrees fs o s n
       → StandsFor rel c s → R Output → next_step ops code c ≡ m.prints ops code t q stack n → Q todo fs q stack
       → K ex c o s Q (bind (write g t) (λ u. give (Stepped todo)))
   plain_makes Q fs q t stack todo c o s n st f ro ge k =
@@ -88,7 +88,7 @@ module _ {M : Type 0} (ex : Execution M) where
       → (end : ℕ) (base : List Entry) (below : List FramePair) (t : List ℕ) (j : ℕ)
       (x : Option Expr) (sc : List Scope) (q : ℕ) (stack : List Entry) (todo : List Item) (fs : List FramePair)
       (o : LocalState)
-      (s : Store) (n : M) → rel.Stand fs o s n → Pl ex sc fs (In_width x) → R Output → slice_get code.texts j ≡ Some t
+      (s : Store) (n : M) → rel.Agrees fs o s n → Pl ex sc fs (In_width x) → R Output → slice_get code.texts j ≡ Some t
       → WidthAt p moves shares (CodeAt code) (HasFork code) (HasWords code) callable sc q x
       → slice_get code.instrs (after_width q x) ≡ Some (if is_given x then i.WritewText j else i.WriteText j)
       → After ex end base below todo fs (after_width q x + 1) stack
@@ -108,7 +108,7 @@ module _ {M : Type 0} (ex : Execution M) where
   -- an item without and with a width
   item_plain : (Q : List Item → List FramePair → ℕ → List Entry → Type 0) (ty : KindOf) (v : ℤ) (fs : List FramePair)
       (q : ℕ)
-      (stack : List Entry) (todo : List Item) (o : LocalState) (s : Store) (n : M) → rel.Stand fs o s n → R Output
+      (stack : List Entry) (todo : List Item) (o : LocalState) (s : Store) (n : M) → rel.Agrees fs o s n → R Output
       → slice_get code.instrs q ≡ Some (write_instr (Some ty) false) → IsWritten ty → Q todo fs (q + 1) stack
       → K ex (m.At q (m.Number v ∷ stack) n) o s Q
       (bind (in_width (ordinal_text ty v).0 (ordinal_text ty v).1 None)
@@ -129,7 +129,7 @@ module _ {M : Type 0} (ex : Execution M) where
 
   item_wide : (Q : List Item → List FramePair → ℕ → List Entry → Type 0) (ty : KindOf) (v mm : ℤ) (fs : List FramePair)
       (q : ℕ)
-      (stack : List Entry) (todo : List Item) (o : LocalState) (s : Store) (n : M) → rel.Stand fs o s n → R Output
+      (stack : List Entry) (todo : List Item) (o : LocalState) (s : Store) (n : M) → rel.Agrees fs o s n → R Output
       → slice_get code.instrs q ≡ Some (write_instr (Some ty) true) → IsWritten ty → Q todo fs (q + 1) stack
       → K ex (m.At q (m.Number mm ∷ m.Number v ∷ stack) n) o s Q
       (bind (in_width (ordinal_text ty v).0 (ordinal_text ty v).1 (Some mm))
@@ -151,7 +151,7 @@ module _ {M : Type 0} (ex : Execution M) where
   pub width_item : (call : Calls) → Oks ex call
       → (end : ℕ) (base : List Entry) (below : List FramePair) (ty : KindOf) (k : ℕ)
       (v : ℤ) (x : Option Expr) (sc : List Scope) (q : ℕ) (stack : List Entry) (todo : List Item) (fs : List FramePair)
-      (o : LocalState) (s : Store) (n : M) → rel.Stand fs o s n → Pl ex sc fs (In_width x) → R Output
+      (o : LocalState) (s : Store) (n : M) → rel.Agrees fs o s n → Pl ex sc fs (In_width x) → R Output
       → slice_get p.kinds k ≡ Some ty
       → WidthAt p moves shares (CodeAt code) (HasFork code) (HasWords code) callable sc q x
       → slice_get code.instrs (after_width q x) ≡ Some (write_instr (Some ty) (is_given x)) → IsWritten ty

@@ -33,7 +33,7 @@ use Rattle.sp_codegen.specs.FramePairs.{FramePair, sources, Chain}
 use Rattle.sp_codegen.specs.Shapes.{CellIs, Flat}
 use Rattle.sp_codegen.specs.Executions.{Execution}
 use Rattle.sp_codegen.specs.Following.{StandsFor}
-use Rattle.sp_codegen.specs.Relation.{Stood, Owns, OneCell}
+use Rattle.sp_codegen.specs.Relation.{StackHolds, Owns, OneCell}
 use Rattle.sp_codegen.proofs.Runs.{goes, gives_known, gives_give, gives_fail, gives_by, holds_when}
 use Rattle.sp_codegen.proofs.Chains.{block_agrees, index_agrees, found, seek_all, find_in}
 use Rattle.sp_codegen.proofs.ValueForms.{NotNone, IsMany, IsTrue, within, G, at_one, Top, St, PlaceTop, PlaceIs}
@@ -58,7 +58,7 @@ module _ {M : Type 0} (ex : Execution M) where
   -- a variable with cells of its own
   pub own_gives : {js : List FramePair} {o : LocalState} {s : Store} (sc : List Scope) (q x k : ℕ) (stack : List Entry)
       (n : M)
-      → rel.Stand js o s n → Chain sc js → MayRead ex sc js x → (v : Variable) → slice_get p.variables x ≡ Some v
+      → rel.Agrees js o s n → Chain sc js → MayRead ex sc js x → (v : Variable) → slice_get p.variables x ≡ Some v
       → v.kind ≡ k → Owns v.role → ((f : Option Frame)
       → location_by (sources js) x v v.role
       ≡ cell_of x (frame_found (is_block v.block) (length (sources js)) (sources js)))
@@ -85,7 +85,7 @@ module _ {M : Type 0} (ex : Execution M) where
   -- an entire variable
   pub var_gives : {js : List FramePair} {o : LocalState} {s : Store} (sc : List Scope) (q x k : ℕ) (stack : List Entry)
       (n : M)
-      → rel.Stand js o s n → Chain sc js → MayRead ex sc js x
+      → rel.Agrees js o s n → Chain sc js → MayRead ex sc js x
       → VarAt p moves shares (CodeAt code) (HasFork code) (HasWords code) callable sc q x k
       → G ex js (m.At q stack n) o s (q + 1) (PlaceTop ex stack) (PlaceIs ex js x k) (place_of g x)
   var_gives {js} {o} {s} sc q x k stack n t ch may (v, known, is_kind, role_at) =
@@ -140,7 +140,7 @@ module _ {M : Type 0} (ex : Execution M) where
 
   pub indexed_gives : {js : List FramePair} {o : LocalState} {s : Store} (q x k : ℕ) (low high : ℤ) (ix el : ℕ)
       (stack : List Entry)
-      (pl : Place) (a : Ptr) (v : ℤ) (n : M) → rel.Stand js o s n → PlaceIs ex js x k pl a
+      (pl : Place) (a : Ptr) (v : ℤ) (n : M) → rel.Agrees js o s n → PlaceIs ex js x k pl a
       → slice_get p.kinds k ≡ Some (kind.Array low high ix el)
       → slice_get code.instrs q ≡ Some (i.Index low high (size p el))
       → G ex js (m.At q (m.Number v ∷ m.Pointer a ∷ stack) n) o s (q + 1) (PlaceTop ex stack) (PlaceIs ex js x el)
@@ -172,7 +172,7 @@ module _ {M : Type 0} (ex : Execution M) where
 
   pub fielded_gives : {js : List FramePair} {o : LocalState} {s : Store} (q x k f j : ℕ) (name : List ℕ)
       (gs : List (List ℕ × ℕ))
-      (stack : List Entry) (pl : Place) (a : Ptr) (n : M) → rel.Stand js o s n → PlaceIs ex js x k pl a
+      (stack : List Entry) (pl : Place) (a : Ptr) (n : M) → rel.Agrees js o s n → PlaceIs ex js x k pl a
       → slice_get p.kinds k ≡ Some (kind.Fields gs) → slice_get gs f ≡ Some (name, j)
       → slice_get code.instrs q ≡ Some (i.Field (places.field_offset p gs f))
       → G ex js (m.At q (m.Pointer a ∷ stack) n) o s (q + 1) (PlaceTop ex stack) (PlaceIs ex js x j)
@@ -203,7 +203,7 @@ module _ {M : Type 0} (ex : Execution M) where
   -- what is read at a place
   pub ordinal_cell : {js : List FramePair} {o : LocalState} {s : Store} (q k : ℕ) (stack : List Entry) (c : Config M)
       (n : M)
-      → rel.Stand js o s n → StandsFor rel c s → sort p k ≡ Ordinals → (v : Value) (z : Cell) → CellIs rel.Named v z
+      → rel.Agrees js o s n → StandsFor rel c s → sort p k ≡ Ordinals → (v : Value) (z : Cell) → CellIs rel.Named v z
       → next_step ops code c ≡ ordinal_in z (λ u. Goes (m.At q (m.Number u ∷ stack) n))
       → G ex js c o s q (Top ex stack) (St ex k) (ordinal_read v)
   ordinal_cell q k stack c n t f e Undefined cell.Undefined h gg = gives_fail ops rel w code fault.F4 f gg
@@ -212,7 +212,7 @@ module _ {M : Type 0} (ex : Execution M) where
   ordinal_cell q k stack c n t f e (Ordinal v) cell.Undefined h gg = absurd h
   ordinal_cell q k stack c n t f e (Ordinal v) (cell.Ordinal u) h gg =
       gives_give ops rel w code (Ordinal v) (m.Number u) (goes ops rel w code gg) t
-      (subst (λ z. Stood rel p z k (Ordinal v) (m.Number u)) (sym e) (v, refl, ap m.Number (sym h)))
+      (subst (λ z. StackHolds rel p z k (Ordinal v) (m.Number u)) (sym e) (v, refl, ap m.Number (sym h)))
   ordinal_cell q k stack c n t f e (Ordinal v) (cell.Channel u) h gg = absurd h
   ordinal_cell q k stack c n t f e (Chan v) cell.Undefined h gg = absurd h
   ordinal_cell q k stack c n t f e (Chan v) (cell.Ordinal u) h gg = absurd h
@@ -221,7 +221,7 @@ module _ {M : Type 0} (ex : Execution M) where
 
   channel_cell : {js : List FramePair} {o : LocalState} {s : Store} (q k : ℕ) (stack : List Entry) (c : Config M)
       (n : M)
-      → rel.Stand js o s n → StandsFor rel c s → sort p k ≡ Channels → (v : Value) (z : Cell) → CellIs rel.Named v z
+      → rel.Agrees js o s n → StandsFor rel c s → sort p k ≡ Channels → (v : Value) (z : Cell) → CellIs rel.Named v z
       → next_step ops code c ≡ channel_in z (λ u. Goes (m.At q (m.Chan u ∷ stack) n))
       → G ex js c o s q (Top ex stack) (St ex k) (channel_read v)
   channel_cell q k stack c n t f e Undefined cell.Undefined h gg = gives_fail ops rel w code fault.F5 f gg
@@ -234,7 +234,7 @@ module _ {M : Type 0} (ex : Execution M) where
   channel_cell q k stack c n t f e (Chan v) (cell.Ordinal u) h gg = absurd h
   channel_cell q k stack c n t f e (Chan v) (cell.Channel u) h gg =
       gives_give ops rel w code (Chan v) (m.Chan u) (goes ops rel w code gg) t
-      (subst (λ z. Stood rel p z k (Chan v) (m.Chan u)) (sym e) (v, u, refl, refl, h))
+      (subst (λ z. StackHolds rel p z k (Chan v) (m.Chan u)) (sym e) (v, u, refl, refl, h))
   channel_cell q k stack c n t f e (Parts v) z h gg = absurd h
 
   -- what checked does, by the sort
@@ -259,7 +259,7 @@ module _ {M : Type 0} (ex : Execution M) where
 
   pub read_gives : {js : List FramePair} {o : LocalState} {s : Store} (q x k : ℕ) (stack : List Entry) (pl : Place)
       (a : Ptr)
-      (n : M) → rel.Stand js o s n → PlaceIs ex js x k pl a
+      (n : M) → rel.Agrees js o s n → PlaceIs ex js x k pl a
       → ReadAt p moves shares (CodeAt code) (HasFork code) (HasWords code) callable q k (sort p k)
       → G ex js (m.At q (m.Pointer a ∷ stack) n) o s (q + 1) (Top ex stack) (St ex k) (read_at g pl)
   read_gives {js} {o} {s} q x k stack (Fixed z) a n t pi h =
@@ -269,7 +269,7 @@ module _ {M : Type 0} (ex : Execution M) where
       (subst (ReadAt p moves shares (CodeAt code) (HasFork code) (HasWords code) callable q k) pi.0 h)
       ∙ holds_when (ops.has a 1 n) _ l.0 ∙ ap (λ y. ordinal_in y (λ u. Goes (m.At (q + 1) (m.Number u ∷ stack) n)))
       l.1))
-      t (subst (λ y. Stood rel p y k (Ordinal z) (m.Number z)) (sym pi.0) (z, refl, refl))
+      t (subst (λ y. StackHolds rel p y k (Ordinal z) (m.Number z)) (sym pi.0) (z, refl, refl))
   read_gives {js} {o} {s} q x k stack (AtAddress b) a n t pi h = by_sort (sort p k) refl h
     where
       c : Config M
@@ -309,7 +309,7 @@ module _ {M : Type 0} (ex : Execution M) where
           (goes ops rel w code (at_one ex q (m.Pointer a ∷ stack) n h
           ∙ holds_when (ops.has a (size p k) n) _
           (subst (λ y. ops.has a (size p y) n ≡ true) pi.0 (law.has t b a pi.1 pi.2)))) t
-          (subst (λ y. Stood rel p y k v (m.Cells (ops.cells a (size p k) n))) (sym e) (
+          (subst (λ y. StackHolds rel p y k v (m.Cells (ops.cells a (size p k) n))) (sym e) (
             ops.cells a (size p k) n,
             refl,
             subst (λ y. Flat p rel.Named y v (ops.cells a (size p y) n)) pi.0 (law.pack t b a pi.1 pi.2),

@@ -19,7 +19,7 @@ use Rattle.sp_code.specs.Machine.{Entry, is_in_no_function}
 use Rattle.sp_code.specs.Places.{after_value, after_var, after_tests, after_statement, after_arms}
 use Rattle.sp_code.specs.Scopes.{Sort, Ordinals, Channels, Many, NoSort, Scope, OfIndex, scopes_of, sort}
 use Rattle.sp_code.specs.CodeOfTree.{ForVar, ValueAt, FormAt, PlaceAt, SelectedAt, ActualsAt, WidthAt, RightAt}
-use Rattle.sp_code.specs.CodeOfTree.{StandsAt}
+use Rattle.sp_code.specs.CodeOfTree.{StatementAt}
 use Rattle.sp_code.specs.CodeOfTree.{AllAt, ChildrenAt, ArmsAt, CodeAt, HasFork, HasWords, BlocksAt}
 use Rattle.sp_codegen.specs.FramePairs.{FramePair}
 use Rattle.sp_codegen.specs.Executions.{Execution}
@@ -101,7 +101,7 @@ module _ (p : Program) (values : DoFunctionsTakeValues p) (moves shares : Stmt �
 
   mutual
     pub stmt_pure : (s : Stmt) (free : Bool) (sc : List Scope) (q : ℕ)
-        → StandsAt p moves shares Is HasTable HasText callable free sc q s → PureStmt p s
+        → StatementAt p moves shares Is HasTable HasText callable free sc q s → PureStmt p s
     stmt_pure Empty free sc q h = tt
     stmt_pure (Assign v (Typed k form)) free sc q (place, _, right) =
         (var_pure v k sc q place, right_pure (sort p k) form k sc (after_var q v) right)

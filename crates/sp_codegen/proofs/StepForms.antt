@@ -14,7 +14,7 @@ use Rattle.sp_code.specs.Machine.{Entry, Config, Goes, next_step}
 use Rattle.sp_code.specs.Machine as m
 use Rattle.sp_code.specs.Turns.{RunsTo}
 use Rattle.sp_code.specs.Scopes.{Scope}
-use Rattle.sp_code.specs.CodeOfTree.{CodeAt, HasFork, HasWords, StandsAt}
+use Rattle.sp_code.specs.CodeOfTree.{CodeAt, HasFork, HasWords, StatementAt}
 use Rattle.sp_codegen.specs.FramePairs.{FramePair}
 use Rattle.sp_codegen.specs.Executions.{Execution}
 use Rattle.sp_codegen.proofs.Runs.{Realizes, HasKnownValue, goes, run_assoc}
@@ -54,7 +54,7 @@ module _ {M : Type 0} (ex : Execution M) where
   After end base below todo fs pc st = CodeFollows ex end base below pc st fs todo
 
   abbrev pub S : Bool → List Scope → ℕ → Stmt → Type 0
-  S free sc q d = StandsAt p moves shares (CodeAt code) (HasFork code) (HasWords code) callable free sc q d
+  S free sc q d = StatementAt p moves shares (CodeAt code) (HasFork code) (HasWords code) callable free sc q d
 
   abbrev pub Pl : List Scope → List FramePair → (Use → Type 0) → Type 0
   Pl sc js Here = P ex sc js Here

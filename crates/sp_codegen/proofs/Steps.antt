@@ -37,10 +37,10 @@ use Rattle.sp_code.specs.CodeOfTree.{CodeAt, HasFork, HasWords, ArmsAt, TestAt, 
 use Rattle.sp_codegen.specs.FramePairs.{FramePair, pairs_from}
 use Rattle.sp_codegen.specs.Executions.{Execution}
 use Rattle.sp_codegen.specs.Following.{StandsFor}
-use Rattle.sp_codegen.specs.Relation.{Stood, OneCell}
+use Rattle.sp_codegen.specs.Relation.{StackHolds, OneCell}
 use Rattle.sp_codegen.proofs.Runs.{stays, goes, comes_on, gives_fail, holds_when}
 use Rattle.sp_codegen.proofs.Values.{at_console, value_gives, form_gives, address_gives, ordinal_gives, actuals_gives}
-use Rattle.sp_codegen.proofs.Follows.{slides, jumps, slide_follows, push_follows, push_all_follows, cells_in, CargoIs}
+use Rattle.sp_codegen.proofs.Follows.{slides, jumps, slide_follows, push_follows, push_all_follows, cells_in, PayloadIs}
 use Rattle.sp_codegen.proofs.Follows.{ForkIs, makes_after, makes_bind, makes_known, makes_by, makes_went, makes_fail}
 use Rattle.sp_codegen.proofs.Follows.{makes_tick}
 use Rattle.sp_codegen.proofs.StepForms.{C, G, K, After, S, Pl, Oks, went_if, branch, mine_known}
@@ -97,7 +97,7 @@ module _ {M : Type 0} (ex : Execution M) where
   case_makes : (end : ℕ) (base : List Entry) (below : List FramePair) (v : ℤ) (arms : Arms) (sc : List Scope)
       (q b past : ℕ)
       (stack : List Entry) (todo : List Item) (fs : List FramePair) (o : LocalState) (s : Store) (n : M)
-      → rel.Stand fs o s n
+      → rel.Agrees fs o s n
       → Pl ex sc fs (In_arms arms)
       → TestsAt p moves shares (CodeAt code) (HasFork code) (HasWords code) callable q arms b
       → slice_get code.instrs (after_tests q arms) ≡ Some i.Nocase
@@ -128,7 +128,8 @@ module _ {M : Type 0} (ex : Execution M) where
       (first : ℤ)
       (count : ℕ) (stack : List Entry) (bs : List Birth) (todo : List Item) (c : Config M) (o : LocalState) (s : Store)
       (n : M)
-      → rel.Stand fs o s n → StandsFor rel c s → next_step ops code c ≡ m.fork_step ops code table first count q stack n
+      → rel.Agrees fs o s n → StandsFor rel c s
+      → next_step ops code c ≡ m.fork_step ops code table first count q stack n
       → Q todo fs q stack → is_in_no_function stack ≡ true
       → ForkIs ex (is_in_no_function stack) fs bs (Forks table first count)
       → K ex c o s Q (fork g bs todo)
@@ -164,7 +165,7 @@ module _ {M : Type 0} (ex : Execution M) where
   -- a value is read
   took_gives : {fs : List FramePair} {c : Config M} {o : LocalState} {s : Store} {n : M} (q : ℕ) (x : ReadResult)
       (a : Address)
-      (u : Ptr) (stack : List Entry) → rel.Stand fs o s n → StandsFor rel c s → R Input → rel.Points fs a u → R a.spot
+      (u : Ptr) (stack : List Entry) → rel.Agrees fs o s n → StandsFor rel c s → R Input → rel.Points fs a u → R a.spot
       → sort p a.kind ≡ Ordinals → next_step ops code c ≡ m.item_step ops code x u q stack n
       → G ex fs c o s q (λ (u : Unit {0}) (z : Unit {0}). stack) (λ u z. Unit {0}) (take_in g a x)
   took_gives {n = n} q (Took v bytes) a u stack st f ri pt ra so ge =
@@ -174,7 +175,7 @@ module _ {M : Type 0} (ex : Execution M) where
           ops.put u (cell.Ordinal v) (ops.advance bytes n),
           goes ops rel w code ge,
           law.store (law.advance st ri bytes) a u pt ra (subst OneCell (sym so) tt) (Ordinal v) (m.Number v)
-              (subst (λ y. Stood rel p y a.kind (Ordinal v) (m.Number v)) (sym so) (v, refl, refl)),
+              (subst (λ y. StackHolds rel p y a.kind (Ordinal v) (m.Number v)) (sym so) (v, refl, refl)),
           tt,
         );
       }
@@ -182,7 +183,7 @@ module _ {M : Type 0} (ex : Execution M) where
 
   forall_makes : (Q : List Item → List FramePair → ℕ → List Entry → Type 0) (fs : List FramePair) (q tb x : ℕ)
       (d : Stmt)
-      (lo hi : ℤ) (stack : List Entry) (todo : List Item) (o : LocalState) (s : Store) (n : M) → rel.Stand fs o s n
+      (lo hi : ℤ) (stack : List Entry) (todo : List Item) (o : LocalState) (s : Store) (n : M) → rel.Agrees fs o s n
       → slice_get code.instrs q ≡ Some (i.Forall tb) → Q todo fs (q + 1) stack → is_in_no_function stack ≡ true
       → (int_lt hi lo ≡ false
       → ForkIs ex (is_in_no_function stack) fs (indexed_children x d lo (nat_abs ((hi -ℤ lo) +ℤ pos 1)))
@@ -203,7 +204,7 @@ module _ {M : Type 0} (ex : Execution M) where
           o s n t (fs, o, t) e k fr (fi b)
 
   assume_makes : (Q : List Item → List FramePair → ℕ → List Entry → Type 0) (fs : List FramePair) (v : ℤ) (q : ℕ)
-      (stack : List Entry) (todo : List Item) (o : LocalState) (s : Store) (n : M) → rel.Stand fs o s n
+      (stack : List Entry) (todo : List Item) (o : LocalState) (s : Store) (n : M) → rel.Agrees fs o s n
       → slice_get code.instrs q ≡ Some i.Assume → Q todo fs (q + 1) stack
       → K ex (m.At q (m.Number v ∷ stack) n) o s Q (if_true v (give (Stepped todo)) (fail fault.F8))
   assume_makes Q fs v q stack todo o s n t h k = go (int_le v (pos 0)) (at_one ex q (m.Number v ∷ stack) n h)
@@ -216,7 +217,7 @@ module _ {M : Type 0} (ex : Execution M) where
 
   reads_makes : (Q : List Item → List FramePair → ℕ → List Entry → Type 0) (fs : List FramePair) (ty : KindOf) (q : ℕ)
       (a : Address) (u : Ptr) (stack : List Entry) (todo : List Item) (o : LocalState) (s : Store) (n : M)
-      → rel.Stand fs o s n
+      → rel.Agrees fs o s n
       → R Input → rel.Points fs a u → R a.spot → slice_get p.kinds a.kind ≡ Some ty
       → ReadsAt p moves shares (CodeAt code) (HasFork code) (HasWords code) callable q ty → Q todo fs (q + 1) stack
       → K ex (m.At q (m.Pointer u ∷ stack) n) o s Q
@@ -247,15 +248,15 @@ module _ {M : Type 0} (ex : Execution M) where
   with_channel : (Q : List Item → List FramePair → ℕ → List Entry → Type 0) (k : ℕ) (v : Value) (e : Entry)
       (gg : Channel → Work Action) (q : ℕ) (stack : List Entry) (o : LocalState) (s : Store) (n : M)
       → sort p k ≡ Channels
-      → Stood rel p (sort p k) k v e → ((c : Channel) (j : ℕ) → rel.Named c j
+      → StackHolds rel p (sort p k) k v e → ((c : Channel) (j : ℕ) → rel.Named c j
       → K ex (m.At q (m.Chan j ∷ stack) n) o s Q (gg c)) → K ex (m.At q (e ∷ stack) n) o s Q (bind (channel v) gg)
   with_channel Q k v e gg q stack o s n es x next =
-      let (c1, j1, value_is, entry_is, named) = subst (λ z. Stood rel p z k v e) es x in
+      let (c1, j1, value_is, entry_is, named) = subst (λ z. StackHolds rel p z k v e) es x in
       subst (λ z. K ex (m.At q (z ∷ stack) n) o s Q (bind (channel v) gg)) (sym entry_is)
       (makes_known ex gg c1 (record { proof = ap (λ z. run (channel z) w o s) value_is }) (next c1 j1 named))
 
-  send_one : (q k : ℕ) (z : Sort) (v : Value) (e : Entry) (j : ℕ) (stack : List Entry) (n : M) → Stood rel p z k v e
-      → slice_get code.instrs q ≡ Some (i.Send k)
+  send_one : (q k : ℕ) (z : Sort) (v : Value) (e : Entry) (j : ℕ) (stack : List Entry) (n : M)
+      → StackHolds rel p z k v e → slice_get code.instrs q ≡ Some (i.Send k)
       → next_step ops code (m.At q (e ∷ m.Chan j ∷ stack) n) ≡ Stops (Sends j k (cells_in e)) (m.At (q + 1) stack n)
   send_one q k Ordinals v e j stack n (_, _, entry_is) h = subst
       (λ u. next_step ops code (m.At q (u ∷ m.Chan j ∷ stack) n) ≡ Stops (Sends j k (cells_in u))
@@ -272,7 +273,7 @@ module _ {M : Type 0} (ex : Execution M) where
   send_one q k NoSort v e j stack n x h = absurd x
 
   receive_is : (fs : List FramePair) (c : Channel) (k : ℕ) (a : Address) (u : Ptr) (j : ℕ) → (ek : a.kind ≡ k)
-      → rel.Named c j → rel.Points fs a u → R a.spot → CargoIs ex fs c a.kind (Takes a) (Receives j k u)
+      → rel.Named c j → rel.Points fs a u → R a.spot → PayloadIs ex fs c a.kind (Takes a) (Receives j k u)
   receive_is fs c k a u j ek nm pt ra = (j, u, ap (λ y. Receives j y u) (sym ek), nm, refl, pt, ra)
 
   -- the input and the output that a statement has to do with
@@ -288,7 +289,7 @@ module _ {M : Type 0} (ex : Execution M) where
   -- the step of a statement that is first
   pub start_makes : (call : Calls) → Oks ex call → Blocks ex
       → (end : ℕ) (base : List Entry) (below : List FramePair) (d : Stmt) (sc : List Scope) (q : ℕ) (stack : List Entry)
-      (todo : List Item) (fs : List FramePair) (o : LocalState) (s : Store) (n : M) → rel.Stand fs o s n
+      (todo : List Item) (fs : List FramePair) (o : LocalState) (s : Store) (n : M) → rel.Agrees fs o s n
       → Pl ex sc fs (In_stmt d)
       → S ex (is_in_no_function stack) sc q d → After ex end base below todo fs (after_statement p q d) stack
       → K ex (m.At q stack n) o s (After ex end base below) (statement_action g call d todo)

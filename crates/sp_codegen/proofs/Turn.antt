@@ -53,7 +53,7 @@ module _ {M : Type 0} (ex : Execution M) where
       → slice_get code.instrs end ≡ Some i.End → is_in_no_function base ≡ true
       → (k : ℕ) (todo : List Item) (pc : ℕ) (stack : List Entry) (fs : List FramePair) (o : LocalState) (s : Store)
       (n : M)
-      → rel.Stand fs o s n → F ex end base below pc stack fs todo
+      → rel.Agrees fs o s n → F ex end base below pc stack fs todo
       → Turned (m.At pc stack n) end base below (run (source.turn g due k todo) w o s)
   turn_meets bl end base below e ob zero todo pc stack fs o s n t h = tt
   turn_meets bl end base below e ob (suc k) todo pc stack fs o s n t h =
@@ -70,7 +70,7 @@ module _ {M : Type 0} (ex : Execution M) where
       by_due : (todo : List Item) (o1 : LocalState) (s1 : Store) (pc1 : ℕ) (st1 : List Entry) (n1 : M)
           (fs1 : List FramePair)
           (d : Config M) → C ex c d → next_step ops code d
-          ≡ (if ops.due n1 then Stops m.Pauses (m.At pc1 st1 n1) else Goes (m.At pc1 st1 n1)) → rel.Stand fs1 o1 s1 n1
+          ≡ (if ops.due n1 then Stops m.Pauses (m.At pc1 st1 n1) else Goes (m.At pc1 st1 n1)) → rel.Agrees fs1 o1 s1 n1
           → F ex end base below pc1 st1 fs1 todo
           → Turned (m.At pc1 st1 n1) end base below (run (source.turn g due k todo) w o1 s1)
           → (b : Bool) → b ≡ ops.due n1 → Turned c end base below
@@ -94,7 +94,7 @@ module _ {M : Type 0} (ex : Execution M) where
 
       go : (r : WorkOutcome Action × Store) → Made ex c (After ex end base below) r
           → ((todo : List Item) (pc : ℕ) (st : List Entry) (fs : List FramePair) (o : LocalState) (s : Store) (n : M)
-          → rel.Stand fs o s n → F ex end base below pc st fs todo
+          → rel.Agrees fs o s n → F ex end base below pc st fs todo
           → Turned (m.At pc st n) end base below (run (source.turn g due k todo) w o s))
           → Turned c end base below (then_run (source.rest_of_turn g due (source.turn g due k)) w r)
       go (Computed (Stepped todo) o1, s1) (to, st1, n1, fs1, comes, stands, left) ih =

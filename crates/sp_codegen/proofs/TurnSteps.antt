@@ -146,7 +146,7 @@ module _ {M : Type 0} (ex : Execution M) where
 
   pub settle_follows : (end : ℕ) (base : List Entry) (below : List FramePair) (fs : List FramePair) (o : LocalState)
       (s : Store)
-      (n : M) → rel.Stand fs o s n → (pc : ℕ) (stack : List Entry) (todo : List Item)
+      (n : M) → rel.Agrees fs o s n → (pc : ℕ) (stack : List Entry) (todo : List Item)
       → F end base below pc stack fs todo → Settled end base below fs o s n pc stack todo
   settle_follows end base below fs o s n t pc stack [] h = settled end base below fs o s n pc stack [] refl h tt
   settle_follows end base below fs o s n t pc stack (Do d ∷ todo) h =
@@ -248,7 +248,7 @@ module _ {M : Type 0} (ex : Execution M) where
   again_makes : (end : ℕ) (base : List Entry) (below : List FramePair) (x : ℕ) (hi : ℤ) (down : Bool) (d : Stmt)
       (sc : List Scope) (q : ℕ) (st : List Entry) (todo : List Item) (fs : List FramePair) (o : LocalState) (s : Store)
       (n : M)
-      → rel.Stand fs o s n → Pl ex sc fs (In_loop x d)
+      → rel.Agrees fs o s n → Pl ex sc fs (In_loop x d)
       → TurnsAt p moves shares (CodeAt code) (HasFork code) (HasWords code) callable sc q x down
       (after_statement p (q + 1 + 1) d)
       (S ex (is_in_no_function st) sc (q + 1 + 1) d)
@@ -307,7 +307,7 @@ module _ {M : Type 0} (ex : Execution M) where
   -- what is first, where the machine stands before it
   pub act_makes : (call : Calls) → Oks ex call → Blocks ex
       → (end : ℕ) (base : List Entry) (below : List FramePair) (item : Item) (pc : ℕ) (stack : List Entry)
-      (todo : List Item) (fs : List FramePair) (o : LocalState) (s : Store) (n : M) → rel.Stand fs o s n
+      (todo : List Item) (fs : List FramePair) (o : LocalState) (s : Store) (n : M) → rel.Agrees fs o s n
       → F end base below pc stack fs (item ∷ todo) → LoopMayGoOn fs o s n (item ∷ todo)
       → Ka end base below (m.At pc stack n) o s (item_action g call item todo)
   act_makes call ok bl end base below (Do d) pc stack todo fs o s n t h r =
@@ -345,7 +345,7 @@ module _ {M : Type 0} (ex : Execution M) where
       (makes_went ex todo fs _ stack n1 (stays ops rel w code _) t1 rest))))
   act_makes call ok bl end base below Leave pc stack todo fs o s n t h r =
       let (at, back, under, _, outer, slide, stack_is, returns, frames_are, rest, mine) = h in
-      let c = law.close_frame (subst (λ y. rel.Stand y o s n) frames_are t) mine in
+      let c = law.close_frame (subst (λ y. rel.Agrees y o s n) frames_are t) mine in
       record {
         proof = (
           back,
@@ -365,7 +365,7 @@ module _ {M : Type 0} (ex : Execution M) where
       → (end : ℕ) (base : List Entry) (below : List FramePair) → slice_get code.instrs end ≡ Some i.End
       → is_in_no_function base ≡ true → (todo : List Item) (pc : ℕ) (stack : List Entry) (fs : List FramePair)
       (o : LocalState) (s : Store)
-      (n : M) → rel.Stand fs o s n → F end base below pc stack fs todo → LoopMayGoOn fs o s n todo
+      (n : M) → rel.Agrees fs o s n → F end base below pc stack fs todo → LoopMayGoOn fs o s n todo
       → Ka end base below (m.At pc stack n) o s (action_by g go todo)
   action_makes go ok bl end base below e ob [] pc stack fs o s n t (slide, stack_is, frames_are) r =
       record {
@@ -389,7 +389,7 @@ module _ {M : Type 0} (ex : Execution M) where
       → (end : ℕ) (base : List Entry) (below : List FramePair) → slice_get code.instrs end ≡ Some i.End
       → is_in_no_function base ≡ true → (todo : List Item) (pc : ℕ) (stack : List Entry) (fs : List FramePair)
       (o : LocalState) (s : Store)
-      (n : M) → rel.Stand fs o s n → F end base below pc stack fs todo
+      (n : M) → rel.Agrees fs o s n → F end base below pc stack fs todo
       → Ka end base below (m.At pc stack n) o s (next_action g k todo)
   step_makes k ok bl end base below e ob todo pc stack fs o s n t h =
       let z = settle_follows end base below fs o s n t pc stack todo h in

@@ -52,7 +52,7 @@ module _ (g : RunInput) (due : LocalState → Bool) where
           by_due false = ih todo1 o1 s1 light (omega (arith, falls, h))
       go ih (Computed (Opened todo1) o1, s1) d = tt
       go ih (Computed (Forked bs todo1) o1, s1) d = tt
-      go ih (Computed (Offered c x cargo todo1) o1, s1) d = tt
+      go ih (Computed (Offered c x payload todo1) o1, s1) d = tt
       go ih (Computed actions.Ended o1, s1) d = tt
       go ih (EndsInFault x, s1) d = tt
       go ih (IllFormed, s1) d = tt

@@ -27,7 +27,7 @@ use Rattle.sp_code.specs.Scopes as places
 use Rattle.sp_code.specs.CodeOfTree.{CodeAt, HasFork, HasWords, NoIndex, IsTarget}
 use Rattle.sp_codegen.specs.FramePairs.{FramePair, sources, up_at}
 use Rattle.sp_codegen.specs.Executions.{Execution}
-use Rattle.sp_codegen.specs.Relation.{Placed, Stood}
+use Rattle.sp_codegen.specs.Relation.{Placed, StackHolds}
 use Rattle.sp_codegen.proofs.Runs.{Realizes, HasKnownValue}
 
 -- entries on the stack, the last one on top
@@ -106,7 +106,7 @@ module _ {M : Type 0} (ex : Execution M) where
   Top stack v e = e ∷ stack
 
   abbrev pub St : ℕ → Value → Entry → Type 0
-  St k v e = Stood rel p (sort p k) k v e
+  St k v e = StackHolds rel p (sort p k) k v e
 
   -- an ordinal on top of the stack
   abbrev pub NumberTop : List Entry → ℤ → Unit {0} → List Entry
@@ -160,7 +160,7 @@ module _ {M : Type 0} (ex : Execution M) where
         absurd (subst NoIndex (ap (λ (y : Variable). y.role) d ∙ er) ta.2);
   }
 
-  pub visible_known : {js : List FramePair} {o : LocalState} {s : Store} {n : M} → rel.Stand js o s n
+  pub visible_known : {js : List FramePair} {o : LocalState} {s : Store} {n : M} → rel.Agrees js o s n
       → (test : Home → Bool) (j : FramePair) (rest : List FramePair)
       → seek test (length (sources js)) (sources js) ≡ sources (j ∷ rest)
       → HasKnownValue ops rel w code o s (visible_frame test) j.source

@@ -25,7 +25,7 @@ use Rattle.sp_code.specs.CodeOfTree.{CodeAt, HasFork, HasWords, NoIndex, IsTarge
 use Rattle.sp_code.specs.CodeOfTree.{SelectedAt, ActualsAt, OrdinalAt}
 use Rattle.sp_codegen.specs.FramePairs.{FramePair, sources}
 use Rattle.sp_codegen.specs.Executions.{Execution}
-use Rattle.sp_codegen.specs.Relation.{Stood, GivensAre}
+use Rattle.sp_codegen.specs.Relation.{StackHolds, GivensAre}
 use Rattle.sp_codegen.proofs.Runs.{stays, gives_bind, gives_known, gives_give}
 use Rattle.sp_codegen.proofs.ValueForms.{pushed, same_some, within, G, P, at_one, Top, St}
 use Rattle.sp_codegen.proofs.ValueForms.{rest_of, left_known, PlaceTop, PlaceIs, MayRead, may_see, may_aim, kind_known}
@@ -54,7 +54,7 @@ module _ {M : Type 0} (ex : Execution M) where
   pub record CallsMeet (call : Calls) : Type 0 where
     pub proof : (f : ℕ) (args : Actuals) (b : Block) (sc : List Scope) (q k : ℕ) (stack : List Entry)
         (js : List FramePair)
-        (o : LocalState) (s : Store) (n : M) → rel.Stand js o s n → P ex sc js (In_call f args)
+        (o : LocalState) (s : Store) (n : M) → rel.Agrees js o s n → P ex sc js (In_call f args)
         → CallAt p moves shares (CodeAt code) (HasFork code) (HasWords code) callable sc q f b
         → ((x : ℕ) × (b.answer ≡ Some x)) → sort p k ≡ Ordinals
         → (gs : List ArgumentValue) (es : List Entry) → GivensAre rel p js b.formals gs es → Gave p (sources js) args gs
@@ -64,7 +64,7 @@ module _ {M : Type 0} (ex : Execution M) where
   pub target_gives : {js : List FramePair} {o : LocalState} {s : Store} {c : Config M} {n : M} (q k : ℕ)
       (stack : List Entry)
       (x : ℕ) (ss : Selectors) (pl : Place) (a : Ptr) → RunsTo ops code c (m.At q (m.Pointer a ∷ stack) n)
-      → rel.Stand js o s n → PlaceIs ex js x k pl a
+      → rel.Agrees js o s n → PlaceIs ex js x k pl a
       → IsTarget p moves shares (CodeAt code) (HasFork code) (HasWords code) callable (Entire x ss)
       → G ex js c o s q (λ (b : Address) (u : Ptr). m.Pointer u ∷ stack)
       (λ b u. (b.kind ≡ k) × rel.Points js b u × R b.spot × (location_of p (sources js) x ≡ Some b.spot))
@@ -86,7 +86,7 @@ module _ {M : Type 0} (ex : Execution M) where
     pub value_gives : (call : Calls) → CallsMeet call
         → (e : Expr) (sc : List Scope) (q : ℕ) (stack : List Entry) (js : List FramePair) (o : LocalState) (s : Store)
         (n : M)
-        → rel.Stand js o s n → P ex sc js (In_expr e)
+        → rel.Agrees js o s n → P ex sc js (In_expr e)
         → ValueAt p moves shares (CodeAt code) (HasFork code) (HasWords code) callable sc q e
         → G ex js (m.At q stack n) o s (after_value q e) (Top ex stack) (St ex (kind_of e)) (value g call e)
     value_gives call ok (Typed k form) sc q stack js o s n t pl h = form_gives call ok k form sc q stack js o s n t pl h
@@ -94,7 +94,7 @@ module _ {M : Type 0} (ex : Execution M) where
     pub form_gives : (call : Calls) → CallsMeet call
         → (k : ℕ) (form : ExprForm) (sc : List Scope) (q : ℕ) (stack : List Entry) (js : List FramePair)
         (o : LocalState)
-        (s : Store) (n : M) → rel.Stand js o s n → P ex sc js (In_form form)
+        (s : Store) (n : M) → rel.Agrees js o s n → P ex sc js (In_form form)
         → FormAt p moves shares (CodeAt code) (HasFork code) (HasWords code) callable sc q k form
         → G ex js (m.At q stack n) o s (after_form q form) (Top ex stack) (St ex k) (form_value g call k form)
     form_gives call ok k (Number v) sc q stack js o s n t pl (instr, result) =
@@ -129,7 +129,7 @@ module _ {M : Type 0} (ex : Execution M) where
     pub place_gives : (call : Calls) → CallsMeet call
         → (v : Var) (k : ℕ) (sc : List Scope) (q : ℕ) (stack : List Entry) (js : List FramePair) (o : LocalState)
         (s : Store)
-        (n : M) → rel.Stand js o s n → P ex sc js (In_selectors (selectors_of v)) → MayRead ex sc js (variable_of v)
+        (n : M) → rel.Agrees js o s n → P ex sc js (In_selectors (selectors_of v)) → MayRead ex sc js (variable_of v)
         → PlaceAt p moves shares (CodeAt code) (HasFork code) (HasWords code) callable sc q v k
         → G ex js (m.At q stack n) o s (after_var q v) (PlaceTop ex stack)
         (PlaceIs ex js (variable_of v) k) (place g call v)
@@ -139,7 +139,7 @@ module _ {M : Type 0} (ex : Execution M) where
 
     selected_gives : (call : Calls) → CallsMeet call
         → (ss : Selectors) (x k k2 : ℕ) (sc : List Scope) (q : ℕ) (stack : List Entry) (z : Place) (a : Ptr)
-        (js : List FramePair) (o : LocalState) (s : Store) (n : M) → rel.Stand js o s n → P ex sc js (In_selectors ss)
+        (js : List FramePair) (o : LocalState) (s : Store) (n : M) → rel.Agrees js o s n → P ex sc js (In_selectors ss)
         → PlaceIs ex js x k z a
         → SelectedAt p moves shares (CodeAt code) (HasFork code) (HasWords code) callable sc q ss k k2
         → G ex js (m.At q (m.Pointer a ∷ stack) n) o s (after_selectors q ss) (PlaceTop ex stack) (PlaceIs ex js x k2)
@@ -165,7 +165,7 @@ module _ {M : Type 0} (ex : Execution M) where
     pub actuals_gives : (call : Calls) → CallsMeet call
         → (args : Actuals) (xs : List ℕ) (sc : List Scope) (q : ℕ) (stack : List Entry) (js : List FramePair)
         (o : LocalState)
-        (s : Store) (n : M) → rel.Stand js o s n → P ex sc js (In_actuals args)
+        (s : Store) (n : M) → rel.Agrees js o s n → P ex sc js (In_actuals args)
         → ActualsAt p moves shares (CodeAt code) (HasFork code) (HasWords code) callable sc q args xs
         → G ex js (m.At q stack n) o s (after_actuals q args)
         (λ (gs : List ArgumentValue) (es : List Entry). pushed es stack)
@@ -181,7 +181,7 @@ module _ {M : Type 0} (ex : Execution M) where
         gives_bind ops rel w code (actuals_gives call ok rest xs sc (after_value q e) (en ∷ stack) js o1 s1 n1 t1
         (within (λ u. inr) pl) others) (λ gs es o2 s2 n2 t2 x2.
         gives_give ops rel w code (ValueOf v ∷ gs) (en ∷ es) (stays ops rel w code _) t2
-        (((formal, known, (role_is, subst (λ y. Stood rel p (sort p y) y v en) (sym kind_is) x1)), x2.0), x2.1)))
+        (((formal, known, (role_is, subst (λ y. StackHolds rel p (sort p y) y v en) (sym kind_is) x1)), x2.0), x2.1)))
     actuals_gives call ok (Pass (ByReference (Entire y ss)) rest) (x ∷ xs) sc q stack js o s n t pl
         (kd, place, target, (formal, known, kind_is, role_is), others) =
         gives_bind ops rel w code (place_gives call ok (Entire y ss) kd sc q stack js o s n t
@@ -198,7 +198,7 @@ module _ {M : Type 0} (ex : Execution M) where
   pub address_gives : (call : Calls) → CallsMeet call
       → (v : Var) (k : ℕ) (sc : List Scope) (q : ℕ) (stack : List Entry) (js : List FramePair) (o : LocalState)
       (s : Store) (n : M)
-      → rel.Stand js o s n → P ex sc js (In_target v)
+      → rel.Agrees js o s n → P ex sc js (In_target v)
       → PlaceAt p moves shares (CodeAt code) (HasFork code) (HasWords code) callable sc q v k
       → IsTarget p moves shares (CodeAt code) (HasFork code) (HasWords code) callable v
       → G ex js (m.At q stack n) o s (after_var q v) (λ (b : Address) (u : Ptr). m.Pointer u ∷ stack)
@@ -214,7 +214,7 @@ module _ {M : Type 0} (ex : Execution M) where
   pub ordinal_gives : (call : Calls) → CallsMeet call
       → (e : Expr) (sc : List Scope) (q : ℕ) (stack : List Entry) (js : List FramePair) (o : LocalState) (s : Store)
       (n : M)
-      → rel.Stand js o s n → P ex sc js (In_expr e)
+      → rel.Agrees js o s n → P ex sc js (In_expr e)
       → OrdinalAt p moves shares (CodeAt code) (HasFork code) (HasWords code) callable sc q e
       → G ex js (m.At q stack n) o s (after_value q e) (λ (v : ℤ) (u : Unit {0}). m.Number v ∷ stack) (λ v u. Unit {0})
       (ordinal_of g call e)

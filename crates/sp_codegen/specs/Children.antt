@@ -20,7 +20,7 @@ use Rattle.sp_code.specs.PlainStore.{plain}
 use Rattle.sp_code.specs.NeverStops.{NeverStops}
 use Rattle.sp_code.specs.Scopes.{Scope, OfIndex}
 use Rattle.sp_code.specs.Shares.{SetsAre}
-use Rattle.sp_code.specs.CodeOfTree.{StandsAt, CodeAt, HasFork, HasWords}
+use Rattle.sp_code.specs.CodeOfTree.{StatementAt, CodeAt, HasFork, HasWords}
 use Rattle.sp_code.specs.System.{child_process, handing_of}
 use Rattle.sp_codegen.specs.CompiledRuns.{CompiledRun, code, machine_run, Matches}
 use Rattle.sp_codegen.specs.FramePairs.{FramePair, sources}
@@ -116,7 +116,7 @@ module _ (r : CompiledRun) (f : ForkPoint r) where
     pub placed : IsPlaced r.input r.moves r.shares r.pause f.parent f.scopes f.frames
         (In_stmt (Forall index from to statement))
     pub formed : (u : Use) → In_stmt statement u → IsFormedUse r.input.program u
-    pub body : StandsAt r.input.program r.moves r.shares (CodeAt (code r)) (HasFork (code r)) (HasWords (code r))
+    pub body : StatementAt r.input.program r.moves r.shares (CodeAt (code r)) (HasFork (code r)) (HasWords (code r))
         (NeverStops r.input.program) true (OfIndex index ∷ f.scopes) entry statement
     pub end : slice_get (code r).instrs (after_statement r.input.program entry statement) ≡ Some i.End
     pub handed : HasHanded f.memory (handing_at child.nth (table_at entry (Some index) statement))

@@ -10,7 +10,7 @@ use Rattle.sp_cell.specs.declared.cell.Cell.{Cell}
 use Rattle.sp_cell.specs.declared.cell.Cell.TheVariants as cell
 use Rattle.sp_cell.specs.declared.spot.Address.{Address as Ptr}
 use Rattle.sp_meaning.specs.Maps.{at_key}
-use Rattle.sp_meaning.specs.Model.{Channel, Cargo, Message as MessageCargo, Takes}
+use Rattle.sp_meaning.specs.Model.{Channel, Payload, Message as MessagePayload, Takes}
 use Rattle.sp_meaning.specs.Values.{Chan}
 use Rattle.sp_meaning.specs.LocalWork.{LocationContent, Tree, Position, Written, Address, LocalState, Item, Do, First}
 use Rattle.sp_meaning.specs.LocalWork.{Again, Test, Leave}
@@ -29,16 +29,16 @@ use Rattle.sp_code.specs.Machine as m
 use Rattle.sp_code.specs.Turns.{RunsTo}
 use Rattle.sp_code.specs.Scopes.{Scope, OfIndex, Channels, sort}
 use Rattle.sp_code.specs.Places.{after_statement}
-use Rattle.sp_code.specs.CodeOfTree.{CodeAt, HasFork, HasWords, StandsAt, ChildrenAt, TurnsAt}
+use Rattle.sp_code.specs.CodeOfTree.{CodeAt, HasFork, HasWords, StatementAt, ChildrenAt, TurnsAt}
 use Rattle.sp_code.specs.Emitted.{children_tables, child_table}
 use Rattle.sp_codegen.specs.FramePairs.{FramePair}
 use Rattle.sp_codegen.specs.Executions.{Execution}
-use Rattle.sp_codegen.specs.Relation.{Relation, Placed, Stood}
+use Rattle.sp_codegen.specs.Relation.{Relation, Placed, StackHolds}
 use Rattle.sp_meaning.specs.Turn as source
 
 -- the memory of the machine stands for the store
 abbrev pub StandsFor : {M : Type 0} → Relation M → Config M → Store → Type 0
-StandsFor rel (At pc st n) s = (js : List FramePair) × (o : LocalState) × rel.Stand js o s n
+StandsFor rel (At pc st n) s = (js : List FramePair) × (o : LocalState) × rel.Agrees js o s n
 
 -- the machine comes to an instruction that fails, and its memory stands for the store that the meaning then has
 pub record RunsToFault {M : Type 0} (ops : Ops M) (rel : Relation M) (code : Code) (c : Config M) (f : Fault)
@@ -91,7 +91,8 @@ module _ {M : Type 0} (ex : Execution M) where
 
   abbrev pub Turns : Bool → List Scope → ℕ → ℕ → Bool → Stmt → Type 0
   Turns free sc q x down s = TurnsAt p moves shares (CodeAt code) (HasFork code) (HasWords code) callable sc q x down
-      (after_statement p (q + 1 + 1) s) (StandsAt p moves shares (CodeAt code) (HasFork code) (HasWords code) callable
+      (after_statement p (q + 1 + 1) s) (StatementAt p moves shares (CodeAt code) (HasFork code)
+      (HasWords code) callable
       free sc
       (q + 1 + 1) s)
 
@@ -101,7 +102,8 @@ module _ {M : Type 0} (ex : Execution M) where
   CodeFollows end base below pc stack fs [] = Slides pc end stack × (stack ≡ base) × (fs ≡ below)
   CodeFollows end base below pc stack fs (Do s ∷ todo) =
       (q : ℕ) × (sc : List Scope) × Slides pc q stack × Pl sc fs (In_stmt s)
-      × (StandsAt p moves shares (CodeAt code) (HasFork code) (HasWords code) callable (is_in_no_function stack) sc q s)
+      × (StatementAt p moves shares (CodeAt code) (HasFork code) (HasWords code) callable
+      (is_in_no_function stack) sc q s)
       × CodeFollows end base below (after_statement p q s) stack fs todo
   CodeFollows end base below pc stack fs (First x low high down s ∷ todo) =
       (q : ℕ) × (sc : List Scope) × (st : List Entry) × Slides pc q stack × (stack ≡ m.Number high ∷ m.Number low ∷ st)
@@ -113,7 +115,7 @@ module _ {M : Type 0} (ex : Execution M) where
       × CodeFollows end base below (after_statement p (q + 1 + 1) s + 1) st fs todo
   CodeFollows end base below pc stack fs (Test s e ∷ todo) =
       (q : ℕ) × (sc : List Scope) × Slides pc (after_statement p (q + 1) s) stack × Pl sc fs (In_stmt (Repeat s e))
-      × (StandsAt p moves shares (CodeAt code) (HasFork code) (HasWords code) callable (is_in_no_function stack) sc q
+      × (StatementAt p moves shares (CodeAt code) (HasFork code) (HasWords code) callable (is_in_no_function stack) sc q
       (Repeat s e)) × CodeFollows end base below (after_statement p q (Repeat s e)) stack fs todo
   CodeFollows end base below pc stack fs (Leave ∷ todo) =
       (q r : ℕ) × (st : List Entry) × (f : FramePair) × (rest : List FramePair) × Slides pc q stack
@@ -123,12 +125,12 @@ module _ {M : Type 0} (ex : Execution M) where
   CodeFollows end base below pc stack fs (Break f ∷ todo) = ⊥
 
   -- what is sent or received, at the stop
-  abbrev pub CargoIs : List FramePair → Channel → ℕ → Cargo LocationContent Address → Stop → Type 0
-  CargoIs fs c k (MessageCargo (Tree v)) z = (j : ℕ) × (e : Entry) × (z ≡ Sends j k (cells_in e)) × rel.Named c j
-      × Stood rel p (sort p k) k v e
-  CargoIs fs c k (MessageCargo (Position n)) z = ⊥
-  CargoIs fs c k (MessageCargo (Written bs)) z = ⊥
-  CargoIs fs c k (Takes a) z = (j : ℕ) × (t : Ptr) × (z ≡ Receives j k t) × rel.Named c j × (a.kind ≡ k)
+  abbrev pub PayloadIs : List FramePair → Channel → ℕ → Payload LocationContent Address → Stop → Type 0
+  PayloadIs fs c k (MessagePayload (Tree v)) z = (j : ℕ) × (e : Entry) × (z ≡ Sends j k (cells_in e)) × rel.Named c j
+      × StackHolds rel p (sort p k) k v e
+  PayloadIs fs c k (MessagePayload (Position n)) z = ⊥
+  PayloadIs fs c k (MessagePayload (Written bs)) z = ⊥
+  PayloadIs fs c k (Takes a) z = (j : ℕ) × (t : Ptr) × (z ≡ Receives j k t) × rel.Named c j × (a.kind ≡ k)
       × rel.Points fs a t × R a.spot
 
   -- the children of a parallel statement with their code, which begins at q
@@ -147,7 +149,7 @@ module _ {M : Type 0} (ex : Execution M) where
       × (z ≡ Forks table lo (values_in lo hi))
       × HasFork code table (record { children = child_table p moves shares q (Some x) s ∷ [] })
       × (bs ≡ indexed_children x s lo (nat_abs ((hi -ℤ lo) +ℤ pos 1))) × (int_lt hi lo ≡ false)
-      × StandsAt p moves shares (CodeAt code) (HasFork code) (HasWords code) callable free (OfIndex x ∷ sc) q s
+      × StatementAt p moves shares (CodeAt code) (HasFork code) (HasWords code) callable free (OfIndex x ∷ sc) q s
       × (slice_get code.instrs (after_statement p q s) ≡ Some i.End) × Pl sc fs (In_stmt (Forall x from to s))
 
   abbrev pub ForkIs : Bool → List FramePair → List Birth → Stop → Type 0
@@ -157,29 +159,30 @@ module _ {M : Type 0} (ex : Execution M) where
   abbrev pub Made : Config M → (List Item → List FramePair → ℕ → List Entry → Type 0) → WorkOutcome Action × Store
       → Type 0
   Made c Q (Computed (Stepped todo) o, s) = (pc : ℕ) × (st : List Entry) × (n : M) × (fs : List FramePair)
-      × RunsTo ops code c (At pc st n) × rel.Stand fs o s n × Q todo fs pc st
+      × RunsTo ops code c (At pc st n) × rel.Agrees fs o s n × Q todo fs pc st
   Made c Q (Computed (Ticked todo) o, s) =
       (pc : ℕ) × (st : List Entry) × (n : M) × (fs : List FramePair) × (d : Config M) × RunsTo ops code c d
-      × (next_step ops code d ≡ pause_step ops code pc st n) × rel.Stand fs o s n × Q todo fs pc st
+      × (next_step ops code d ≡ pause_step ops code pc st n) × rel.Agrees fs o s n × Q todo fs pc st
   Made c Q (Computed (Opened todo) o, s) =
       (pc : ℕ) × (st : List Entry) × (n : M) × (fs : List FramePair) × (d : Config M) × (a : Address) × (t : Ptr)
-      × (s0 : Store) × RunsTo ops code c d × (next_step ops code d ≡ Stops (Opens t) (At pc st n)) × rel.Stand fs o s0 n
+      × (s0 : Store) × RunsTo ops code c d × (next_step ops code d ≡ Stops (Opens t) (At pc st n))
+      × rel.Agrees fs o s0 n
       × rel.Points fs a t × R a.spot
       × (s ≡ at_key same_loc a.spot
       (content_with a (s0 a.spot) (Tree (Chan (record { owner = w.name; nth = w.opens }))))
       s0) × Q todo fs pc st × (is_in_no_function st ≡ true) × (sort p a.kind ≡ Channels)
   Made c Q (Computed (Forked bs todo) o, s) =
       (pc : ℕ) × (st : List Entry) × (n : M) × (fs : List FramePair) × (d : Config M) × (z : Stop) × RunsTo ops code c d
-      × (next_step ops code d ≡ Stops z (At pc st n)) × rel.Stand fs o s n × Q todo fs pc st
+      × (next_step ops code d ≡ Stops z (At pc st n)) × rel.Agrees fs o s n × Q todo fs pc st
       × (is_in_no_function st ≡ true)
       × ForkIs (is_in_no_function st) fs bs z × (nat_lt o.depth g.limits.depth ≡ true)
   Made c Q (Computed (Offered ch k g todo) o, s) =
       (pc : ℕ) × (st : List Entry) × (n : M) × (fs : List FramePair) × (d : Config M) × (z : Stop) × RunsTo ops code c d
-      × (next_step ops code d ≡ Stops z (At pc st n)) × rel.Stand fs o s n × CargoIs fs ch k g z × Q todo fs pc st
+      × (next_step ops code d ≡ Stops z (At pc st n)) × rel.Agrees fs o s n × PayloadIs fs ch k g z × Q todo fs pc st
       × (is_in_no_function st ≡ true) × IsOwned ops z n
   Made c Q (Computed actions.Ended o, s) = (pc : ℕ) × (st : List Entry) × (n : M) × (fs : List FramePair)
       × RunsTo ops code c (At pc st n) × (next_step ops code (At pc st n) ≡ Stops Ended (At pc st n))
-      × rel.Stand fs o s n
+      × rel.Agrees fs o s n
       × Q [] fs pc st × (is_in_no_function st ≡ true)
   Made c Q (EndsInFault f, s) = RunsToFault ops rel code c f s
   Made c Q (IllFormed, s) = ⊥
@@ -190,7 +193,7 @@ module _ {M : Type 0} (ex : Execution M) where
   abbrev pub Turned : Config M → ℕ → List Entry → List FramePair → WorkOutcome source.Stop × Store → Type 0
   Turned c end base below (Computed (source.Paused todo) o, s) =
       (pc : ℕ) × (st : List Entry) × (n : M) × (fs : List FramePair) × (d : Config M) × RunsTo ops code c d
-      × (next_step ops code d ≡ Stops Pauses (At pc st n)) × rel.Stand fs o s n
+      × (next_step ops code d ≡ Stops Pauses (At pc st n)) × rel.Agrees fs o s n
       × CodeFollows end base below pc st fs todo
   Turned c end base below (Computed (source.Stops d) o, s) =
       Made c (λ todo fs pc st. CodeFollows end base below pc st fs todo) (Computed d o, s)

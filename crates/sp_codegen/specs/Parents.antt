@@ -23,10 +23,10 @@ use Rattle.sp_code.specs.Memory.{Memory, position_at}
 use Rattle.sp_code.specs.Places.{after_statement}
 use Rattle.sp_code.specs.PlainStore.{piece_of}
 use Rattle.sp_code.specs.Scopes.{Scope, slot}
-use Rattle.sp_code.specs.CodeOfTree.{CodeAt, HasFork, HasWords, StandsAt}
+use Rattle.sp_code.specs.CodeOfTree.{CodeAt, HasFork, HasWords, StatementAt}
 use Rattle.sp_codegen.specs.FramePairs.{FramePair, pairs_from}
 use Rattle.sp_codegen.specs.ProcessInfos.{ProcessInfo, code_of, Named, Called, IsWritableLoc, IsReadable, Indexes}
-use Rattle.sp_codegen.specs.Standing.{spot_at, Live, HeldAt, Stand}
+use Rattle.sp_codegen.specs.Standing.{spot_at, Live, HeldAt, Agrees}
 
 module _ (p : Program) (moves shares : Stmt → List ℕ) (code : Code) (callable : ℕ → Type 0) (free : Bool)
     (sc : List Scope) where
@@ -37,7 +37,7 @@ module _ (p : Program) (moves shares : Stmt → List ℕ) (code : Code) (callabl
     pub table : slice_get (children_tables p moves shares q ss) k
         ≡ Some (child_table p moves shares entry None statement)
     pub birth : b ≡ record { todo = push statement []; index = None }
-    pub body : StandsAt p moves shares (CodeAt code) (HasFork code) (HasWords code) callable free sc entry statement
+    pub body : StatementAt p moves shares (CodeAt code) (HasFork code) (HasWords code) callable free sc entry statement
     pub end : slice_get code.instrs (after_statement p entry statement) ≡ Some i.End
     pub inside : (u : Use) → In_stmt statement u → In_stmts ss u
 
@@ -59,7 +59,7 @@ module _ (g : RunInput) (code : Code) (w : Identity) (Names : Channel → ℕ �
       (mp : Map) : Type
       0 where
     pub store : Store
-    pub before : Stand g code w Names Calls W R J low base born since pause moved js o store n
+    pub before : Agrees g code w Names Calls W R J low base born since pause moved js o store n
     pub known : (q : Spot) → IsSome (fin.get mp q) → IsSome (fin.get n.store.map q)
     pub unaway : (q : Spot) → fin.get mp q ≡ Some Away → A q
     pub held : (q : Name) (h x : ℕ) → (l : Live g.program js q h x) → R (Cell q h x)

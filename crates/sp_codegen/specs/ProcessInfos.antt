@@ -31,20 +31,20 @@ use Rattle.sp_code.specs.PlainStore.{plain}
 use Rattle.sp_code.specs.NeverStops.{NeverStops}
 use Rattle.sp_code.specs.Scopes.{Scope, level, is_index}
 use Rattle.sp_code.specs.Sizes.{HasSmallTypes}
-use Rattle.sp_code.specs.CodeOfTree.{IsFine}
+use Rattle.sp_code.specs.CodeOfTree.{IsSoundBlock}
 use Rattle.sp_codegen.specs.Executions.{Execution}
 use Rattle.sp_codegen.specs.Following.{CodeFollows}
 use Rattle.sp_codegen.specs.FramePairs.{FramePair, sources, up_at}
 use Rattle.sp_codegen.specs.TurnAgrees.{code_run, due_after}
 use Rattle.sp_codegen.specs.Relation.{Relation, KeepsRelation, Placed}
-use Rattle.sp_codegen.specs.Standing.{Stand, relation}
+use Rattle.sp_codegen.specs.Standing.{Agrees, relation}
 
 -- a tree that the code of a program may be made of
 pub record IsCompilable (p : Program) (moves shares : Stmt → List ℕ) : Type 0 where
   pub formed : IsFormed p
   pub small : HasSmallTypes p
   pub free : IsFreeOfInterference p
-  pub fine : (f q : ℕ) (b : Block) → slice_get p.blocks f ≡ Some b → IsFine p moves shares (NeverStops p) f q b
+  pub fine : (f q : ℕ) (b : Block) → slice_get p.blocks f ≡ Some b → IsSoundBlock p moves shares (NeverStops p) f q b
 
 -- what a process has beside its own: the first one the input and the output, a child what its statement has to do with
 -- in the frames of its parent. scopes, frames: those in which it begins
@@ -122,7 +122,7 @@ module _ (g : RunInput) (moves shares : Stmt → List ℕ) (pause : ℕ) (life :
 
   -- its memory stands for its own part and what it holds of the store
   abbrev pub MemoryMatches : List FramePair → LocalState → Store → Memory Plain → Type 0
-  MemoryMatches js o s n = Stand g code_of life.who Named Called IsWritableLoc IsReadable Indexes life.low life.base
+  MemoryMatches js o s n = Agrees g code_of life.who Named Called IsWritableLoc IsReadable Indexes life.low life.base
       life.born
       life.since pause life.moved js o s n
 

@@ -34,7 +34,7 @@ EndsAlike g c (Computed (source.Stops (Opened todo)) o, s) = (a : Address) × (d
     × IsTurn (memory plain g) g.code c (Stopped (Opens a) d)
 EndsAlike g c (Computed (source.Stops (Forked bs todo)) o, s) = (stop : Stop) × (d : Config (Memory Plain))
     × IsTurn (memory plain g) g.code c (Stopped stop d)
-EndsAlike g c (Computed (source.Stops (Offered ch k cargo todo)) o, s) = (stop : Stop) × (d : Config (Memory Plain))
+EndsAlike g c (Computed (source.Stops (Offered ch k payload todo)) o, s) = (stop : Stop) × (d : Config (Memory Plain))
     × IsTurn (memory plain g) g.code c (Stopped stop d)
 EndsAlike g c (Computed (source.Stops Ended) o, s) = (d : Config (Memory Plain))
     × IsTurn (memory plain g) g.code c (Stopped Ends d)

@@ -14,10 +14,10 @@ use Rattle.sp_tree.specs.Interference.{IsFreeOfInterference}
 use Rattle.sp_types.specs.TypeFirst.{types_broken}
 use Rattle.sp_types.specs.CheckedTree.{program_checked}
 use Rattle.sp_code.specs.Sizes.{HasSmallTypes}
-use Rattle.sp_code.specs.CodeOfTree.{IsFine}
+use Rattle.sp_code.specs.CodeOfTree.{IsSoundBlock}
 use Rattle.sp_code.specs.NeverStops.{NeverStops}
 use Rattle.sp_facts.specs.AcceptedTree.{KeepsInterference, IsAccepted}
-use Rattle.sp_facts.proofs.FineBlocks.{block_fine}
+use Rattle.sp_facts.proofs.SoundBlocks.{block_fine}
 use Rattle.sp_facts.proofs.BlockIndices.{indices_typed}
 use Rattle.sp_facts.proofs.TablesKnow.{knows}
 use Rattle.sp_facts.proofs.Enumerations.{program_given}
@@ -44,7 +44,7 @@ module _ (s : syntax.Program) (calm : broken_name_rules s ≡ []) (no_types : ty
   p_ = without_places (program_checked (program_named s))
 
   fine : (moves shares : Stmt → List ℕ) (f q : ℕ) (b : plain.Block) → slice_get p_.blocks f ≡ Some b
-      → IsFine p_ moves shares (NeverStops p_) f q b
+      → IsSoundBlock p_ moves shares (NeverStops p_) f q b
   fine moves shares f q b at = block_fine s calm no_types (program_free s calm kept)
       (λ f x b at ans. function_is_silent (program_checked (program_named s)) kept f x b at ans)
       (knows s calm no_types (program_given s calm) (program_answers s calm no_types)) (indices_typed s calm) moves
@@ -52,10 +52,10 @@ module _ (s : syntax.Program) (calm : broken_name_rules s ≡ []) (no_types : ty
 
 pub accepted_fine : (text : List ℕ) (g : c.Program) → IsAccepted text g
     → (moves shares : Stmt → List ℕ) (f q : ℕ) (b : plain.Block) → slice_get (without_places g).blocks f ≡ Some b
-    → IsFine (without_places g) moves shares (NeverStops (without_places g)) f q b
+    → IsSoundBlock (without_places g) moves shares (NeverStops (without_places g)) f q b
 accepted_fine text g accepted moves shares f q b at =
     accepted_by (λ (z : c.Program). slice_get (without_places z).blocks f ≡ Some b
-    → IsFine (without_places z) moves shares (NeverStops (without_places z)) f q b) text g accepted
+    → IsSoundBlock (without_places z) moves shares (NeverStops (without_places z)) f q b) text g accepted
     (λ s is calm no_types kept at. fine s calm no_types kept moves shares f q b at) at
 
 pub accepted_free : (text : List ℕ) (g : c.Program) → IsAccepted text g → IsFreeOfInterference (without_places g)

@@ -46,7 +46,7 @@ use Rattle.sp_types.specs.CheckedTree.{checked_statement, checked_statement_form
 use Rattle.sp_types.specs.CheckedTree.{checked_branches, in_sequence, first_place, constant_numbers}
 use Rattle.sp_tree.specs.Bare.{bare_statement, bare_statement_form, bare_statements, bare_arms}
 use Rattle.sp_facts.specs.MatchingTables.{IsTyped, IsTypedForm, AreTyped, AreTypedArms, AreTypedBranches}
-use Rattle.sp_code.specs.CodeOfTree.{IsCallable, StandsAt, AllAt, ChildrenAt, ArmsAt, RightAt, OrdinalAt, TestAt}
+use Rattle.sp_code.specs.CodeOfTree.{IsCallable, StatementAt, AllAt, ChildrenAt, ArmsAt, RightAt, OrdinalAt, TestAt}
 use Rattle.sp_code.specs.CodeOfTree.{TestsAt}
 use Rattle.sp_facts.specs.Scoped.{IsInForall, InStatement, InStatementForm, InStatements, InArms, InBranches}
 use Rattle.sp_facts.proofs.Expressions.{form_fine, ordinal_sort, expression_fine, variable_fine, actuals_fine, call_at}
@@ -194,7 +194,7 @@ module _ (p : Program) (m : ℕ) where
 
   module _ (moves shares : Stmt → List ℕ) (callable : ℕ → Type 0) where
     abbrev pub StatementHasCode : Bool → List Scope → Stmt → Type 0
-    StatementHasCode free sc s = (q : ℕ) → StandsAt p moves shares AnyInstr AnyTable AnyText callable free sc q s
+    StatementHasCode free sc s = (q : ℕ) → StatementAt p moves shares AnyInstr AnyTable AnyText callable free sc q s
 
     -- what may stand where a function is being called, and in a forall: the rules of interference say so
     abbrev pub KeepsRulesHere : Bool → List Scope → (Use → Type 0) → Type 0
@@ -380,7 +380,7 @@ module _ (p : Program) (m : ℕ) where
             (not_if_none rule.Y5 eat (differ (selected env (n.Entire x name ss)) (form_kind env form)) one.1) in
             let v = bare_variable (checked_variable env (n.Entire x name ss)) in (
               grown_to_itself env ready.0,
-              λ q. subst (λ z. StandsAt p moves shares AnyInstr AnyTable AnyText callable free sc q
+              λ q. subst (λ z. StatementAt p moves shares AnyInstr AnyTable AnyText callable free sc q
                   (plain.Assign v (plain.Typed z (bare_form (checked_form env form))))) (sym (ap or_zero re.1)) (
                     subst (λ z. PlaceAt p moves shares AnyInstr AnyTable AnyText callable sc q v z) is (rv.3 q),
                     aimed,

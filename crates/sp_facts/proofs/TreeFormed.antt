@@ -29,7 +29,7 @@ use Rattle.sp_types.specs.TypeFirst.{types_broken}
 use Rattle.sp_types.specs.TypeWalk.{starts_of, blocks_after}
 use Rattle.sp_types.specs.CheckedTree.{checked_branches, program_checked}
 use Rattle.sp_code.specs.Scopes.{scopes_of}
-use Rattle.sp_code.specs.CodeOfTree.{IsFine}
+use Rattle.sp_code.specs.CodeOfTree.{IsSoundBlock}
 use Rattle.sp_facts.specs.Earlier.{HaveTypes}
 use Rattle.sp_code.specs.NeverStops.{NeverStops}
 use Rattle.sp_facts.specs.ConstantsDeclared.{HasOrdinalConstants}
@@ -120,7 +120,7 @@ module _ (s : syntax.Program) (calm : broken_name_rules s ≡ []) (no_types : ty
 
   module _ (filled : AreNonEmptyKinds n_.kinds) (split : BlocksSatisfy AnyIndex IsSplit n_.blocks)
       (fine : (f : ℕ) (b : plain.Block) → slice_get p_.blocks f ≡ Some b
-      → IsFine p_ (λ s. []) (λ s. []) (NeverStops p_) f 0 b) where
+      → IsSoundBlock p_ (λ s. []) (λ s. []) (NeverStops p_) f 0 b) where
     -- a parallel statement has a process statement
     abbrev HasProcess : Use → Type 0
     HasProcess (ParallelOf ss) = ss ≡ No → ⊥

@@ -15,7 +15,8 @@ use Rattle.sp_tree.specs.Uses as use_of
 use Rattle.sp_code.specs.Scopes.{Sort, Ordinals, Channels, Many, NoSort, Scope, OfIndex, sort}
 use Rattle.sp_code.specs.Places.{after_value, after_var, after_tests, after_statement}
 use Rattle.sp_code.specs.CodeOfTree.{NoIndex, VarRole, VarAt, IsTarget, ValueAt, FormAt, PlaceAt, SelectedAt, ActualsAt}
-use Rattle.sp_code.specs.CodeOfTree.{WidthAt, RightAt, StandsAt, AllAt, ChildrenAt, ArmsAt, AnyInstr, AnyTable, AnyText}
+use Rattle.sp_code.specs.CodeOfTree.{WidthAt, RightAt, StatementAt, AllAt, ChildrenAt, ArmsAt, AnyInstr, AnyTable}
+use Rattle.sp_code.specs.CodeOfTree.{AnyText}
 
 module _ (p : Program) (input : (v : Variable) × (slice_get p.variables 0 ≡ Some v) × (v.role ≡ role.Console))
     (output : (v : Variable) × (slice_get p.variables 1 ≡ Some v) × (v.role ≡ role.Console))
@@ -44,7 +45,7 @@ module _ (p : Program) (input : (v : Variable) × (slice_get p.variables 0 ≡ S
   Target = IsTarget p moves shares AnyInstr AnyTable AnyText callable
 
   abbrev StatementInCode : List Scope → ℕ → Stmt → Type 0
-  StatementInCode = StandsAt p moves shares AnyInstr AnyTable AnyText callable true
+  StatementInCode = StatementAt p moves shares AnyInstr AnyTable AnyText callable true
 
   no_index : (r : Role) → NoIndex r → r ≡ role.Index → ⊥
   no_index role.Index d e = d

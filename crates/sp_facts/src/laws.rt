@@ -11,7 +11,7 @@ ghost use Rattle.sp_types.specs.TypeFirst.{types_broken};
 ghost use Rattle.sp_facts.specs.Earlier.{AreFormedKinds};
 ghost use Rattle.sp_facts.specs.PartsInTables.{AreScoped};
 ghost use Rattle.sp_code.specs.Sizes.{HasSmallTypes};
-ghost use Rattle.sp_code.specs.CodeOfTree.{IsFine};
+ghost use Rattle.sp_code.specs.CodeOfTree.{IsSoundBlock};
 ghost use Rattle.sp_tree.specs.PlainChecked.{Program as Checked};
 ghost use Rattle.sp_tree.specs.Bare.{without_places};
 ghost use Rattle.sp_types.specs.CheckedTree.{program_checked};
@@ -56,7 +56,7 @@ pub fn blocks_are_fine()
         → IsFreeOfInterference (tree s)
         → ((f x : ℕ) (b : Block) → slice_get (tree s).blocks f ≡ Some b → b.answer ≡ Some x → NeverStops (tree s) f)
         → (moves shares : Stmt → List ℕ) (f q : ℕ) (c : Block) → slice_get (tree s).blocks f ≡ Some c
-        → IsFine (tree s) moves shares (NeverStops (tree s)) f q c }
+        → IsSoundBlock (tree s) moves shares (NeverStops (tree s)) f q c }
 {}
 
 /// A text that breaks no rule has a tree that is formed, has small types and is free of interference, and each block of
@@ -67,5 +67,5 @@ pub fn accepted_trees_are_fine()
     ensures free { (text : List ℕ) (c : Checked) → IsAccepted text c → IsFreeOfInterference (without_places c) }
     ensures fine { (text : List ℕ) (c : Checked) → IsAccepted text c
         → (moves shares : Stmt → List ℕ) (f q : ℕ) (b : Block) → slice_get (without_places c).blocks f ≡ Some b
-        → IsFine (without_places c) moves shares (NeverStops (without_places c)) f q b }
+        → IsSoundBlock (without_places c) moves shares (NeverStops (without_places c)) f q b }
 {}

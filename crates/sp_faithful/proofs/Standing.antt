@@ -39,7 +39,7 @@ use Rattle.sp_meaning.proofs.Owned.{ConditionInRights, Keeps_to}
 use Rattle.sp_meaning.proofs.Rights.{OwnLocation, OwnOrGiven}
 use Rattle.sp_meaning.specs.Along.{no_course}
 use Rattle.sp_meaning.specs.LocalWork.{Address, EndsInFault, Loc, LocationContent, Process, RunInput}
-use Rattle.sp_meaning.specs.Model.{Absent, Cargo, Ended, Joins, Message, Takes, Waits, Works}
+use Rattle.sp_meaning.specs.Model.{Absent, Payload, Ended, Joins, Message, Takes, Waits, Works}
 use Rattle.sp_meaning.specs.Owning.{MayTake}
 use Rattle.sp_meaning.specs.Run.{Store, run as run_on}
 use Rattle.sp_meaning.specs.Runs.{StateOf, start}
@@ -83,9 +83,9 @@ waited : (p : Program) (W R : Name → Loc → Type 0) (f : Name → ℕ) (q : N
     → ConditionInRights p W R f q x → (l : Loc) → IsWaitedFor x l → OwnOrGiven W q l
 waited p W R f q Absent h l u = absurd u
 waited p W R f q (Works o) h l u = absurd u
-waited p W R f q (Waits o) h l u = go o.cargo h.1 u
+waited p W R f q (Waits o) h l u = go o.payload h.1 u
   where
-    go : (k : Cargo LocationContent Address) → MayTake p (OwnOrGiven W q) (OwnOrGiven R q) k → GoesTo k l
+    go : (k : Payload LocationContent Address) → MayTake p (OwnOrGiven W q) (OwnOrGiven R q) k → GoesTo k l
         → OwnOrGiven W q l
     go (Message v) m u = absurd u
     go (Takes a) m u = subst (OwnOrGiven W q) u m

@@ -33,7 +33,7 @@ use Rattle.sp_meaning.specs.LocalWork.{Again, Address, Break, Do, First, Frame, 
 use Rattle.sp_meaning.specs.LocalWork.{EndsInFault, LocalState, LocationContent, Process, RunInput, Test}
 use Rattle.sp_meaning.specs.LocalWork.{reference_target, value_in}
 use Rattle.sp_meaning.specs.Model as meaning
-use Rattle.sp_meaning.specs.Model.{Cargo, Message, Name, Takes}
+use Rattle.sp_meaning.specs.Model.{Payload, Message, Name, Takes}
 use Rattle.sp_meaning.specs.Owning.{frames_below, location_of}
 use Rattle.sp_meaning.specs.Run.{Store, run}
 use Rattle.sp_meaning.specs.Turn.{turn}
@@ -81,13 +81,13 @@ process_in meaning.Ended = None
 -- ---- what a process may read
 
 -- what an offer takes goes there
-abbrev pub GoesTo : Cargo LocationContent Address → Loc → Type 0
+abbrev pub GoesTo : Payload LocationContent Address → Loc → Type 0
 GoesTo (Message v) l = ⊥
 GoesTo (Takes a) l = a.spot ≡ l
 
 -- a process in this condition waits for what will go there
 abbrev pub IsWaitedFor : Situation → Loc → Type 0
-IsWaitedFor (meaning.Waits offer) l = GoesTo offer.cargo l
+IsWaitedFor (meaning.Waits offer) l = GoesTo offer.payload l
 IsWaitedFor _ _ = ⊥
 
 module _ (p : bare.Program) where

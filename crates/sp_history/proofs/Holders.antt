@@ -514,7 +514,7 @@ module _ (g : CodeRun) where
   abbrev pub AllSafe : System Plain → Type 0
   AllSafe s = (es : List Entry) (t : System Plain) → EntriesLead plain g s es t → IsSafeSystem g t
 
-  record Fine (s : System Plain) : Type 0 where
+  record SystemInvariant (s : System Plain) : Type 0 where
     held : HasHolder s
     counted : IsCounted s
     born : IsBorn s.births
@@ -522,7 +522,7 @@ module _ (g : CodeRun) where
 
   enters_fine : (k : Control) (s t : System Plain) (p w : ℕ) (e : Event) → IsOrderly k → AgreesWithSystem k s
       → HasChildren k
-      → k.doing p ≡ Out w → EntryLeads plain g s p e t → Fine s → Fine t
+      → k.doing p ≡ Out w → EntryLeads plain g s p e t → SystemInvariant s → SystemInvariant t
   enters_fine k s t p w e o a c out n f = record {
     held = subst HasHolder (sym n.5) (after_held g s p n.0 n.1 f.held f.counted f.born (f.safe [] s refl) joins n.2
         n.3);
@@ -541,16 +541,17 @@ module _ (g : CodeRun) where
           (j.0, d.0, d.1)
 
   gives_fine : (w : ℕ) (give : Option ℕ) (e : Option Event) (got : Option ℕ) (k : Control) (s t : System Plain)
-      → IsOrderly k → AgreesWithSystem k s → HasChildren k → GiveIsLegal plain g k s w give e got t → Fine s → Fine t
-  gives_fine w None None got k s t o a c i f = subst Fine (sym i) f
+      → IsOrderly k → AgreesWithSystem k s → HasChildren k → GiveIsLegal plain g k s w give e got t → SystemInvariant s
+      → SystemInvariant t
+  gives_fine w None None got k s t o a c i f = subst SystemInvariant (sym i) f
   gives_fine w None (Some e) got k s t o a c i f = absurd i
-  gives_fine w (Some p) None got k s t o a c i f = subst Fine (sym i.2) f
+  gives_fine w (Some p) None got k s t o a c i f = subst SystemInvariant (sym i.2) f
   gives_fine w (Some p) (Some e) got k s t o a c i f = enters_fine k s t p w e o a c i.0 i.1 f
 
   reaches_fine : (k : Control) (s t : System Plain) (ns : List Note) → IsOrderly k → AgreesWithSystem k s
-      → HasChildren k → Fine s
-      → Reaches plain g k s ns t → Fine t
-  reaches_fine k s t [] o a c f r = subst Fine r f
+      → HasChildren k → SystemInvariant s
+      → Reaches plain g k s ns t → SystemInvariant t
+  reaches_fine k s t [] o a c f r = subst SystemInvariant r f
   reaches_fine k s t (n ∷ ns) o a c f r =
       let w = keeps plain g k s r.0 n o a r.1 in
       reaches_fine (after_note n k) r.0 t ns w.0 w.1

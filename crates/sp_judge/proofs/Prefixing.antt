@@ -16,11 +16,12 @@ use Rattle.sp_judge.specs.Prefixes.{KnowsPrefixes, KnowsCounted}
 use Rattle.sp_judge.proofs.Keys.{channel_is, channel_itself}
 
 -- a set of indices of these entries that is closed under earlier entries of the same process
-pub record IsFine (es : List Occurrence) (f : ℕ → Bool) : Type 0 where
+pub record IsPrefixClosed (es : List Occurrence) (f : ℕ → Bool) : Type 0 where
   pub closed : (q : Name) (i k : ℕ) → f i ≡ true → Counts es q i → Counts es q k → k ≤ i → f k ≡ true
   pub counted : (i : ℕ) → f i ≡ true → (q : Name) × Counts es q i
 
-union_fine : (es : List Occurrence) (f g : ℕ → Bool) → IsFine es f → IsFine es g → IsFine es (λ i. f i || g i)
+union_fine : (es : List Occurrence) (f g : ℕ → Bool) → IsPrefixClosed es f → IsPrefixClosed es g
+    → IsPrefixClosed es (λ i. f i || g i)
 union_fine es f g a b = record {
   closed = λ q i k h c d l. ⊎_elim (λ (x : f i ≡ true). or_left (f k) (g k) (a.closed q i k x c d l))
       (λ (x : g i ≡ true). or_right (f k) (g k) (b.closed q i k x c d l)) (or_cases (f i) (g i) h);
@@ -105,7 +106,7 @@ module _ (es : List Occurrence) (e : Occurrence) where
       let f = same_Some _ _ (sym (get_last es e) ∙ c.1) in
       (ap (λ (x : Occurrence). x.who) f, ap (λ (x : Occurrence). is_counted x.what) f ∙ c.2)
 
-  fine_more : (f : ℕ → Bool) → IsFine es f → IsFine more f
+  fine_more : (f : ℕ → Bool) → IsPrefixClosed es f → IsPrefixClosed more f
   fine_more f a = record {
     closed = λ q i k h c d l.
         let b = a.counted i h in
@@ -116,7 +117,7 @@ module _ (es : List Occurrence) (e : Occurrence) where
 
 -- what is kept from entry to entry
 pub record PrefixesAreKnown (j : Knowledge) (es : List Occurrence) : Type 0 where
-  pub fine : (q : Name) → IsFine es (j.past q)
+  pub fine : (q : Name) → IsPrefixClosed es (j.past q)
   pub own : (q : Name) (k : ℕ) → Counts es q k → (j.past q k ≡ true) ⊎ ((c : Channel) × (j.pending c ≡ Some (q, k)))
   pub waiting : (c : Channel) (z : Name) (k : ℕ) → j.pending c ≡ Some (z, k) → Counts es z k
   pub single : (c d : Channel) (z : Name) (k l : ℕ) → j.pending c ≡ Some (z, k) → j.pending d ≡ Some (z, l) → c ≡ d
@@ -145,11 +146,11 @@ module _ (j : Knowledge) (es : List Occurrence) (e : Occurrence) (kept : Prefixe
       ⊎ ((c : Channel) × (j.pending c ≡ Some (q, k)))
   low_own q k l c = kept.own q k (counts_low es e q k l c)
 
-  past_fine : (q : Name) → IsFine (es ++ e ∷ []) (j.past q)
+  past_fine : (q : Name) → IsPrefixClosed (es ++ e ∷ []) (j.past q)
   past_fine q = fine_more es e (j.past q) (kept.fine q)
 
   module _ (counted : is_counted e.what ≡ true) where
-    mine : IsFine (es ++ e ∷ []) (known_with j e.who n)
+    mine : IsPrefixClosed (es ++ e ∷ []) (known_with j e.who n)
     mine = record { closed = closed; counted = known }
       where
         last : (q : Name) (k : ℕ) → e.who ≡ q → Counts (es ++ e ∷ []) q k → k ≤ n → known_with j e.who n k ≡ true
@@ -183,7 +184,7 @@ module _ (j : Knowledge) (es : List Occurrence) (e : Occurrence) (kept : Prefixe
             (or_cases (j.past e.who i) (n == i) h)
 
     -- an entry that changes no offer
-    grown : (j' : Knowledge) → j'.pending ≡ j.pending → ((q : Name) → IsFine (es ++ e ∷ []) (j'.past q))
+    grown : (j' : Knowledge) → j'.pending ≡ j.pending → ((q : Name) → IsPrefixClosed (es ++ e ∷ []) (j'.past q))
         → ((q : Name) (i : ℕ) → j.past q i ≡ true → j'.past q i ≡ true) → j'.past e.who n ≡ true
         → PrefixesAreKnown j' (es ++ e ∷ [])
     grown j' same fine' more' here = record {
@@ -246,7 +247,7 @@ module _ (j : Knowledge) (es : List Occurrence) (e : Occurrence) (kept : Prefixe
 
     -- an offer that meets the one that waits
     module _ (c : Channel) (o : Name × ℕ) (met : j.pending c ≡ Some o) where
-      theirs : IsFine (es ++ e ∷ []) (known_with j o.0 o.1)
+      theirs : IsPrefixClosed (es ++ e ∷ []) (known_with j o.0 o.1)
       theirs = record { closed = closed; counted = known }
         where
           its : Counts es o.0 o.1
@@ -286,7 +287,7 @@ module _ (j : Knowledge) (es : List Occurrence) (e : Occurrence) (kept : Prefixe
       abbrev both : ℕ → Bool
       both i = known_with j e.who n i || known_with j o.0 o.1 i
 
-      both_fine : IsFine (es ++ e ∷ []) both
+      both_fine : IsPrefixClosed (es ++ e ∷ []) both
       both_fine = union_fine (es ++ e ∷ []) (known_with j e.who n) (known_with j o.0 o.1) mine theirs
 
       abbrev then : Knowledge
@@ -297,8 +298,9 @@ module _ (j : Knowledge) (es : List Occurrence) (e : Occurrence) (kept : Prefixe
 
       offer_meets : PrefixesAreKnown then (es ++ e ∷ [])
       offer_meets = record {
-        fine = learn_all (IsFine (es ++ e ∷ [])) (union_fine (es ++ e ∷ [])) both both_fine o.0
-            (learn e.who both j.past) (learn_all (IsFine (es ++ e ∷ [])) (union_fine (es ++ e ∷ [])) both both_fine
+        fine = learn_all (IsPrefixClosed (es ++ e ∷ [])) (union_fine (es ++ e ∷ [])) both both_fine o.0
+            (learn e.who both j.past) (learn_all (IsPrefixClosed (es ++ e ∷ []))
+            (union_fine (es ++ e ∷ [])) both both_fine
             e.who j.past past_fine);
         own = λ q k h. ⊎_elim
             (λ (l : k < n). ⊎_elim
@@ -352,12 +354,12 @@ module _ (j : Knowledge) (es : List Occurrence) (e : Occurrence) (kept : Prefixe
 -- the new index alone, learned by its process
 own_index : (j : Knowledge) (es : List Occurrence) (e : Occurrence) (kept : PrefixesAreKnown j es)
     (silent : WaitsForNone j e.who)
-    → is_counted e.what ≡ true → (q : Name) → IsFine (es ++ e ∷ []) (learn e.who (λ i. length es == i) j.past q)
+    → is_counted e.what ≡ true → (q : Name) → IsPrefixClosed (es ++ e ∷ []) (learn e.who (λ i. length es == i) j.past q)
 own_index j es e kept silent counted q = by (same_name e.who q) (name_is e.who q)
   where
     by : (t : Bool) → (t ≡ true → e.who ≡ q)
-        → IsFine (es ++ e ∷ []) (λ i. cond t (j.past q i || (length es == i)) (j.past q i))
-    by true f = subst (λ (x : Name). IsFine (es ++ e ∷ []) (λ i. j.past x i || (length es == i))) (f refl)
+        → IsPrefixClosed (es ++ e ∷ []) (λ i. cond t (j.past q i || (length es == i)) (j.past q i))
+    by true f = subst (λ (x : Name). IsPrefixClosed (es ++ e ∷ []) (λ i. j.past x i || (length es == i))) (f refl)
         (mine j es e kept silent counted)
     by false f = past_fine j es e kept silent q
 
@@ -374,7 +376,8 @@ one_entry j es p (Forked c) k w =
     let m : List Occurrence = es ++ e ∷ [] in
     let mid : Name → ℕ → Bool = learn p (λ i. length es == i) j.past in
     grown j es e k w refl (knowledge_after j (length es) p (Forked c)) refl
-    (teach_all (IsFine m) (union_fine m) (known_with j p (length es)) (mine j es e k w refl) p (j.forks p) 0 c mid
+    (teach_all (IsPrefixClosed m) (union_fine m) (known_with j p (length es)) (mine j es e k w refl) p
+    (j.forks p) 0 c mid
     (own_index j es e k w refl))
     (λ q i h. teach_more p (j.forks p) (known_with j p (length es)) 0 c mid q i
     (learn_more p (λ i. length es == i) j.past q i h))
@@ -385,7 +388,7 @@ one_entry j es p Ended k w =
     let m : List Occurrence = es ++ e ∷ [] in
     let mid : Name → ℕ → Bool = learn p (λ i. length es == i) j.past in
     grown j es e k w refl (knowledge_after j (length es) p Ended) refl
-    (report_all (IsFine m) (union_fine m) (known_with j p (length es)) (mine j es e k w refl) p mid
+    (report_all (IsPrefixClosed m) (union_fine m) (known_with j p (length es)) (mine j es e k w refl) p mid
     (own_index j es e k w refl))
     (λ q i h. report_more p (known_with j p (length es)) mid q i (learn_more p (λ i. length es == i) j.past q i h))
     (report_more p (known_with j p (length es)) mid p (length es)

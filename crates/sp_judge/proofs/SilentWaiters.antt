@@ -73,7 +73,7 @@ module _ (g : RunInput) where
     same_fits a off cs e c = match.pends c ∙ sym (pending_frame s q a c (off c) cs s (all_in s q a cs e))
 
     meeting_fits : (o : OfferOf L) (z : Name) (k : ℕ) (w : OfferOf L) (m : L.Target × L.Value)
-        → j.pending o.channel ≡ Some (z, k) → PendingAgrees (Some (Offered (way_of o.cargo) o.channel))
+        → j.pending o.channel ≡ Some (z, k) → PendingAgrees (Some (Offered (way_of o.payload) o.channel))
         (Advances (meeting_changes s q o z w m))
     meeting_fits o z k w m pend c = subst (λ x. offerer ((knowledge_after_offer j q n o.channel x).pending c)
         ≡ at_key same_channel o.channel None s.pending c) (sym pend)
@@ -93,7 +93,7 @@ module _ (g : RunInput) where
 
     meets_fits : (o : OfferOf L) (z : Name) (k : ℕ) → j.pending o.channel ≡ Some (z, k) → (x : ConditionOf L)
         → PendingAgrees (happening_of (Offering o) (meeting_outcome s q o z x)) (meeting_outcome s q o z x)
-    meets_fits o z k pend (Waits w) = hands_fits o z k w pend (message o.cargo w.cargo)
+    meets_fits o z k pend (Waits w) = hands_fits o z k w pend (message o.payload w.payload)
     meets_fits _ _ _ _ _ = match.pends
 
     offer_fits : (o : OfferOf L) (x : Option (Name × ℕ)) → j.pending o.channel ≡ x → (y : Option Name) → offerer x ≡ y

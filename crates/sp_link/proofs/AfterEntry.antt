@@ -7,7 +7,7 @@ use Rattle.sp_tree.specs.Plain.{Block, Stmt, Repeat}
 use Rattle.sp_tree.specs.Uses.{Use, In_stmt}
 use Rattle.sp_tree.specs.Interference.{IsFreeOfInterference}
 use Rattle.sp_cell.specs.Map.{Plain}
-use Rattle.sp_meaning.specs.Model.{Name, Channel, Cargo, Message, Takes}
+use Rattle.sp_meaning.specs.Model.{Name, Channel, Payload, Message, Takes}
 use Rattle.sp_meaning.specs.LocalWork.{RunInput, Loc, Cell, LocationContent, Tree, Position, Written, Address}
 use Rattle.sp_meaning.specs.LocalWork.{LocalState, Identity, Item, Do, First}
 use Rattle.sp_meaning.specs.LocalWork.{Again, Test, Leave, Break}
@@ -191,9 +191,9 @@ module _ (G : RunContext) (lf : BirthRights) (kids : ℕ → ℕ → BirthRights
         lf.end [] lf.below pc stack js todo h
 
     -- the offer of one that waits
-    pub cargo_again : (js : List FramePair) (c : Channel) (k : ℕ) (x : Cargo LocationContent Address) (z : Stop)
+    pub payload_again : (js : List FramePair) (c : Channel) (k : ℕ) (x : Payload LocationContent Address) (z : Stop)
         → Ca G lf kids q f w n a js c k x z → Ca G lf kids q f1 w1 n1 b js c k x z
-    cargo_again js c k (Message (Tree v)) z h = h
-    cargo_again js c k (Message (Position m)) z h = h
-    cargo_again js c k (Message (Written bs)) z h = h
-    cargo_again js c k (Takes t) z h = h
+    payload_again js c k (Message (Tree v)) z h = h
+    payload_again js c k (Message (Position m)) z h = h
+    payload_again js c k (Message (Written bs)) z h = h
+    payload_again js c k (Takes t) z h = h

@@ -1,8 +1,8 @@
--- A process at its stop with an offer: where it stands after the entry, with which cargo, and what it may do when it
+-- A process at its stop with an offer: where it stands after the entry, with which payload, and what it may do when it
 -- goes on.
 use Rattle.std.proofs.Common.{◌≡◌, ◌⊎◌, ℕ, List, ◌∷◌, length, refl, sym, ap, ◌∙◌, subst}
 use Rattle.sp_cell.specs.Map.{Plain}
-use Rattle.sp_meaning.specs.Model.{Name, Channel, Cargo}
+use Rattle.sp_meaning.specs.Model.{Name, Channel, Payload}
 use Rattle.sp_meaning.specs.Steps.{OfferOf}
 use Rattle.sp_meaning.specs.LocalWork.{LocationContent, Address, LocalState, Computed, Item, Identity}
 use Rattle.sp_meaning.specs.Actions.{Offered}
@@ -14,7 +14,7 @@ use Rattle.sp_code.specs.Machine.{Config, At}
 use Rattle.sp_code.specs.Turns.{Stopped, IsTurn}
 use Rattle.sp_code.specs.Memory.{Memory}
 use Rattle.sp_codegen.proofs.FramePairs.{sources_length}
-use Rattle.sp_link.proofs.AfterEntry.{stand_again, follows_again, cargo_again}
+use Rattle.sp_link.proofs.AfterEntry.{stand_again, follows_again, payload_again}
 use Rattle.sp_meaning.proofs.SilentActions.{IsDead}
 use Rattle.sp_link.proofs.AtStop.{same_but_dead, w, p1, kt}
 use Rattle.sp_link.proofs.KernelSteps.{stand_dead}
@@ -25,7 +25,7 @@ use Rattle.sp_link.proofs.Pauses.{MatchesNow, OffersAt}
 use Rattle.sp_link.proofs.OneChanges.{opens_are}
 
 module _ (at_stop : AtStop) (z : MatchesNow at_stop)
-    (ch : Channel) (kd : ℕ) (cg : Cargo LocationContent Address) (todo : List Item) (o : LocalState) (m : Store)
+    (ch : Channel) (kd : ℕ) (cg : Payload LocationContent Address) (todo : List Item) (o : LocalState) (m : Store)
     (x : Meant at_stop z (Computed (source.Stops (Offered ch kd cg todo)) o, m))
     (t : OffersAt at_stop z ch kd cg todo o m)
     (y : Kept_to at_stop z (Computed (source.Stops (Offered ch kd cg todo)) o, m)) where
@@ -42,7 +42,7 @@ module _ (at_stop : AtStop) (z : MatchesNow at_stop)
   v = w at_stop
 
   abbrev pub off : OfferOf (superpascal G.g)
-  off = record { channel = ch; kind = kd; cargo = cg; next = with_todo todo x.left.who o }
+  off = record { channel = ch; kind = kd; payload = cg; next = with_todo todo x.left.who o }
 
   -- it stands where it waits or goes on
   abbrev pub n1 : Memory Plain
@@ -91,6 +91,6 @@ module _ (at_stop : AtStop) (z : MatchesNow at_stop)
           x.left.who z.named x.good.named (c.since v) since1 t.pc t.stack t.frames todo t.follows;
     }
 
-    pub cargo : Ca G (lv v) (λ a b. lv ((a, b) ∷ v)) v z.fresh x.left.who x.good.named since1 t.frames ch kd cg t.stop
-    cargo = cargo_again G (lv v) (λ a b. lv ((a, b) ∷ v)) v z.fresh z.fresh (p1 at_stop).who x.left.who
+    pub payload : Ca G (lv v) (λ a b. lv ((a, b) ∷ v)) v z.fresh x.left.who x.good.named since1 t.frames ch kd cg t.stop
+    payload = payload_again G (lv v) (λ a b. lv ((a, b) ∷ v)) v z.fresh z.fresh (p1 at_stop).who x.left.who
         z.named x.good.named (c.since v) since1 t.frames ch kd cg t.stop t.carries

@@ -137,7 +137,7 @@ module _ (G : RunContext) (lf : BirthRights) (kids : ℕ → ℕ → BirthRights
     module _ (number : ℕ) (called : Called G child number) (pc : ℕ) (stack : List Entry)
         (shared_known : (a : Spot) → In a handing.shared → IsSome (fin.get n.store.map a)) (more : ℕ → ℕ
         → BirthRights) where
-      begins : Rattle.sp_codegen.specs.Standing.Stand G.g G.code own.who (Named G) (Called G)
+      begins : Rattle.sp_codegen.specs.Standing.Agrees G.g G.code own.who (Named G) (Called G)
           (λ l. OwnLocation child l ⊎ life.W l) (λ l. OwnLocation child l ⊎ life.R l) life.J life.low (length js)
           life.born 0 G.pause
           life.moved js own.own s

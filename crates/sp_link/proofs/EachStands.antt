@@ -35,12 +35,12 @@ use Rattle.sp_code.specs.Places.{after_statement}
 use Rattle.sp_code.specs.PlainStore.{plain}
 use Rattle.sp_code.specs.Scopes.{Scope, level, is_index, slot}
 use Rattle.sp_code.specs.Scopes as places
-use Rattle.sp_code.specs.CodeOfTree.{CodeAt as StandsIn, HasFork, HasWords, StandsAt}
+use Rattle.sp_code.specs.CodeOfTree.{CodeAt as StandsIn, HasFork, HasWords, StatementAt}
 use Rattle.sp_code.specs.System.{child_process, handing_of}
 use Rattle.sp_codegen.specs.FramePairs.{FramePair, sources, pairs_from}
 use Rattle.sp_codegen.specs.ProcessInfos.{Seen}
 use Rattle.sp_codegen.specs.Relation.{Placed}
-use Rattle.sp_codegen.specs.Standing.{Stand, spot_at}
+use Rattle.sp_codegen.specs.Standing.{Agrees, spot_at}
 use Rattle.sp_codegen.proofs.Begins.{index_child_begins, memory_in}
 use Rattle.sp_codegen.proofs.Birth.{low_small}
 use Rattle.sp_codegen.proofs.Born.{child_follows}
@@ -64,7 +64,8 @@ module _ (G : RunContext) (lf : BirthRights) (kids : ℕ → ℕ → BirthRights
       (t : St G lf kids q w since js o s n) (may_fork : o.depth + 1 ≤ G.g.limits.depth)
       (x : ℕ) (from1 to : Expr) (st : Stmt) (sc : List Scope)
       (pl : Placed G.g Wr Rd lf.J sc js (In_stmt (Forall x from1 to st))) (entry : ℕ)
-      (body : StandsAt G.g.program G.moves G.shares (StandsIn G.code) (HasFork G.code) (HasWords G.code) G.callable true
+      (body : StatementAt G.g.program G.moves G.shares (StandsIn G.code) (HasFork G.code)
+      (HasWords G.code) G.callable true
       (places.OfIndex x ∷ sc) entry st) (ends : slice_get G.code.instrs (after_statement G.g.program entry st)
       ≡ Some i.End)
       (child : Name) (longer : suc (length w.name) ≤ length child) (value : ℤ) (j : ℕ) where
@@ -212,7 +213,7 @@ module _ (G : RunContext) (lf : BirthRights) (kids : ℕ → ℕ → BirthRights
       }
 
       module _ (called : Called G child number) (pc : ℕ) (stack : List Entry) (more : ℕ → ℕ → BirthRights) where
-        begins : Stand G.g G.code own.who (Named G) (Called G) (λ l. OwnLocation child l ⊎ life.W l)
+        begins : Agrees G.g G.code own.who (Named G) (Called G) (λ l. OwnLocation child l ⊎ life.W l)
             (λ l. OwnLocation child l ⊎ life.R l) life.J life.low (length (with_index ∷ js)) life.born 0 G.pause
             life.moved
             (with_index ∷ js) own.own s

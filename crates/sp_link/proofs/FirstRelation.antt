@@ -120,7 +120,7 @@ module _ (G : RunContext) (b : Block) (eb : slice_get G.g.program.blocks 0 ≡ S
       fits = Prim.grind (arith, e)
 
   -- its memory, whatever the limit of cells is
-  abbrev roomy_is : Rattle.sp_codegen.specs.Standing.Stand (roomy G.g) G.code who (Named G) (Called G)
+  abbrev roomy_is : Rattle.sp_codegen.specs.Standing.Agrees (roomy G.g) G.code who (Named G) (Called G)
       (λ l. OwnOrGiven First [] l) (λ l. OwnOrGiven First [] l) NoIndexes 1 1 0 0 G.pause [] js (root (roomy G.g)).own
       (first_store G.g) n0
   roomy_is = root_stands (roomy G.g) G.code G.formed G.laid b eb G.pause (Named G) (Called G) called (omega arith)

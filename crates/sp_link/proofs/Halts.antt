@@ -73,7 +73,7 @@ something_said g (Opens p ws) h (Faulty f) = (happenings.Faulted f, refl)
 something_said g (Forks p os) h (Advances cs) = (happenings.Forked (length os), refl)
 something_said g (Forks p os) h (Faulty f) = (happenings.Faulted f, refl)
 something_said g (Offering p) h (Advances cs) =
-    (Is_offered (Rattle.sp_meaning.specs.Steps.way_of p.cargo) p.channel, refl)
+    (Is_offered (Rattle.sp_meaning.specs.Steps.way_of p.payload) p.channel, refl)
 something_said g (Offering p) h (Faulty f) = (happenings.Faulted f, refl)
 something_said g EndsProcess h (Advances cs) = (happenings.Ended, refl)
 something_said g EndsProcess h (Faulty f) = (happenings.Faulted f, refl)
@@ -392,7 +392,7 @@ module _ (at_stop : AtStop) where
         (told_by G (lv v) (λ k n. lv ((k, n) ∷ v)) v t.pc t.stack t.stand))
 
     abbrev pub offered_halt : (ch : Rattle.sp_meaning.specs.Model.Channel) (k : ℕ)
-        (cg : Rattle.sp_meaning.specs.Model.Cargo LocationContent Rattle.sp_meaning.specs.LocalWork.Address)
+        (cg : Rattle.sp_meaning.specs.Model.Payload LocationContent Rattle.sp_meaning.specs.LocalWork.Address)
         (todo : List Item) (o : LocalState)
         (m : Store) → Meant at_stop z (Computed (source.Stops (Offered ch k cg todo)) o, m)
         → OffersAt at_stop z ch k cg todo o m → Halted

@@ -47,7 +47,7 @@ use Rattle.sp_history.proofs.Legal.{reaches_leads, reaches_keeps}
 use Rattle.sp_history.proofs.Outs.{outs_start, outs_all, nobody_runs}
 use Rattle.sp_history.proofs.Phases.{ended_phase, live_phase, no_waiter_ended}
 use Rattle.sp_history.proofs.Along.{births_along}
-use Rattle.sp_link.specs.Endings.{waiting_at, WaitsAs, IsWaiting, AreAllWaiting, StandsAt}
+use Rattle.sp_link.specs.Endings.{waiting_at, WaitsAs, IsWaiting, AreAllWaiting, ControlEndsAt}
 use Rattle.sp_link.specs.Premises.{IsReady}
 use Rattle.sp_link.proofs.Endings.{program_root, program_stuck, program_fault}
 use Rattle.sp_link.proofs.Programs.{program_means, program_output, program_done}
@@ -150,18 +150,18 @@ none_gone ns = all_notes ns control_at_start (λ e q. by q (q == 0))
 
 -- ---- how the control stands
 
-abbrev Stand : (gave faulted ended going : Bool) → Standing
-Stand a f e r = if a then IsMemory else (if f then IsFault else
+abbrev Agrees : (gave faulted ended going : Bool) → Standing
+Agrees a f e r = if a then IsMemory else (if f then IsFault else
     (if e then ctrl.IsDone else (if r then Running else ctrl.IsDeadlock)))
 
-stands_done : (a f e r : Bool) → Stand a f e r ≡ ctrl.IsDone → (a ≡ false) × (f ≡ false) × (e ≡ true)
+stands_done : (a f e r : Bool) → Agrees a f e r ≡ ctrl.IsDone → (a ≡ false) × (f ≡ false) × (e ≡ true)
 stands_done true f e r h = absurd (cc h)
 stands_done false true e r h = absurd (cc h)
 stands_done false false true r h = (refl, refl, refl)
 stands_done false false false true h = absurd (cc h)
 stands_done false false false false h = absurd (cc h)
 
-stands_deadlock : (a f e r : Bool) → Stand a f e r ≡ ctrl.IsDeadlock → (a ≡ false) × (f ≡ false) × (e ≡ false)
+stands_deadlock : (a f e r : Bool) → Agrees a f e r ≡ ctrl.IsDeadlock → (a ≡ false) × (f ≡ false) × (e ≡ false)
     × (r ≡ false)
 stands_deadlock true f e r h = absurd (cc h)
 stands_deadlock false true e r h = absurd (cc h)
@@ -356,7 +356,7 @@ module _ (g : RunInput) (moves shares : Stmt → List ℕ) (pause : ℕ) (ready 
           })
 
       -- each end of the history is one of the program
-      pub history_ends : (e : End) → StandsAt ns e → EndIs g s e
+      pub history_ends : (e : End) → ControlEndsAt ns e → EndIs g s e
       history_ends end.Done h = history_done h
       history_ends (end.Deadlock ws) h = let z = all_waiting (control ns) lawful alike.0.unborn ws h.1.all h.1.sorted in
           (z.0, history_deadlock z.0 h.0 z.1, z.2)

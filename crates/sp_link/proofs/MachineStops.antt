@@ -1,5 +1,5 @@
--- Where a turn of the machine ends, by the event that it stops at: the parts of `Turned`, of its forks and of its cargo
--- by name. The lemma of each event takes such a record.
+-- Where a turn of the machine ends, by the event that it stops at: the parts of `Turned`, of its forks and of its
+-- payload by name. The lemma of each event takes such a record.
 use Rattle.std.specs.Prelude.{◌≡◌, ◌⊎◌, ℕ, ℤ, pos, ◌+ℤ◌, ◌-ℤ◌, nat_abs, int_lt, nat_lt, List, [], ◌∷◌}
 use Rattle.std.specs.Prelude.{Some, true, false, slice_get, length}
 use Rattle.std.proofs.Common.{inl, inr, subst}
@@ -8,7 +8,7 @@ use Rattle.sp_tree.specs.Uses.{In_stmt}
 use Rattle.sp_cell.specs.declared.spot.Address.{Address as Ptr}
 use Rattle.sp_cell.specs.Map.{Plain}
 use Rattle.sp_meaning.specs.Maps.{at_key}
-use Rattle.sp_meaning.specs.Model.{Channel, Cargo}
+use Rattle.sp_meaning.specs.Model.{Channel, Payload}
 use Rattle.sp_meaning.specs.Values.{Chan}
 use Rattle.sp_meaning.specs.LocalWork.{LocationContent, Tree, Address, LocalState, Item, Computed, content_with}
 use Rattle.sp_meaning.specs.LocalWork.{same_loc}
@@ -22,12 +22,12 @@ use Rattle.sp_code.specs.Memory.{Memory}
 use Rattle.sp_code.specs.Turns.{RunsTo}
 use Rattle.sp_code.specs.Scopes.{Scope, OfIndex, Channels, sort}
 use Rattle.sp_code.specs.Places.{after_statement}
-use Rattle.sp_code.specs.CodeOfTree.{CodeAt, HasFork, HasWords, StandsAt, ChildrenAt}
+use Rattle.sp_code.specs.CodeOfTree.{CodeAt, HasFork, HasWords, StatementAt, ChildrenAt}
 use Rattle.sp_code.specs.Emitted.{children_tables, child_table}
 use Rattle.sp_codegen.specs.FramePairs.{FramePair}
 use Rattle.sp_codegen.specs.Executions.{Execution}
 use Rattle.sp_codegen.specs.Relation.{Placed}
-use Rattle.sp_codegen.specs.Following.{CodeFollows, CargoIs, ForkIs, IsOwned, Turned}
+use Rattle.sp_codegen.specs.Following.{CodeFollows, PayloadIs, ForkIs, IsOwned, Turned}
 
 module _ (ex : Execution (Memory Plain)) where
   open ex use {
@@ -73,7 +73,7 @@ module _ (ex : Execution (Memory Plain)) where
         (record { children = child_table g.program moves shares start (Some index) body ∷ [] })
     pub births_are : bs ≡ indexed_children index body low (nat_abs ((high -ℤ low) +ℤ pos 1))
     pub not_empty : int_lt high low ≡ false
-    pub body_stands : StandsAt g.program moves shares (CodeAt code) (HasFork code) (HasWords code) callable true
+    pub body_stands : StatementAt g.program moves shares (CodeAt code) (HasFork code) (HasWords code) callable true
         (OfIndex index ∷ scopes) start body
     pub ends : slice_get code.instrs (after_statement g.program start body) ≡ Some i.End
     pub placed : Placed g W R J scopes frames (In_stmt (Forall index from to body))
@@ -126,7 +126,7 @@ module _ (ex : Execution (Memory Plain)) where
       pub last : Config (Memory Plain)
       pub comes : RunsTo ops code c last
       pub stops : next_step ops code last ≡ Stops Pauses (At pc stack memory)
-      pub stand : rel.Stand frames o s memory
+      pub stand : rel.Agrees frames o s memory
       pub follows : CodeFollows ex end [] below pc stack frames todo
 
     pub record AtFork (bs : List Birth) (todo : List Item) (o : LocalState) (s : Store) : Type 0 where
@@ -138,12 +138,12 @@ module _ (ex : Execution (Memory Plain)) where
       pub stop : Stop
       pub comes : RunsTo ops code c last
       pub stops : next_step ops code last ≡ Stops stop (At pc stack memory)
-      pub stand : rel.Stand frames o s memory
+      pub stand : rel.Agrees frames o s memory
       pub follows : CodeFollows ex end [] below pc stack frames todo
       pub forks : ForkStop frames bs stop
       pub may_nest : nat_lt o.depth g.limits.depth ≡ true
 
-    pub record AtOffer (ch : Channel) (k : ℕ) (cargo : Cargo LocationContent Address) (todo : List Item)
+    pub record AtOffer (ch : Channel) (k : ℕ) (payload : Payload LocationContent Address) (todo : List Item)
         (o : LocalState) (s : Store) : Type 0 where
       pub pc : ℕ
       pub stack : List Entry
@@ -153,8 +153,8 @@ module _ (ex : Execution (Memory Plain)) where
       pub stop : Stop
       pub comes : RunsTo ops code c last
       pub stops : next_step ops code last ≡ Stops stop (At pc stack memory)
-      pub stand : rel.Stand frames o s memory
-      pub carries : CargoIs ex frames ch k cargo stop
+      pub stand : rel.Agrees frames o s memory
+      pub carries : PayloadIs ex frames ch k payload stop
       pub follows : CodeFollows ex end [] below pc stack frames todo
       pub owned : IsOwned ops stop memory
 
@@ -170,7 +170,7 @@ module _ (ex : Execution (Memory Plain)) where
       pub store : Store
       pub comes : RunsTo ops code c last
       pub stops : next_step ops code last ≡ Stops (Opens target) (At pc stack memory)
-      pub stand : rel.Stand frames o store memory
+      pub stand : rel.Agrees frames o store memory
       pub points : rel.Points frames variable target
       pub readable : R variable.spot
       pub store_is : s ≡ at_key same_loc variable.spot
@@ -185,7 +185,7 @@ module _ (ex : Execution (Memory Plain)) where
       pub frames : List FramePair
       pub comes : RunsTo ops code c (At pc stack memory)
       pub stops : next_step ops code (At pc stack memory) ≡ Stops Ends (At pc stack memory)
-      pub stand : rel.Stand frames o s memory
+      pub stand : rel.Agrees frames o s memory
       pub frames_are : frames ≡ below
 
     pub to_pause : (todo : List Item) (o : LocalState) (s : Store)
@@ -219,10 +219,11 @@ module _ (ex : Execution (Memory Plain)) where
       may_nest = nest;
     }
 
-    pub to_offer : (ch : Channel) (k : ℕ) (cargo : Cargo LocationContent Address) (todo : List Item) (o : LocalState)
-        (s : Store) → Turned ex c end [] below (Computed (source.Stops (Offered ch k cargo todo)) o, s)
-        → AtOffer ch k cargo todo o s
-    to_offer ch k cargo todo o s (pc, st, n, fs, last, stop, comes, stops, stand, carries, follows, outside, owned) =
+    pub to_offer : (ch : Channel) (k : ℕ) (payload : Payload LocationContent Address) (todo : List Item)
+        (o : LocalState)
+        (s : Store) → Turned ex c end [] below (Computed (source.Stops (Offered ch k payload todo)) o, s)
+        → AtOffer ch k payload todo o s
+    to_offer ch k payload todo o s (pc, st, n, fs, last, stop, comes, stops, stand, carries, follows, outside, owned) =
         record {
           pc = pc;
           stack = st;

@@ -20,7 +20,7 @@ use Rattle.sp_code.specs.PlainStore.{plain}
 use Rattle.sp_code.specs.Scopes.{Sort, Ordinals, Channels, Many, NoSort, sort, size}
 use Rattle.sp_code.specs.System.{on_store}
 use Rattle.sp_code.proofs.StoreLaws.{piece_holds}
-use Rattle.sp_codegen.specs.Relation.{Stood}
+use Rattle.sp_codegen.specs.Relation.{StackHolds}
 use Rattle.sp_codegen.specs.FramePairs.{FramePair}
 use Rattle.sp_codegen.specs.Shapes.{Flat, SameShape, leaves}
 use Rattle.sp_codegen.specs.Following.{IsOwned, cells_in}
@@ -34,7 +34,7 @@ use Rattle.sp_link.proofs.Relation.{ops}
 module _ (G : RunContext) (lf : BirthRights) (kids : ℕ → ℕ → BirthRights) (q : Name) where
   -- what is sent, in cells
   pub sent_flat : (w : Identity) (since k : ℕ) (y : Sort) → sort G.g.program k ≡ y → (v : Value) (e : Entry)
-      → Stood (Rel G lf kids q w since) G.g.program y k v e → Flat G.g.program (Named G) k v (cells_in e)
+      → StackHolds (Rel G lf kids q w since) G.g.program y k v e → Flat G.g.program (Named G) k v (cells_in e)
   sent_flat w since k Ordinals i v e s =
       subst (λ y. Flat G.g.program (Named G) k y (cells_in e)) (sym s.1)
       (subst (λ y. Flat G.g.program (Named G) k (Ordinal s.0) (cells_in y)) (sym s.2) (

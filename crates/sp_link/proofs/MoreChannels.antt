@@ -14,10 +14,10 @@ use Rattle.sp_code.specs.declared.code.Parts.{Parts as Code}
 use Rattle.sp_code.specs.Memory.{Memory}
 use Rattle.sp_codegen.specs.FramePairs.{FramePair}
 use Rattle.sp_codegen.specs.Shapes.{leaves, CellIs, CellsAre, Flat}
-use Rattle.sp_codegen.specs.Standing.{Stand}
+use Rattle.sp_codegen.specs.Standing.{Agrees}
 use Rattle.sp_codegen.proofs.Joining.{Joining}
 use Rattle.std.proofs.Common.{◌≡◌, ◌⊎◌, zero, suc, ◌+◌, length, if◌then◌else◌, refl, sym, ap, ◌∙◌, arith}
-use Rattle.sp_meaning.specs.Model.{Condition, Cargo, Message, Takes}
+use Rattle.sp_meaning.specs.Model.{Condition, Payload, Message, Takes}
 use Rattle.sp_meaning.specs.LocalWork.{LocationContent, Tree, Position, Written, Address, Item, Process}
 use Rattle.sp_meaning.specs.Runs.{StateOf}
 use Rattle.sp_meaning.specs.Along.{Course}
@@ -27,7 +27,7 @@ use Rattle.sp_code.specs.Machine.{Entry, Config, Stop, At}
 use Rattle.sp_code.specs.Scopes.{Sort, Ordinals, Channels, Many, NoSort, sort}
 use Rattle.sp_code.specs.System as sys
 use Rattle.sp_codegen.specs.TurnAgrees.{due_after}
-use Rattle.sp_codegen.specs.Relation.{Stood}
+use Rattle.sp_codegen.specs.Relation.{StackHolds}
 use Rattle.sp_link.proofs.AfterEntry.{again}
 use Rattle.sp_link.proofs.Relation.{RunContext, BirthRights, Called, Named, Fresh, ProcessMatches, Joined, Handed}
 use Rattle.sp_link.proofs.Relation.{Performs, Fo, Ca, Rel, OutputMatches, TooLarge}
@@ -59,8 +59,8 @@ module _ (Named Named1 : Channel → ℕ → Type 0) (more : (c : Channel) (j : 
       (J : ℕ → Type 0)
       (low base born since pause : ℕ) (moved : List Spot) where
     pub stand_more : {js : List FramePair} {o : LocalState} {s : Store} {n : Memory Plain}
-        → Stand g code w Named Called W R J low base born since pause moved js o s n
-        → Stand g code w Named1 Called W R J low base born since pause moved js o s n
+        → Agrees g code w Named Called W R J low base born since pause moved js o s n
+        → Agrees g code w Named1 Called W R J low base born since pause moved js o s n
     stand_more t = record {
       frames = t.frames;
       ticks = t.ticks;
@@ -145,8 +145,8 @@ module _ (G : RunContext) where
     }
 
     stood_more : (w : Identity) (since : ℕ) (y : Sort) (k : ℕ) (v : Value) (e : Entry)
-        → Stood (Rel G lf kids q w since) G.g.program y k v e
-        → Stood (Rel (one_more G) lf kids q w since) G.g.program y k v e
+        → StackHolds (Rel G lf kids q w since) G.g.program y k v e
+        → StackHolds (Rel (one_more G) lf kids q w since) G.g.program y k v e
     stood_more w since Ordinals k v e h = h
     stood_more w since Channels k v e (nm, k1, v_is, e_is, named) = (nm, k1, v_is, e_is, named_more nm k1 named)
     stood_more w since Many k v e h = (
@@ -156,15 +156,16 @@ module _ (G : RunContext) where
     )
     stood_more w since NoSort k v e h = h
 
-    cargo_more : (f : Fresh G lf kids q) (w : Identity) (n : w.name ≡ q) (since : ℕ) (js : List FramePair) (c : Channel)
+    payload_more : (f : Fresh G lf kids q) (w : Identity) (n : w.name ≡ q) (since : ℕ) (js : List FramePair)
+        (c : Channel)
         (k : ℕ)
-        (x : Cargo LocationContent Address) (z : Stop) → Ca G lf kids q f w n since js c k x z
+        (x : Payload LocationContent Address) (z : Stop) → Ca G lf kids q f w n since js c k x z
         → Ca (one_more G) lf kids q (fresh_more f) w n since js c k x z
-    cargo_more f w n since js c k (Message (Tree v)) z (j, e, stop_is, named, stood) =
+    payload_more f w n since js c k (Message (Tree v)) z (j, e, stop_is, named, stood) =
         (j, e, stop_is, named_more c j named, stood_more w since (sort G.g.program k) k v e stood)
-    cargo_more f w n since js c k (Message (Position m)) z h = h
-    cargo_more f w n since js c k (Message (Written bs)) z h = h
-    cargo_more f w n since js c k (Takes a) z (j, target, stop_is, named, kind_is, points, may) =
+    payload_more f w n since js c k (Message (Position m)) z h = h
+    payload_more f w n since js c k (Message (Written bs)) z h = h
+    payload_more f w n since js c k (Takes a) z (j, target, stop_is, named, kind_is, points, may) =
         (j, target, stop_is, named_more c j named, kind_is, points, may)
 
     handed_more : (js : List FramePair) (n : Memory Plain) (v : BirthRights) (z : Name) → Handed G lf kids q js n v z
@@ -241,7 +242,7 @@ module _ (G : RunContext) where
       o,
       waits,
       stands_more (c.since q) o.next s.store d t,
-      cargo_more t.fresh o.next.who t.named (c.since q) t.js o.channel o.kind o.cargo y
+      payload_more t.fresh o.next.who t.named (c.since q) t.js o.channel o.kind o.payload y
           carries,
       opens_are,
       not_laid,

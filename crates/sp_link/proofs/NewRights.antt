@@ -2,7 +2,7 @@
 -- rights (`inv_same`).
 use Rattle.std.proofs.Common.{◌≡◌, inl, inr, ⊎_elim, ℕ, ◌∷◌, sym, subst}
 use Rattle.sp_cell.specs.Map.{Plain}
-use Rattle.sp_meaning.specs.Model.{Name, Cargo, Message, Takes, Condition, Absent, Works, Waits, Joins, Ended}
+use Rattle.sp_meaning.specs.Model.{Name, Payload, Message, Takes, Condition, Absent, Works, Waits, Joins, Ended}
 use Rattle.sp_meaning.specs.LocalWork.{Loc, LocationContent, Address, Process}
 use Rattle.sp_meaning.specs.Owning.{MayTake}
 use Rattle.sp_meaning.specs.Runs.{StateOf}
@@ -42,7 +42,8 @@ module _ (G : RunContext) (W R V T : Name → Loc → Type 0) (wv : (q : Name) (
         pr.todo k.fit;
   }
 
-  takes_same : (q : Name) (x : Cargo LocationContent Address) → MayTake G.g.program (OwnOrGiven W q) (OwnOrGiven R q) x
+  takes_same : (q : Name) (x : Payload LocationContent Address)
+      → MayTake G.g.program (OwnOrGiven W q) (OwnOrGiven R q) x
       → MayTake G.g.program (OwnOrGiven V q) (OwnOrGiven T q) x
   takes_same q (Message v) h = tt
   takes_same q (Takes a) h = all_w q a.spot h
@@ -52,7 +53,7 @@ module _ (G : RunContext) (W R V T : Name → Loc → Type 0) (wv : (q : Name) (
       → ConditionInRights G.g.program V T f q c
   holds_same f q Absent h = h
   holds_same f q (Works pr) h = keeps_same f q pr h
-  holds_same f q (Waits o) h = (keeps_same f q o.next h.0, takes_same q o.cargo h.1)
+  holds_same f q (Waits o) h = (keeps_same f q o.next h.0, takes_same q o.payload h.1)
   holds_same f q (Joins k n pr) h = keeps_same f q pr h
   holds_same f q Ended h = tt
 

@@ -7,7 +7,7 @@ use Rattle.std.proofs.lemmas.Option.{same_Some}
 use Rattle.sp_base.specs.declared.fault.Fault.TheVariants as fault
 use Rattle.sp_journal.specs.Births.{channel}
 use Rattle.sp_cell.specs.Map.{Plain}
-use Rattle.sp_meaning.specs.Model.{Name, Channel, Cargo, Message, Takes, Offering, Totals}
+use Rattle.sp_meaning.specs.Model.{Name, Channel, Payload, Message, Takes, Offering, Totals}
 use Rattle.sp_meaning.specs.Steps.{WaitsOn, OfferOf, entry_cost, Faulty, step_outcome, limit_fault, fault_or}
 use Rattle.sp_meaning.specs.Steps.{offer_outcome, result_of}
 use Rattle.sp_meaning.specs.Entries.{Happening}
@@ -36,7 +36,7 @@ use Rattle.sp_link.proofs.Relation.{AtStop}
 use Rattle.sp_link.proofs.Pauses.{MatchesNow, OffersAt}
 
 module _ (at_stop : AtStop) (z : MatchesNow at_stop)
-    (ch : Channel) (kd : ℕ) (cg : Cargo LocationContent Address) (todo : List Item) (o : LocalState) (m : Store)
+    (ch : Channel) (kd : ℕ) (cg : Payload LocationContent Address) (todo : List Item) (o : LocalState) (m : Store)
     (x : Meant at_stop z (Computed (source.Stops (Offered ch kd cg todo)) o, m))
     (t : OffersAt at_stop z ch kd cg todo o m)
     (y : Kept_to at_stop z (Computed (source.Stops (Offered ch kd cg todo)) o, m))
@@ -85,7 +85,7 @@ module _ (at_stop : AtStop) (z : MatchesNow at_stop)
       faults : step_outcome {L = superpascal G.g} (total_limits G.g) x.state v (Offering off) ≡ Faulty fault.F15
       faults = ap (λ a. fault_or a (offer_outcome {L = superpascal G.g} x.state v off (x.state.pending ch))) passes
 
-      found : (g1 : Cargo LocationContent Address) → cg ≡ g1
+      found : (g1 : Payload LocationContent Address) → cg ≡ g1
           → Ca G (lv v) (λ a b. lv ((a, b) ∷ v)) v z.fresh (p1 at_stop).who z.named (c.since v) t.frames ch kd
           g1 t.stop → fault_of G.g.limits u (Stopped t.stop (At t.pc t.stack t.memory)) ≡ Some fault.F15
       found (Message (Tree a)) e h = ap (λ b. fault_of G.g.limits u (Stopped b (At t.pc t.stack t.memory))) h.2
@@ -153,7 +153,7 @@ module _ (at_stop : AtStop) (z : MatchesNow at_stop)
   pub offering : Entry_of G c s u i d
   offering = by_limit (nat_lt G.g.limits.entries (u.entries + 1)) refl
     where
-      number : (g1 : Cargo LocationContent Address)
+      number : (g1 : Payload LocationContent Address)
           → Ca G (lv v) (λ a b. lv ((a, b) ∷ v)) v z.fresh (p1 at_stop).who
           z.named (c.since v) t.frames ch kd g1 t.stop → (j : ℕ) × Named G ch j
       number (Message (Tree a)) (j, _, _, named, _) = (j, named)

@@ -19,7 +19,7 @@ use Rattle.sp_cell.specs.Map.{Plain}
 use Rattle.sp_meaning.specs.Maps.{at_key as put_at}
 use Rattle.sp_meaning.specs.Model.{Name, same_name, Condition, Absent, Works, Waits, Joins, Ended}
 use Rattle.sp_meaning.specs.Model.{with_changes as After}
-use Rattle.sp_meaning.specs.Model.{same_channel, Channel, Cargo, Message, Takes, Offering, Totals}
+use Rattle.sp_meaning.specs.Model.{same_channel, Channel, Payload, Message, Takes, Offering, Totals}
 use Rattle.sp_meaning.specs.Steps.{has_ended, own_part_in, IsAlive as IsLive, WaitsOn, OfferOf, meeting_changes}
 use Rattle.sp_meaning.specs.Steps.{message, entry_cost}
 use Rattle.sp_meaning.specs.Steps.{way_of, Advances, Faulty, step_outcome, limit_fault, fault_or, offer_outcome}
@@ -78,7 +78,7 @@ waiting_idle m q ch (Joins k n pr) own h e = h
 waiting_idle m q ch Ended own h e = h
 
 module _ (at_stop : AtStop) (z : MatchesNow at_stop)
-    (ch : Channel) (kd : ℕ) (cg : Cargo LocationContent Address) (todo : List Item) (o : LocalState) (m : Store)
+    (ch : Channel) (kd : ℕ) (cg : Payload LocationContent Address) (todo : List Item) (o : LocalState) (m : Store)
     (x : Meant at_stop z (Computed (source.Stops (Offered ch kd cg todo)) o, m))
     (t : OffersAt at_stop z ch kd cg todo o m)
     (y : Kept_to at_stop z (Computed (source.Stops (Offered ch kd cg todo)) o, m)) where
@@ -104,7 +104,7 @@ module _ (at_stop : AtStop) (z : MatchesNow at_stop)
       (t2 : ProcessMatches G (lv (G.births.name zi)) (λ a b. lv ((a, b) ∷ G.births.name zi)) (G.births.name zi)
       (c.since (G.births.name zi)) off2.next x.state.store d2)
       (ca2 : Ca G (lv (G.births.name zi)) (λ a b. lv ((a, b) ∷ G.births.name zi)) (G.births.name zi) t2.fresh
-      off2.next.who t2.named (c.since (G.births.name zi)) t2.js off2.channel off2.kind off2.cargo st2)
+      off2.next.who t2.named (c.since (G.births.name zi)) t2.js off2.channel off2.kind off2.payload st2)
       (opens2 : off2.next.who.opens ≡ u.births.opens zi) (laid2 : c.laid (G.births.name zi) ≡ false) where
     abbrev v : Name
     v = w at_stop
@@ -132,7 +132,7 @@ module _ (at_stop : AtStop) (z : MatchesNow at_stop)
         ∙ ap (λ n. if nat_lt G.g.limits.entries (n + 1) then Some fault.F15 else None) l.entries
         ∙ ap (λ b. if b then Some fault.F15 else None) enough
 
-    outcome_is : (mm : Option (Address × LocationContent)) → message cg off2.cargo ≡ mm
+    outcome_is : (mm : Option (Address × LocationContent)) → message cg off2.payload ≡ mm
         → step_outcome {L = superpascal G.g} (total_limits G.g) x.state v (Offering off)
         ≡ handover_outcome {L = superpascal G.g} x.state v off zn off2 mm
     outcome_is mm e = ap (λ a. fault_or a (offer_outcome {L = superpascal G.g} x.state v off (x.state.pending ch)))
@@ -153,7 +153,7 @@ module _ (at_stop : AtStop) (z : MatchesNow at_stop)
     -- ---- the two meet: a is where the message goes, hv the message, wr who receives it
 
     module _ (a : Address) (hv : LocationContent) (same_kind : kd == off2.kind ≡ true)
-        (msg : message cg off2.cargo ≡ Some (a, hv))
+        (msg : message cg off2.payload ≡ Some (a, hv))
         (wr : Name) (wr_alone : IsAlone x.state wr) (wr_is : (wr ≡ v) ⊎ (wr ≡ zn))
         (may : OwnOrGiven (W_of G lv) wr a.spot) where
       abbrev t1 : StateOf G.g
@@ -405,17 +405,17 @@ module _ (at_stop : AtStop) (z : MatchesNow at_stop)
 
     -- ---- this one sends
 
-    module _ (value : Value) (cg_is : cg ≡ Message (Tree value)) (a : Address) (cargo2 : off2.cargo ≡ Takes a)
+    module _ (value : Value) (cg_is : cg ≡ Message (Tree value)) (a : Address) (payload2 : off2.payload ≡ Takes a)
         (same_kind : kd == off2.kind ≡ true) where
-      msg : message cg off2.cargo ≡ Some (a, Tree value)
-      msg = ap (λ b. message b off2.cargo) cg_is ∙ ap (λ b. message (Message (Tree value)) b) cargo2
+      msg : message cg off2.payload ≡ Some (a, Tree value)
+      msg = ap (λ b. message b off2.payload) cg_is ∙ ap (λ b. message (Message (Tree value)) b) payload2
 
       alone_z : IsAlone x.state zn
       alone_z = inr (ch, subst (λ b. WaitsOn ch b) (sym waits) on)
 
       may_z : OwnOrGiven (W_of G lv) zn a.spot
       may_z = (subst (λ b. Rattle.sp_meaning.specs.Owning.MayTake G.g.program (λ k. OwnOrGiven (W_of G lv) zn k)
-          (λ k. OwnOrGiven (R_of G lv) zn k) b) cargo2
+          (λ k. OwnOrGiven (R_of G lv) zn k) b) payload2
           (subst (λ b. ConditionInRights G.g.program (W_of G lv) (R_of G lv) x.state.forks zn b) waits
           (rights_then.holds zn)).1)
 
@@ -433,12 +433,12 @@ module _ (at_stop : AtStop) (z : MatchesNow at_stop)
           (Message (Tree value)) t.stop
       gives = subst (λ b. Ca G (lv v) (λ a b. lv ((a, b) ∷ v)) v z.fresh x.left.who x.good.named (c1s.since v) t.frames
           ch kd b
-          t.stop) cg_is (ao.cargo at_stop z ch kd cg todo o m x t y (c1s.since v) since_s)
+          t.stop) cg_is (ao.payload at_stop z ch kd cg todo o m x t y (c1s.since v) since_s)
 
       takes : Ca G (lv zn) (λ a b. lv ((a, b) ∷ zn)) zn t2.fresh off2.next.who t2.named (c.since zn) t2.js off2.channel
           off2.kind (Takes a) st2
       takes = subst (λ b. Ca G (lv zn) (λ a b. lv ((a, b) ∷ zn)) zn t2.fresh off2.next.who t2.named (c.since zn) t2.js
-          off2.channel off2.kind b st2) cargo2 ca2
+          off2.channel off2.kind b st2) payload2 ca2
 
       cs : List OneCell
       cs = cells_in gives.1
@@ -532,10 +532,10 @@ module _ (at_stop : AtStop) (z : MatchesNow at_stop)
 
     -- ---- this one receives
 
-    module _ (value : Value) (a : Address) (cg_is : cg ≡ Takes a) (cargo2 : off2.cargo ≡ Message (Tree value))
+    module _ (value : Value) (a : Address) (cg_is : cg ≡ Takes a) (payload2 : off2.payload ≡ Message (Tree value))
         (same_kind : kd == off2.kind ≡ true) where
-      msg_r : message cg off2.cargo ≡ Some (a, Tree value)
-      msg_r = ap (λ b. message b off2.cargo) cg_is ∙ ap (λ b. message (Takes a) b) cargo2
+      msg_r : message cg off2.payload ≡ Some (a, Tree value)
+      msg_r = ap (λ b. message b off2.payload) cg_is ∙ ap (λ b. message (Takes a) b) payload2
 
       alone_v : IsAlone x.state v
       alone_v = inl (x.left, x.runs)
@@ -558,13 +558,13 @@ module _ (at_stop : AtStop) (z : MatchesNow at_stop)
           t.stop
       takes_v = subst (λ b. Ca G (lv v) (λ a b. lv ((a, b) ∷ v)) v z.fresh x.left.who x.good.named (c1r.since v)
           t.frames ch kd
-          b t.stop) cg_is (ao.cargo at_stop z ch kd cg todo o m x t y (c1r.since v) since_r)
+          b t.stop) cg_is (ao.payload at_stop z ch kd cg todo o m x t y (c1r.since v) since_r)
 
       gives_z : Ca G (lv zn) (λ a b. lv ((a, b) ∷ zn)) zn t2.fresh off2.next.who t2.named (c.since zn) t2.js
           off2.channel
           off2.kind (Message (Tree value)) st2
       gives_z = subst (λ b. Ca G (lv zn) (λ a b. lv ((a, b) ∷ zn)) zn t2.fresh off2.next.who t2.named (c.since zn) t2.js
-          off2.channel off2.kind b st2) cargo2 ca2
+          off2.channel off2.kind b st2) payload2 ca2
 
       flat_r : Rattle.sp_codegen.specs.Shapes.Flat G.g.program (Named G) kd value (cells_in gives_z.1)
       flat_r = subst (λ k. Rattle.sp_codegen.specs.Shapes.Flat G.g.program (Named G) k value (cells_in gives_z.1))
@@ -689,13 +689,13 @@ module _ (at_stop : AtStop) (z : MatchesNow at_stop)
     takes_found a k n e = found (Receives j kd a) way.Receive
         (e ∙ ap (λ b. Receives b kd a) (G.one_channel k j n.1 named.1 (n.2 ∙ sym named.2))) (λ e1. refl)
 
-    -- ---- the entry, by the two cargos
+    -- ---- the entry, by the two payloads
 
-    abbrev Mine : Cargo LocationContent Address → Type 0
+    abbrev Mine : Payload LocationContent Address → Type 0
     Mine g1 = Ca G (lv v) (λ a b. lv ((a, b) ∷ v)) v z.fresh (p1 at_stop).who z.named (c.since v) t.frames ch kd
         g1 t.stop
 
-    abbrev Other : Cargo LocationContent Address → Type 0
+    abbrev Other : Payload LocationContent Address → Type 0
     Other g2 = Ca G (lv zn) (λ a b. lv ((a, b) ∷ zn)) zn t2.fresh off2.next.who t2.named (c.since zn) t2.js off2.channel
         off2.kind g2 st2
 
@@ -704,36 +704,37 @@ module _ (at_stop : AtStop) (z : MatchesNow at_stop)
     other_kind false e = ne_eqb off2.kind kd (λ f. let g : true ≡ false = sym (eq-eqb kd off2.kind (sym f)) ∙ e in
         absurd (cc g))
 
-    send_take : (value : Value) (a : Address) → cg ≡ Message (Tree value) → off2.cargo ≡ Takes a
+    send_take : (value : Value) (a : Address) → cg ≡ Message (Tree value) → off2.payload ≡ Takes a
         → Mine (Message (Tree value)) → Other (Takes a) → (b : Bool) → kd == off2.kind ≡ b → Entry_of G c s u i d
     send_take value a e f h k true q = sending_meets value e a f q
     send_take value a e f (j1, en, stop_is, named1, _) k false q = clash_entry fault.F7
-        (outcome_is (Some (a, Tree value)) (ap (λ b. message b off2.cargo) e
+        (outcome_is (Some (a, Tree value)) (ap (λ b. message b off2.payload) e
         ∙ ap (λ b. message (Message (Tree value)) b) f)
         ∙ ap (λ b. if b then Advances (meeting_changes {L = superpascal G.g} x.state v off zn off2 (a, Tree value)) else
         Faulty fault.F7) q)
         (sends_found (cells_in en) j1 named1 stop_is ∙ ap (λ b. sys.clash_by way.Send kd (Some b)) k.2
         ∙ ap (λ b. if b then None else Some fault.F7) (other_kind false q))
 
-    take_send : (value : Value) (a : Address) → cg ≡ Takes a → off2.cargo ≡ Message (Tree value) → Mine (Takes a)
+    take_send : (value : Value) (a : Address) → cg ≡ Takes a → off2.payload ≡ Message (Tree value) → Mine (Takes a)
         → Other (Message (Tree value)) → (b : Bool) → kd == off2.kind ≡ b → Entry_of G c s u i d
     take_send value a e f h k true q = receiving_meets value a e f q
     take_send value a e f (j1, target, stop_is, named1, _, _, _) k false q = clash_entry fault.F7
-        (outcome_is (Some (a, Tree value)) (ap (λ b. message b off2.cargo) e ∙ ap (λ b. message (Takes a) b) f)
+        (outcome_is (Some (a, Tree value)) (ap (λ b. message b off2.payload) e ∙ ap (λ b. message (Takes a) b) f)
         ∙ ap (λ b. if b then Advances (meeting_changes {L = superpascal G.g} x.state v off zn off2 (a, Tree value)) else
         Faulty fault.F7) q)
         (takes_found target j1 named1 stop_is ∙ ap (λ b. sys.clash_by way.Receive kd (Some b)) k.2
         ∙ ap (λ b. if b then None else Some fault.F7) (other_kind false q))
 
-    both : (g1 g2 : Cargo LocationContent Address) → cg ≡ g1 → off2.cargo ≡ g2 → Mine g1 → Other g2 → Entry_of G c s u i
+    both : (g1 g2 : Payload LocationContent Address) → cg ≡ g1 → off2.payload ≡ g2 → Mine g1 → Other g2
+        → Entry_of G c s u i
         d
     both (Message (Tree value)) (Takes a) e f h k = send_take value a e f h k (kd == off2.kind) refl
     both (Takes a) (Message (Tree value)) e f h k = take_send value a e f h k (kd == off2.kind) refl
     both (Message (Tree value)) (Message (Tree other)) e f (j1, en, stop_is, named1, _) k = clash_entry fault.F6
-        (outcome_is None (ap (λ b. message b off2.cargo) e ∙ ap (λ b. message (Message (Tree value)) b) f))
+        (outcome_is None (ap (λ b. message b off2.payload) e ∙ ap (λ b. message (Message (Tree value)) b) f))
         (sends_found (cells_in en) j1 named1 stop_is ∙ ap (λ b. sys.clash_by way.Send kd (Some b)) k.2)
     both (Takes a) (Takes b) e f (j1, target, stop_is, named1, _, _, _) k = clash_entry fault.F6
-        (outcome_is None (ap (λ b. message b off2.cargo) e ∙ ap (λ b. message (Takes a) b) f))
+        (outcome_is None (ap (λ b. message b off2.payload) e ∙ ap (λ b. message (Takes a) b) f))
         (takes_found target j1 named1 stop_is ∙ ap (λ b. sys.clash_by way.Receive kd (Some b)) k.2)
     both (Message (Position n)) g2 e f h k = absurd h
     both (Message (Written bs)) g2 e f h k = absurd h
@@ -743,4 +744,4 @@ module _ (at_stop : AtStop) (z : MatchesNow at_stop)
     both (Takes a) (Message (Written bs)) e f h k = absurd k
 
     pub meeting_entry : Entry_of G c s u i d
-    meeting_entry = both cg off2.cargo refl refl t.carries ca2
+    meeting_entry = both cg off2.payload refl refl t.carries ca2

@@ -7,7 +7,7 @@ use Rattle.std.proofs.lemmas.Bool.{ne_eqb}
 use Rattle.sp_journal.specs.Births.{channel}
 use Rattle.sp_meaning.proofs.Owned.{ConditionInRights}
 use Rattle.sp_meaning.proofs.Keys.{channel_test, name_test, number_or}
-use Rattle.sp_link.proofs.AfterEntry.{stand_again, follows_again, cargo_again}
+use Rattle.sp_link.proofs.AfterEntry.{stand_again, follows_again, payload_again}
 use Rattle.sp_base.specs.declared.fault.Fault.{Fault}
 use Rattle.sp_journal.specs.declared.entry.Way.{Way}
 use Rattle.sp_journal.specs.declared.entry.Way.TheVariants as way
@@ -15,7 +15,8 @@ use Rattle.sp_journal.specs.declared.entry.Event.TheVariants as event
 use Rattle.sp_journal.specs.Births.{happening}
 use Rattle.sp_journal.specs.Maps.{at_key}
 use Rattle.sp_cell.specs.Map.{Plain}
-use Rattle.sp_meaning.specs.Model.{Name, Condition, Absent, Waits, with_changes as After, same_channel, Channel, Cargo}
+use Rattle.sp_meaning.specs.Model.{Name, Condition, Absent, Waits, with_changes as After, same_channel, Channel}
+use Rattle.sp_meaning.specs.Model.{Payload}
 use Rattle.sp_meaning.specs.Model.{Message, Takes, Totals}
 use Rattle.sp_meaning.specs.Steps.{has_ended, IsAlive as IsLive, OfferOf, waiting_changes, entry_cost, way_of, Advances}
 use Rattle.sp_meaning.specs.Steps.{step_outcome}
@@ -57,7 +58,7 @@ use Rattle.sp_link.proofs.Pauses.{MatchesNow, OffersAt}
 use Rattle.sp_link.proofs.OneChanges.{opens_are, unlaid}
 
 module _ (at_stop : AtStop) (z : MatchesNow at_stop)
-    (ch : Channel) (kd : ℕ) (cg : Cargo LocationContent Address) (todo : List Item) (o : LocalState) (m : Store)
+    (ch : Channel) (kd : ℕ) (cg : Payload LocationContent Address) (todo : List Item) (o : LocalState) (m : Store)
     (x : Meant at_stop z (Computed (source.Stops (Offered ch kd cg todo)) o, m))
     (t : OffersAt at_stop z ch kd cg todo o m)
     (y : Kept_to at_stop z (Computed (source.Stops (Offered ch kd cg todo)) o, m))
@@ -82,7 +83,7 @@ module _ (at_stop : AtStop) (z : MatchesNow at_stop)
   r = (Computed (Offered ch kd cg todo) o, m)
 
   abbrev off : OfferOf (superpascal G.g)
-  off = record { channel = ch; kind = kd; cargo = cg; next = with_todo todo x.left.who o }
+  off = record { channel = ch; kind = kd; payload = cg; next = with_todo todo x.left.who o }
 
   totals_are : x.state.totals ≡ s.totals
   totals_are = x.elsewhere.totals
@@ -217,8 +218,8 @@ module _ (at_stop : AtStop) (z : MatchesNow at_stop)
         x.left.who z.named name_is (c.since v) (c1.since v) t.pc t.stack t.frames todo t.follows;
   }
 
-  cargo : Ca G (lv v) (λ a b. lv ((a, b) ∷ v)) v z.fresh x.left.who name_is (c1.since v) t.frames ch kd cg t.stop
-  cargo = cargo_again G (lv v) (λ a b. lv ((a, b) ∷ v)) v z.fresh z.fresh (p1 at_stop).who x.left.who
+  payload : Ca G (lv v) (λ a b. lv ((a, b) ∷ v)) v z.fresh x.left.who name_is (c1.since v) t.frames ch kd cg t.stop
+  payload = payload_again G (lv v) (λ a b. lv ((a, b) ∷ v)) v z.fresh z.fresh (p1 at_stop).who x.left.who
       z.named name_is (c.since v) (c1.since v) t.frames ch kd cg t.stop t.carries
 
   its_does : Performs_all G lv v c1 t1 (u.births.opens i) (sys.Waits t.stop there)
@@ -226,7 +227,7 @@ module _ (at_stop : AtStop) (z : MatchesNow at_stop)
     off,
     waits,
     stands,
-    cargo,
+    payload,
     ap (λ (a : Rattle.sp_meaning.specs.LocalWork.Identity). a.opens) x.who_is
         ∙ opens_are at_stop,
     unlaid at_stop,
@@ -396,7 +397,7 @@ module _ (at_stop : AtStop) (z : MatchesNow at_stop)
     }
 
   -- of both ways
-  waiting_by : (g1 : Cargo LocationContent Address) → cg ≡ g1
+  waiting_by : (g1 : Payload LocationContent Address) → cg ≡ g1
       → Ca G (lv v) (λ a b. lv ((a, b) ∷ v)) v z.fresh x.left.who name_is (c1.since v) t.frames ch kd g1 t.stop
       → Entry_of G c s u i d
   waiting_by (Message (Tree a)) e (j, _, stop_is, named, _) = entry_by j named
@@ -421,4 +422,4 @@ module _ (at_stop : AtStop) (z : MatchesNow at_stop)
       (subst (λ f. IsOpen u.births f) (sym (event_takes j named target)) (is_open j named)))
 
   pub waiting_entry : Entry_of G c s u i d
-  waiting_entry = waiting_by cg refl cargo
+  waiting_entry = waiting_by cg refl payload

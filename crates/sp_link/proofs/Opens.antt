@@ -13,7 +13,7 @@ use Rattle.sp_journal.specs.Maps.{at_key}
 use Rattle.sp_cell.specs.declared.cell.Cell.TheVariants as cell
 use Rattle.sp_cell.specs.Map.{Plain}
 use Rattle.sp_meaning.specs.Maps.{at_key as put_at}
-use Rattle.sp_meaning.specs.Model.{Name, same_name, Channel, Cargo, Message, Takes, Condition, Absent, Works, Waits}
+use Rattle.sp_meaning.specs.Model.{Name, same_name, Channel, Payload, Message, Takes, Condition, Absent, Works, Waits}
 use Rattle.sp_meaning.specs.Model.{Joins, Ended, Becomes, AddsTotals, Opens, with_change, add, Totals}
 use Rattle.sp_meaning.specs.EffectTree.{tree_writes}
 use Rattle.sp_meaning.specs.Steps.{ActOf, has_ended, own_part_in, IsAlive as IsLive, WaitsOn, Advances, Faulty}
@@ -45,7 +45,7 @@ use Rattle.sp_code.specs.PlainStore.{plain}
 use Rattle.sp_code.specs.Scopes.{sort}
 use Rattle.sp_code.specs.System.{System, system_after_turn, event_of, event_or, fault_of, apply_unless_fault, on_store}
 use Rattle.sp_code.specs.System as sys
-use Rattle.sp_codegen.specs.Relation.{OneCell, Stood}
+use Rattle.sp_codegen.specs.Relation.{OneCell, StackHolds}
 use Rattle.sp_codegen.proofs.Writing.{store_law}
 use Rattle.sp_link.proofs.AfterEntry.{stand_again, follows_again}
 use Rattle.sp_link.proofs.AtStop.{known_at}
@@ -93,24 +93,24 @@ module _ (G : RunContext) (lv : RightsOfAll G) (c : Course) (s : StateOf G.g) (u
       idle (Joins a b pr) own h f = h
       idle Ended own h f = h
 
-      cargo : (lf : BirthRights) (more : ℕ → ℕ → BirthRights) (f : Rattle.sp_link.proofs.Relation.Fresh G lf more zn)
+      payload : (lf : BirthRights) (more : ℕ → ℕ → BirthRights) (f : Rattle.sp_link.proofs.Relation.Fresh G lf more zn)
           (w : Identity)
           (nm : w.name ≡ zn) (since : ℕ) (js : List Rattle.sp_codegen.specs.FramePairs.FramePair) (c1 : Channel)
           (kd : ℕ)
-          (g : Cargo LocationContent Address) (z : machine.Stop) → Ca G lf more zn f w nm since js c1 kd g z → (j : ℕ)
+          (g : Payload LocationContent Address) (z : machine.Stop) → Ca G lf more zn f w nm since js c1 kd g z → (j : ℕ)
           × Named G c1 j
-      cargo lf more f w nm since js c1 kd (Message (Tree a)) z (j, _, _, named, _) = (j, named)
-      cargo lf more f w nm since js c1 kd (Message (Position m)) z h = absurd h
-      cargo lf more f w nm since js c1 kd (Message (Written bs)) z h = absurd h
-      cargo lf more f w nm since js c1 kd (Takes a) z (j, _, _, named, _, _, _) = (j, named)
+      payload lf more f w nm since js c1 kd (Message (Tree a)) z (j, _, _, named, _) = (j, named)
+      payload lf more f w nm since js c1 kd (Message (Position m)) z h = absurd h
+      payload lf more f w nm since js c1 kd (Message (Written bs)) z h = absurd h
+      payload lf more f w nm since js c1 kd (Takes a) z (j, _, _, named, _, _, _) = (j, named)
 
       by : (x : sys.Condition Plain) → Performs_all G lv zn c s (u.births.opens k) x → (j : ℕ) × Named G ch j
       by sys.Absent h = absurd h
       by (sys.Working a) h = absurd (idle (s.condition zn) h.0 waits h.1)
       by (sys.Waits z a) (o, is, t, carries, _, _, _) =
           let on : o.channel ≡ ch = subst (λ b. WaitsOn ch b) is waits in
-          let y = cargo (lv zn) (λ a b. lv ((a, b) ∷ zn)) t.fresh o.next.who t.named (c.since zn) t.js
-          o.channel o.kind o.cargo z carries in
+          let y = payload (lv zn) (λ a b. lv ((a, b) ∷ zn)) t.fresh o.next.who t.named (c.since zn) t.js
+          o.channel o.kind o.payload z carries in
           (y.0, subst (λ b. Named G b y.0) on y.1)
       by (sys.Joins left a) (_, _, _, joins, _, _, _) = absurd (subst (λ b. WaitsOn ch b) joins waits)
       by (sys.Laid a) (_, _, (own, runs), _) = absurd (idle (s.condition zn) own waits runs)
@@ -365,9 +365,9 @@ module _ (at_stop : AtStop) (z : MatchesNow at_stop)
                 x.good.named (c.since v) (c1.since v) t.pc t.stack t.frames todo t.follows;
           })
 
-      stood : Stood (Rel (one_more G) (lv v) (λ a b. lv ((a, b) ∷ v)) v goes_on.who (c1.since v)) G.g.program
+      stood : StackHolds (Rel (one_more G) (lv v) (λ a b. lv ((a, b) ∷ v)) v goes_on.who (c1.since v)) G.g.program
           (sort G.g.program t.variable.kind) t.variable.kind (Chan nm) (machine.Chan k)
-      stood = subst (λ b. Stood (Rel (one_more G) (lv v) (λ a b. lv ((a, b) ∷ v)) v goes_on.who (c1.since v))
+      stood = subst (λ b. StackHolds (Rel (one_more G) (lv v) (λ a b. lv ((a, b) ∷ v)) v goes_on.who (c1.since v))
           G.g.program b t.variable.kind (Chan nm) (machine.Chan k)) (sym t.sort_is) (nm, k, refl, refl, named)
 
       stand_now : St (one_more G) (lv v) (λ a b. lv ((a, b) ∷ v)) v goes_on.who (c1.since v) t.frames o m

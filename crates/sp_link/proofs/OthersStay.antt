@@ -208,15 +208,15 @@ module _ (G : RunContext) (lv : RightsOfAll G) (s t : StateOf G.g) (sound : Soun
       where
         both : (a : ℕ) → a ≡ c.since r → (b : ProcessMatches G (lv r) kids r a o.next t.store d)
             × Rattle.sp_link.proofs.Relation.Ca G (lv r) kids r b.fresh o.next.who b.named a b.js o.channel
-            o.kind o.cargo y
+            o.kind o.payload y
         both a e = subst (λ a. (b : ProcessMatches G (lv r) kids r a o.next t.store d)
             × Rattle.sp_link.proofs.Relation.Ca G (lv r) kids r b.fresh o.next.who b.named a b.js o.channel
-            o.kind o.cargo y) (sym e)
+            o.kind o.payload y) (sym e)
             (stands_stay (c.since r) o.next d (inr (o.channel, waits_is (s.condition r) o waits)) t0, carries)
 
         z : (b : ProcessMatches G (lv r) kids r (c1.since r) o.next t.store d)
             × Rattle.sp_link.proofs.Relation.Ca G (lv r) kids r b.fresh o.next.who b.named (c1.since r) b.js
-            o.channel o.kind o.cargo y
+            o.channel o.kind o.payload y
         z = both (c1.since r) si
     does_stay c c1 si la fa opens (sys.Joins left d) (k, n, pr, joins, joining, opens_are, not_laid) = (
       k,

@@ -8,7 +8,7 @@ use Rattle.sp_journal.specs.Maps.{at_key}
 use Rattle.sp_journal.specs.declared.entry.Event.TheVariants as event
 use Rattle.sp_cell.specs.Map.{Plain}
 use Rattle.sp_meaning.specs.Actions.{Birth, Opened, Forked, Offered, Ended}
-use Rattle.sp_meaning.specs.Model.{Name, Channel, Cargo}
+use Rattle.sp_meaning.specs.Model.{Name, Channel, Payload}
 use Rattle.sp_meaning.specs.Entries.{Happening, Paused as Is_paused}
 use Rattle.sp_meaning.specs.LocalWork.{Loc, LocationContent, Address, LocalState, Item, Process, WorkOutcome, Computed}
 use Rattle.sp_meaning.specs.SuperPascal.{with_todo}
@@ -135,7 +135,7 @@ module _ (at_stop : AtStop) where
     abbrev pub ForksAt : List Birth → List Item → LocalState → Store → Type 0
     ForksAt bs todo o m = AtFork running (At z.pc z.stack z.memory) (lv w).end (lv w).below bs todo o m
 
-    abbrev pub OffersAt : Channel → ℕ → Cargo LocationContent Address → List Item → LocalState → Store → Type 0
+    abbrev pub OffersAt : Channel → ℕ → Payload LocationContent Address → List Item → LocalState → Store → Type 0
     OffersAt ch k cg todo o m = AtOffer running (At z.pc z.stack z.memory) (lv w).end (lv w).below ch k cg todo o m
 
     abbrev pub OpensAt : List Item → LocalState → Store → Type 0
@@ -152,7 +152,7 @@ module _ (at_stop : AtStop) where
         → Machined (Computed (source.Stops (Forked bs todo)) o, m) → ForksAt bs todo o m
     forks_at = to_fork running (At z.pc z.stack z.memory) (lv w).end (lv w).below
 
-    pub offers_at : (ch : Channel) (k : ℕ) (cg : Cargo LocationContent Address) (todo : List Item) (o : LocalState)
+    pub offers_at : (ch : Channel) (k : ℕ) (cg : Payload LocationContent Address) (todo : List Item) (o : LocalState)
         (m : Store) → Machined (Computed (source.Stops (Offered ch k cg todo)) o, m) → OffersAt ch k cg todo o m
     offers_at = to_offer running (At z.pc z.stack z.memory) (lv w).end (lv w).below
 

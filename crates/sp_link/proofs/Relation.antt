@@ -17,7 +17,7 @@ use Rattle.sp_journal.proofs.BirthLaws.{Born}
 use Rattle.sp_cell.specs.declared.spot.Spot.{Spot}
 use Rattle.sp_cell.specs.Map.{Map, Plain, Away, IsOwn, with_map, output_spot, output_of}
 use Rattle.sp_cell.specs.Spots.{In, NotIn}
-use Rattle.sp_meaning.specs.Model.{Name, Channel, same_channel, Cargo, Offer, Condition, Absent, Waits, Joins, Ended}
+use Rattle.sp_meaning.specs.Model.{Name, Channel, same_channel, Payload, Offer, Condition, Absent, Waits, Joins, Ended}
 use Rattle.sp_meaning.specs.Steps.{own_part_in, has_ended}
 use Rattle.sp_meaning.specs.LocalWork.{RunInput, Loc, Cell, Input, Output, OfIndex, LocationContent, Written, Address}
 use Rattle.sp_meaning.specs.LocalWork.{LocalState, Identity, Item}
@@ -51,9 +51,9 @@ use Rattle.sp_tree.specs.Formed.{IsFormed}
 use Rattle.sp_codegen.specs.FramePairs.{FramePair, pairs_from}
 use Rattle.sp_codegen.specs.TurnAgrees.{code_run, due_after}
 use Rattle.sp_codegen.specs.Executions.{Execution}
-use Rattle.sp_codegen.specs.Following.{CodeFollows, CargoIs}
+use Rattle.sp_codegen.specs.Following.{CodeFollows, PayloadIs}
 use Rattle.sp_codegen.specs.Relation.{Relation, KeepsRelation}
-use Rattle.sp_codegen.specs.Standing.{Live, Stand, relation, spot_at}
+use Rattle.sp_codegen.specs.Standing.{Live, Agrees, relation, spot_at}
 use Rattle.sp_codegen.proofs.Closing.{Laid}
 use Rattle.sp_codegen.proofs.Instance.{instance}
 use Rattle.sp_codegen.proofs.Joining.{Joining}
@@ -158,7 +158,7 @@ module _ (G : RunContext) where
     base = length lf.below
 
     abbrev pub St : Identity → ℕ → List FramePair → LocalState → Store → Memory Plain → Type 0
-    St w since js o s n = Stand G.g G.code w Named Called IsWritableLoc IsReadable lf.J lf.low base lf.born since
+    St w since js o s n = Agrees G.g G.code w Named Called IsWritableLoc IsReadable lf.J lf.low base lf.born since
         G.pause
         lf.moved js o s n
 
@@ -207,8 +207,8 @@ module _ (G : RunContext) where
       Fo pc stack js todo = CodeFollows execution lf.end [] lf.below pc stack js todo
 
       -- the offer of a waiting process
-      abbrev pub Ca : List FramePair → Channel → ℕ → Cargo LocationContent Address → Stop → Type 0
-      Ca js c k x z = CargoIs execution js c k x z
+      abbrev pub Ca : List FramePair → Channel → ℕ → Payload LocationContent Address → Stop → Type 0
+      Ca js c k x z = PayloadIs execution js c k x z
 
     -- a process that runs, or that waits at an offer: c is where the machine has it
     pub record ProcessMatches (since : ℕ) (pr : Process) (s : Store) (c : Config (Memory Plain)) : Type 0 where
@@ -303,7 +303,7 @@ module _ (G : RunContext) where
         × (c.laid q ≡ false)
     Performs c s opens (sys.Waits z d) = (o : Offer Process LocationContent Address) × (s.condition q ≡ Waits o)
         × (t : ProcessMatches (c.since q) o.next s.store d)
-        × Ca t.fresh o.next.who t.named (c.since q) t.js o.channel o.kind o.cargo z × (o.next.who.opens ≡ opens)
+        × Ca t.fresh o.next.who t.named (c.since q) t.js o.channel o.kind o.payload z × (o.next.who.opens ≡ opens)
         × (c.laid q ≡ false) × HasOwnTarget z d
     Performs c s opens (sys.Joins left d) = (k n : ℕ) × (pr : Process) × (s.condition q ≡ Joins k n pr)
         × Joined (c.since q) k n left pr s d × (pr.who.opens ≡ opens) × (c.laid q ≡ false)

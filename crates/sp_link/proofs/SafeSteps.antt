@@ -16,7 +16,7 @@ use Rattle.sp_cell.specs.declared.spot.Spot.{Spot}
 use Rattle.sp_cell.specs.declared.spot.Address.{Address as Ptr}
 use Rattle.sp_cell.specs.Map.{Plain, IsHeld, IsOwn, HasCells}
 use Rattle.sp_cell.specs.Spots.{In}
-use Rattle.sp_meaning.specs.Model.{Name, Channel, Cargo, Message, Takes, Joins}
+use Rattle.sp_meaning.specs.Model.{Name, Channel, Payload, Message, Takes, Joins}
 use Rattle.sp_meaning.specs.Steps.{has_ended, JoinsAt, IsAlive as IsLive}
 use Rattle.sp_meaning.specs.Values.{Value}
 use Rattle.sp_meaning.specs.LocalWork.{LocationContent, Tree, Position, Written, Address, LocalState, Identity, Process}
@@ -40,7 +40,7 @@ use Rattle.sp_code.specs.System.{System, store_of, plan_of}
 use Rattle.sp_code.specs.System as sys
 use Rattle.sp_code.proofs.Turning.{turn_same}
 use Rattle.sp_code.proofs.StoreLaws.{held_of_cells}
-use Rattle.sp_codegen.specs.Following.{CargoIs, cells_in}
+use Rattle.sp_codegen.specs.Following.{PayloadIs, cells_in}
 use Rattle.sp_codegen.specs.FramePairs.{FramePair}
 use Rattle.sp_codegen.specs.Shapes.{Flat}
 use Rattle.sp_codegen.specs.Standing.{PointsTo, made_frames}
@@ -170,8 +170,8 @@ module _ (G : RunContext) (lv : RightsOfAll G) (c : Course) (s : StateOf G.g) (u
     Well (Stopped machine.Pauses e) = Unit {0}
 
     module _ (z : MatchesNow at_stop) where
-      abbrev Cargo_is : List FramePair → Channel → ℕ → Cargo LocationContent Address → machine.Stop → Type 0
-      Cargo_is fs ch k g x = CargoIs (running at_stop z) fs ch k g x
+      abbrev Payload_is : List FramePair → Channel → ℕ → Payload LocationContent Address → machine.Stop → Type 0
+      Payload_is fs ch k g x = PayloadIs (running at_stop z) fs ch k g x
 
       by_well : (r : WorkOutcome source.Stop × Store) → HoldsAtTurnEnd Well z r
       by_well (Computed (source.Paused todo) o, m) e x t y =
@@ -205,23 +205,23 @@ module _ (G : RunContext) (lv : RightsOfAll G) (c : Course) (s : StateOf G.g) (u
       by_well (Computed (source.Stops (Offered ch k a todo)) o, m) e x t y = (
         Stopped h.stop (At h.pc h.stack h.memory),
         turn_is at_stop z (Stopped h.stop (At h.pc h.stack h.memory)) (h.last, h.comes, h.stops),
-        by_cargo a h.carries,
+        by_payload a h.carries,
       )
         where
           h : OffersAt at_stop z ch k a todo o m
           h = offers_at at_stop z ch k a todo o m t
 
-          by_cargo : (g : Cargo LocationContent Address) → Cargo_is h.frames ch k g h.stop
+          by_payload : (g : Payload LocationContent Address) → Payload_is h.frames ch k g h.stop
               → Well (Stopped h.stop (At h.pc h.stack h.memory))
-          by_cargo (Message (Tree w)) (j, entry, stop_is, named, stood) =
+          by_payload (Message (Tree w)) (j, entry, stop_is, named, stood) =
               subst (λ b. Well (Stopped b (At h.pc h.stack h.memory))) (sym stop_is) (
                 w,
                 sent_flat G (lv v) (kids at_stop) v (pr at_stop).who (c.since v) k (sort G.g.program k) refl w entry
                     stood,
               )
-          by_cargo (Message (Position n)) r = absurd r
-          by_cargo (Message (Written bs)) r = absurd r
-          by_cargo (Takes w) (j, target, stop_is, named, kind_is, points, may) =
+          by_payload (Message (Position n)) r = absurd r
+          by_payload (Message (Written bs)) r = absurd r
+          by_payload (Takes w) (j, target, stop_is, named, kind_is, points, may) =
               subst (λ b. Well (Stopped b (At h.pc h.stack h.memory))) (sym stop_is)
               (taken_well G (lv v) (kids at_stop) v k w target h.pc h.stack h.memory h.stand kind_is points may
               (subst (λ b. HasOwnTarget b (At h.pc h.stack (record (h.memory) { since = h.memory.ticks }))) stop_is
@@ -368,7 +368,7 @@ module _ (G : RunContext) (lv : RightsOfAll G) (c : Course) (s : StateOf G.g) (u
     where
       by : (o : Offer Process LocationContent Address)
           (t : ProcessMatches G (lv (G.births.name z)) (λ a b. lv ((a, b) ∷ G.births.name z)) (G.births.name z)
-          (c.since (G.births.name z)) o.next s.store e) (g : Cargo LocationContent Address)
+          (c.since (G.births.name z)) o.next s.store e) (g : Payload LocationContent Address)
           → Ca G (lv (G.births.name z)) (λ a b. lv ((a, b) ∷ G.births.name z)) (G.births.name z) t.fresh o.next.who
           t.named (c.since (G.births.name z)) t.js o.channel o.kind g (machine.Sends ch k cs) → IsMessage G k cs
       by o t (Message (Tree w)) (j, entry, stop_is, named, stood) =
@@ -394,7 +394,7 @@ module _ (G : RunContext) (lv : RightsOfAll G) (c : Course) (s : StateOf G.g) (u
 
       of : Performs_all G lv (G.births.name z) c s (u.births.opens z) (sys.Waits (machine.Sends ch k cs) e)
           → IsMessage G k cs
-      of (o, waits, t, carries, opens_are, not_laid, owns) = by o t o.cargo carries
+      of (o, waits, t, carries, opens_are, not_laid, owns) = by o t o.payload carries
 
   waits_room : (ch k : ℕ) (a : Ptr) (z : ℕ) (e : Config (Memory Plain)) → z < u.births.processes
       → u.condition z ≡ sys.Waits (machine.Receives ch k a) e → Takes_well G k a e
@@ -403,7 +403,7 @@ module _ (G : RunContext) (lv : RightsOfAll G) (c : Course) (s : StateOf G.g) (u
     where
       by : (o : Offer Process LocationContent Address)
           (t : ProcessMatches G (lv (G.births.name z)) (λ a b. lv ((a, b) ∷ G.births.name z)) (G.births.name z)
-          (c.since (G.births.name z)) o.next s.store e) (g : Cargo LocationContent Address)
+          (c.since (G.births.name z)) o.next s.store e) (g : Payload LocationContent Address)
           → Ca G (lv (G.births.name z)) (λ a b. lv ((a, b) ∷ G.births.name z)) (G.births.name z) t.fresh o.next.who
           t.named (c.since (G.births.name z)) t.js o.channel o.kind g (machine.Receives ch k a)
           → HasOwnTarget (machine.Receives ch k a) e → Takes_well G k a e
@@ -429,7 +429,7 @@ module _ (G : RunContext) (lv : RightsOfAll G) (c : Course) (s : StateOf G.g) (u
 
       of : Performs_all G lv (G.births.name z) c s (u.births.opens z) (sys.Waits (machine.Receives ch k a) e)
           → Takes_well G k a e
-      of (o, waits, t, carries, opens_are, not_laid, owns) = by o t o.cargo carries owns
+      of (o, waits, t, carries, opens_are, not_laid, owns) = by o t o.payload carries owns
 
   -- two offers that meet have one type
   one_type : (j k : ℕ) (f : Option Fault) → f ≡ (if j == k then None else Some fault.F7) → f ≡ None → j ≡ k

@@ -20,7 +20,7 @@ use Rattle.sp_code.specs.Places.{after_value, after_var, after_tests, after_stat
 use Rattle.sp_code.specs.Scopes.{Sort, Ordinals, Channels, Many, NoSort, Scope, OfIndex, is_index, level, one_more}
 use Rattle.sp_code.specs.Scopes.{parent_of, scopes_by, scopes_of, sort}
 use Rattle.sp_code.specs.CodeOfTree.{ValueAt, FormAt, PlaceAt, SelectedAt, ActualsAt, WidthAt, RightAt, VarRole}
-use Rattle.sp_code.specs.CodeOfTree.{StandsAt}
+use Rattle.sp_code.specs.CodeOfTree.{StatementAt}
 use Rattle.sp_code.specs.CodeOfTree.{AllAt, ChildrenAt, ArmsAt, CodeAt, HasFork, HasWords}
 use Rattle.sp_link.proofs.ChildrenStand.{reached_formed}
 use Rattle.sp_link.proofs.Relation.{RunContext}
@@ -142,7 +142,7 @@ module _ (p : Program) (free : IsFreeOfInterference p) (moves shares : Stmt → 
 
   mutual
     pub stmt : (s : Stmt) (fr : Bool) (sc : List Scope) (q : ℕ)
-        → StandsAt p moves shares Is HasTable HasText callable fr sc q s → (u : Use) → In_stmt s u → D sc u
+        → StatementAt p moves shares Is HasTable HasText callable fr sc q s → (u : Use) → In_stmt s u → D sc u
     stmt Empty fr sc q h u a = absurd a
     stmt (Assign v (Typed k form)) fr sc q h u (inl a) = target v k sc q h.0 u a
     stmt (Assign v (Typed k form)) fr sc q h u (inr a) = right (sort p k) form k sc (after_var q v) h.2 u a
@@ -253,7 +253,8 @@ module _ (G : RunContext) where
       )
 
   pub is_scoped : (fr : Bool) (sc : List Scope) (q : ℕ) (st : Stmt)
-      → StandsAt G.g.program G.moves G.shares (CodeAt G.code) (HasFork G.code) (HasWords G.code) G.callable fr sc q st
+      → StatementAt G.g.program G.moves G.shares (CodeAt G.code) (HasFork G.code)
+      (HasWords G.code) G.callable fr sc q st
       → ((u : Use) → In_stmt st u → IsFormedUse G.g.program u) → IsScoped G.g.program sc st
   is_scoped fr sc q st h formed y (inl a) = let f = reached_formed G a.0 formed (Target y) a.1 in
       (f.0, f.1, λ iv. absurd (f.2 iv))

@@ -254,7 +254,8 @@ module _ (g : RunInput) (q : Name) (pause since : ℕ) (P : Process → Store �
               (moved_runs s pr1 m))
       go ih (Computed (Opened todo) o, m) er = comes_now s pr x e (Computed (Opened todo) o, m) er
       go ih (Computed (Forked bs todo) o, m) er = comes_now s pr x e (Computed (Forked bs todo) o, m) er
-      go ih (Computed (Offered c y cargo todo) o, m) er = comes_now s pr x e (Computed (Offered c y cargo todo) o, m) er
+      go ih (Computed (Offered c y payload todo) o, m) er =
+          comes_now s pr x e (Computed (Offered c y payload todo) o, m) er
       go ih (Computed Ended o, m) er = comes_now s pr x e (Computed Ended o, m) er
       go ih (EndsInFault f, m) er = comes_now s pr x e (EndsInFault f, m) er
       go ih (IllFormed, m) er = tt

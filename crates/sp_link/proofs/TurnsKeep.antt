@@ -89,7 +89,7 @@ module _ (g : RunInput) (free : IsFreeOfInterference g.program) (q : Name) (W R 
             by_due false = let x = ih todo1 o1 s1 d in record { stays = stays_on s s1 _ a x.stays; final = x.final }
         go ih (Computed (Opened todo1) o1, s1) a d = record { stays = a; final = d }
         go ih (Computed (Forked bs todo1) o1, s1) a d = record { stays = a; final = d }
-        go ih (Computed (Offered c x cargo todo1) o1, s1) a d = record { stays = a; final = d }
+        go ih (Computed (Offered c x payload todo1) o1, s1) a d = record { stays = a; final = d }
         go ih (Computed Ended o1, s1) a d = record { stays = a; final = d }
         go ih (EndsInFault x, s1) a d = record { stays = a; final = tt }
         go ih (IllFormed, s1) a d = record { stays = a; final = tt }

@@ -6,7 +6,8 @@ use Rattle.std.proofs.lemmas.Option.{none-some, same_Some}
 use Rattle.sp_journal.specs.declared.entry.Way.TheVariants as way
 use Rattle.sp_journal.specs.Births.{channel}
 use Rattle.sp_cell.specs.Map.{Plain}
-use Rattle.sp_meaning.specs.Model.{Name, Channel, Cargo, Message, Takes, Offer, Condition, Absent, Waits, Joins, Ended}
+use Rattle.sp_meaning.specs.Model.{Name, Channel, Payload, Message, Takes, Offer, Condition, Absent, Waits, Joins}
+use Rattle.sp_meaning.specs.Model.{Ended}
 use Rattle.sp_meaning.specs.Steps.{own_part_in, way_of}
 use Rattle.sp_meaning.specs.LocalWork.{Tree, Position, Written, LocationContent, Address, Process}
 use Rattle.sp_meaning.specs.Runs.{StateOf}
@@ -28,7 +29,7 @@ module _ (G : RunContext) (lv : RightsOfAll G) (c : Course) (s : StateOf G.g) (u
   named_here : (ch : Channel) (j : ℕ) → Named G ch j → channel u.births j ≡ ch
   named_here ch j n = l.began.openings j (subst (λ y. j < y) l.open_is n.0) ∙ n.2
 
-  -- what a process offers by its stop and by its cargo
+  -- what a process offers by its stop and by its payload
   module _ (i : ℕ) (lt : i < u.births.processes) (stop : Stop) (d : Config (Memory Plain))
       (h : Performs_all G lv (G.births.name i) c s (u.births.opens i) (sys.Waits stop d)) where
     abbrev q : Name
@@ -37,7 +38,7 @@ module _ (G : RunContext) (lv : RightsOfAll G) (c : Course) (s : StateOf G.g) (u
     abbrev o : Offer Process LocationContent Address
     o = h.0
 
-    offers_so : (g : Cargo LocationContent Address) → Ca G (lv q) (λ a b. lv ((a, b) ∷ q)) q (h.2).fresh o.next.who
+    offers_so : (g : Payload LocationContent Address) → Ca G (lv q) (λ a b. lv ((a, b) ∷ q)) q (h.2).fresh o.next.who
         (h.2).named
         (c.since q) (h.2).js o.channel o.kind g stop
         → waiting_at u.births i stop ≡ Some (record { who = q; way = way_of g; channel = o.channel })
@@ -61,15 +62,15 @@ module _ (G : RunContext) (lv : RightsOfAll G) (c : Course) (s : StateOf G.g) (u
         waits_on : Channel → Waiting
         waits_on y = record { who = q; way = way.Receive; channel = y }
 
-    offers : waiting_at u.births i stop ≡ Some (record { who = q; way = way_of o.cargo; channel = o.channel })
-    offers = offers_so o.cargo h.3
+    offers : waiting_at u.births i stop ≡ Some (record { who = q; way = way_of o.payload; channel = o.channel })
+    offers = offers_so o.payload h.3
 
   pub waits_means : (w : Waiting) → WaitsAs u w → WaitsSo G.g s w
   waits_means w (i, stop, d, at, told) =
       let lt = has_number G lv c s u l i (sys.Waits stop d) at (λ e. cc e) in
       let x : Performs_all G lv (G.births.name i) c s (u.births.opens i) (sys.Waits stop d) =
       subst (λ y. Performs_all G lv (G.births.name i) c s (u.births.opens i) y) at (l.does i lt) in
-      let is : Some w ≡ Some (record { who = G.births.name i; way = way_of (x.0).cargo; channel = (x.0).channel }) =
+      let is : Some w ≡ Some (record { who = G.births.name i; way = way_of (x.0).payload; channel = (x.0).channel }) =
       sym told ∙ offers i lt stop d x in
       let same = same_Some _ _ is in (
         x.0,
@@ -107,13 +108,13 @@ module _ (G : RunContext) (lv : RightsOfAll G) (c : Course) (s : StateOf G.g) (u
       by i lt e (sys.Working d) k x = absurd (works (G.births.name i) (ap (λ y. s.condition y) e ∙ h.1) x.1)
       by i lt e (sys.Waits stop d) k x =
           let o : x.0 ≡ h.0 = one (sym x.1 ∙ ap (λ y. s.condition y) e ∙ h.1) in
-          let is : record { who = G.births.name i; way = way_of (x.0).cargo; channel = (x.0).channel } ≡ w =
+          let is : record { who = G.births.name i; way = way_of (x.0).payload; channel = (x.0).channel } ≡ w =
           ap (λ (y : Offer Process LocationContent Address). same (G.births.name i) y) o ∙ ap (λ y. same y h.0) e
           ∙ rest in
           (i, stop, d, k, offers i lt stop d x ∙ ap (λ y. Some y) is)
         where
           same : Name → Offer Process LocationContent Address → Waiting
-          same y z = record { who = y; way = way_of z.cargo; channel = z.channel }
+          same y z = record { who = y; way = way_of z.payload; channel = z.channel }
 
           rest : same w.who h.0 ≡ w
           rest = λ j. record { who = w.who; way = sym h.2 j; channel = sym h.3 j }

@@ -84,12 +84,12 @@ pub record AreWaiters (k : Control) (ws : List Waiter) : Type 0 where
   pub sorted : IsSortedByKey (λ (w : Waiter). w.process) name_cmp ws
 
 -- the control of these notes stands at this end, as the program tells it
-abbrev pub StandsAt : List Note → End → Type 0
-StandsAt ns end.Done = standing (control ns) ≡ IsDone
-StandsAt ns (end.Deadlock ws) = (standing (control ns) ≡ IsDeadlock) × AreWaiters (control ns) ws
-StandsAt ns (end.Fault name f) = (standing (control ns) ≡ IsFault)
+abbrev pub ControlEndsAt : List Note → End → Type 0
+ControlEndsAt ns end.Done = standing (control ns) ≡ IsDone
+ControlEndsAt ns (end.Deadlock ws) = (standing (control ns) ≡ IsDeadlock) × AreWaiters (control ns) ws
+ControlEndsAt ns (end.Fault name f) = (standing (control ns) ≡ IsFault)
     × ((p : ℕ) × HasFaultEntry (entries_of ns) p f × (name ≡ proc_name ((births (entries_of ns)).name p)))
-StandsAt ns end.Memory = ⊥
+ControlEndsAt ns end.Memory = ⊥
 
 -- an offer at this stop meets a pending one of its own way
 abbrev pub MeetsItsWay : System Plain → Stop → Type 0

@@ -20,7 +20,7 @@ use Rattle.sp_code.specs.NeverStops.{NeverStops}
 use Rattle.sp_code.specs.Shares.{SetsAre}
 use Rattle.sp_code.specs.Sizes.{HasSmallTypes}
 use Rattle.sp_code.specs.Sound.{AreLimits}
-use Rattle.sp_code.specs.CodeOfTree.{IsFine}
+use Rattle.sp_code.specs.CodeOfTree.{IsSoundBlock}
 use Rattle.sp_code.specs.System.{System, IsSystem}
 use Rattle.sp_codegen.specs.TurnAgrees.{code_run}
 
@@ -36,7 +36,7 @@ pub record IsReady (g : RunInput) (moves shares : Stmt → List ℕ) : Type 0 wh
   pub values : (f : ℕ) (b : Block) → slice_get g.program.blocks f ≡ Some b → IsFunction g.program f → (x : ℕ)
       → IsMember x b.formals → (v : Variable) → slice_get g.program.variables x ≡ Some v → v.role ≡ role.Reference → ⊥
   pub fine : (f q : ℕ) (b : Block) → slice_get g.program.blocks f ≡ Some b
-      → IsFine g.program moves shares (NeverStops g.program) f q b
+      → IsSoundBlock g.program moves shares (NeverStops g.program) f q b
   pub sets : SetsAre g.program moves shares
   pub limits : AreLimits g.limits
 

@@ -27,7 +27,7 @@ ghost use Rattle.sp_code.specs.System.{System, Working, Over, IsSystem, IsLegal,
 ghost use Rattle.sp_code.specs.System.{opening_system};
 ghost use Rattle.sp_code.specs.Turns.{Stopped, IsSafe};
 ghost use Rattle.sp_history.specs.Agreement.{Reaches};
-ghost use Rattle.sp_link.specs.Endings.{HasFaultEntry, WaitsAs, IsStuck, StandsAt, MeetsItsWay};
+ghost use Rattle.sp_link.specs.Endings.{HasFaultEntry, WaitsAs, IsStuck, ControlEndsAt, MeetsItsWay};
 ghost use Rattle.sp_link.specs.Premises.{IsReady, AreAlong, run_by};
 
 /// Along a journal the meaning comes to at most one state, by one number of steps.
@@ -137,7 +137,7 @@ pub fn histories_end_as_the_program_does()
     ensures ends { (g : RunInput) (moves shares : Stmt → List ℕ) (pause : ℕ) → IsReady g moves shares → (ns : List Note)
         → IsLegal plain (run_by g moves shares pause) ns → (n : ℕ) (s : StateOf g)
         → IsAlong g pause (occurrences_from first_births (entries_of ns)) n s
-        → (e : End) → StandsAt ns e → EndIs g s e }
+        → (e : End) → ControlEndsAt ns e → EndIs g s e }
 {}
 
 /// Contention is an entry exactly where an offer meets a pending one of its own way and the journal is not full.

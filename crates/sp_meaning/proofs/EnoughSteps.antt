@@ -228,7 +228,7 @@ module _ (g : RunInput) (k : ℕ) where
   ActionFalls t w (actions.Ticked todo) o = Falls t w todo o
   ActionFalls t w (Opened todo) o = AreLight k todo
   ActionFalls t w (Forked bs todo) o = AllBorn k bs × AreLight k todo
-  ActionFalls t w (Offered c i cargo todo) o = AreLight k todo
+  ActionFalls t w (Offered c i payload todo) o = AreLight k todo
   ActionFalls t w Ended o = Unit {0}
 
   went : (t w : ℕ) (todo : List Item) → weights todo < w → AreLight k todo

@@ -71,7 +71,7 @@ births_in s p x all i (o ∷ os) e =
 
 hands_in : {L : Language} (s : State L) (p : Name) (o : OfferOf L) (z : Name) (w : OfferOf L)
     (m : Option (L.Target × L.Value)) → s.pending o.channel ≡ Some z → s.condition z ≡ Waits w
-    → message o.cargo w.cargo ≡ m → OutcomeIn s p (Offering o) (handover_outcome s p o z w m)
+    → message o.payload w.payload ≡ m → OutcomeIn s p (Offering o) (handover_outcome s p o z w m)
 hands_in s p o z w None e c h = tt
 hands_in {L} s p o z w (Some m) e c h = elim (o.kind == w.kind) as
     (λ b. OutcomeIn s p (Offering o) (cond b (Advances (meeting_changes s p o z w m)) (Faulty fault.F7))) [
@@ -94,7 +94,7 @@ hands_in {L} s p o z w (Some m) e c h = elim (o.kind == w.kind) as
 
 meets_in : {L : Language} (s : State L) (p : Name) (o : OfferOf L) (z : Name) (c : ConditionOf L)
     → s.pending o.channel ≡ Some z → s.condition z ≡ c → OutcomeIn s p (Offering o) (meeting_outcome s p o z c)
-meets_in s p o z (Waits w) e h = hands_in s p o z w (message o.cargo w.cargo) e h refl
+meets_in s p o z (Waits w) e h = hands_in s p o z w (message o.payload w.payload) e h refl
 meets_in _ _ _ _ _ _ _ = tt
 
 offered_in : {L : Language} (s : State L) (p : Name) (o : OfferOf L) (m : Option Name) → s.pending o.channel ≡ m

@@ -15,13 +15,13 @@ use Rattle.sp_meaning.specs.Runs.{happening_at}
 use Rattle.sp_meaning.specs.Along.{Either, is_due_after, Turn, Course, KernelStep, EntryStep, Along, IsCleanly, IsClean}
 use Rattle.sp_meaning.proofs.Frames.{all_in, fault_frame}
 
-abbrev IsFine : Option Happening → Type 0
-IsFine None = Unit {0}
-IsFine (Some w) = IsCleanly w
+abbrev IsCleanStep : Option Happening → Type 0
+IsCleanStep None = Unit {0}
+IsCleanStep (Some w) = IsCleanly w
 
 module _ (g : RunInput) where
   fine : (s : StateOf g) (q : Name) (a : ActOf (superpascal g)) (x : Option Fault) (out : ActOutcome (superpascal g))
-      → act_outcome s q a ≡ out → IsFine (happening_of a (fault_or x out)) → s.fault ≡ None
+      → act_outcome s q a ≡ out → IsCleanStep (happening_of a (fault_or x out)) → s.fault ≡ None
       → (result_of s q (fault_or x out)).fault ≡ None
   fine s q a None (Advances cs) e f h = fault_frame s q a cs s (all_in s q a cs e) ∙ h
   fine s q a None (Faulty i) e f h = absurd f
@@ -29,12 +29,13 @@ module _ (g : RunInput) where
 
   -- a step without a fault entry sets no fault
   pub no_fault_step : (s : StateOf g) (q : Name) (own : Process) (m : StateOf g) (w : Option Happening)
-      → running_process g s q ≡ Some own → happening_at g s q own ≡ w → IsFine w → next_state g s q ≡ Some m
+      → running_process g s q ≡ Some own → happening_at g s q own ≡ w → IsCleanStep w → next_state g s q ≡ Some m
       → s.fault ≡ None → m.fault ≡ None
   no_fault_step s q own m w run e f st h =
       let a = (superpascal g).next own s.store in
       let ok : (result_of s q (step_outcome (total_limits g) s q a)).fault ≡ None =
-      fine s q a (limit_fault (total_limits g) s.totals (cost a)) (act_outcome s q a) refl (subst IsFine (sym e) f) h in
+      fine s q a (limit_fault (total_limits g) s.totals (cost a)) (act_outcome s q a) refl
+      (subst IsCleanStep (sym e) f) h in
       let same : result_of s q (step_outcome (total_limits g) s q a) ≡ m =
       same_Some (result_of s q (step_outcome (total_limits g) s q a)) m (sym (ap (step_with (total_limits g) s q) run)
       ∙ st) in

@@ -65,7 +65,7 @@ module _ (g : RunInput) where
       by (Opens o ws) e w = (p, inl (refl, subst (λ (x : ActOf (superpascal g)). Assigns x l) (sym e) w))
       by (Forks o os) e w = absurd w
       by (Offering o) e w =
-          (receiver o.cargo p w.partner, inr (record { offer = o; offer_is = e; goes = w; who_is = refl }))
+          (receiver o.payload p w.partner, inr (record { offer = o; offer_is = e; goes = w; who_is = refl }))
       by EndsProcess e w = absurd w
       by (MeetsFault f) e w = absurd w
 

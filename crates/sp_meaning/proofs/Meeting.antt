@@ -15,12 +15,12 @@ pub record Met {L : Language} (s : State L) (p : Name) (o : OfferOf L) (z : Name
   pub its : OfferOf L
   pub waits : s.condition z ≡ Waits its
   pub passes : L.Target × L.Value
-  pub message_is : message o.cargo its.cargo ≡ Some passes
+  pub message_is : message o.payload its.payload ≡ Some passes
   pub alike : o.kind == its.kind ≡ true
   pub made : cs ≡ meeting_changes s p o z its passes
 
 module _ {L : Language} (s : State L) (p : Name) (o : OfferOf L) (z : Name) (cs : List (Change L)) where
-  met_by : (w : OfferOf L) (m : Option (L.Target × L.Value)) → s.condition z ≡ Waits w → message o.cargo w.cargo ≡ m
+  met_by : (w : OfferOf L) (m : Option (L.Target × L.Value)) → s.condition z ≡ Waits w → message o.payload w.payload ≡ m
       → handover_outcome s p o z w m ≡ Advances cs → Met s p o z cs
   met_by w None c h e = absurd (cc e)
   met_by w (Some m) c h e = elim (o.kind == w.kind) as
@@ -31,7 +31,7 @@ module _ {L : Language} (s : State L) (p : Name) (o : OfferOf L) (z : Name) (cs 
       ] refl e
 
   met_in : (c : ConditionOf L) → s.condition z ≡ c → meeting_outcome s p o z c ≡ Advances cs → Met s p o z cs
-  met_in (Waits w) c e = met_by w (message o.cargo w.cargo) c refl e
+  met_in (Waits w) c e = met_by w (message o.payload w.payload) c refl e
   met_in _ _ e = absurd (cc e)
 
   pub met : s.pending o.channel ≡ Some z → act_outcome s p (Offering o) ≡ Advances cs → Met s p o z cs

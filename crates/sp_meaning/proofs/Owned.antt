@@ -11,7 +11,7 @@ use Rattle.sp_base.proofs.Facts.{is_plus_none, next_goes_right}
 use Rattle.sp_tree.specs.Plain.{Program, Stmt}
 use Rattle.sp_meaning.specs.Maps.{at_key}
 use Rattle.sp_meaning.specs.Model.{Name, same_name, Totals, Language, Offering}
-use Rattle.sp_meaning.specs.Model.{Cargo}
+use Rattle.sp_meaning.specs.Model.{Payload}
 use Rattle.sp_meaning.specs.Model.{Message, Takes, Condition, Absent, Works, Waits, Joins, Ended, State, Becomes}
 use Rattle.sp_meaning.specs.Model.{Forked, WritesLocation, Pends, AddsTotals, Faults, with_change, with_changes}
 use Rattle.sp_meaning.specs.Steps.{ActOf, OfferOf, ConditionOf, own_part_in, ActOutcome, Advances, Faulty}
@@ -94,7 +94,7 @@ module _ (p : Program) where
       → Type 0
   ConditionInRights W R f q Absent = f q ≡ 0
   ConditionInRights W R f q (Works pr) = Keeps_to W R f q pr
-  ConditionInRights W R f q (Waits o) = Keeps_to W R f q o.next × MayTake p (OwnOrGiven W q) (OwnOrGiven R q) o.cargo
+  ConditionInRights W R f q (Waits o) = Keeps_to W R f q o.next × MayTake p (OwnOrGiven W q) (OwnOrGiven R q) o.payload
   ConditionInRights W R f q (Joins k n pr) = Keeps_to W R f q pr
   ConditionInRights W R f q Ended = Unit {0}
 
@@ -165,7 +165,7 @@ module _ (p : Program) where
     pub more_fit : (z fs : List Frame) (todo : List Item) → Fit p W R z fs todo → Fit p V T z fs todo
     more_fit z fs todo f = record { linked = f.linked; ready = more_ready fs todo f.ready; ends = f.ends }
 
-    more_take : (g : Cargo LocationContent Address) → MayTake p W R g → MayTake p V T g
+    more_take : (g : Payload LocationContent Address) → MayTake p W R g → MayTake p V T g
     more_take (Message v) h = tt
     more_take (Takes a) h = w a.spot h
 
@@ -231,7 +231,8 @@ module _ (p : Program) where
     held r (Works pr) e h = kept_to r pr e h
     held r (Waits o) e h = (
       kept_to r o.next e h.0,
-      more_take (OwnOrGiven W r) (OwnOrGiven R r) (OwnOrGiven W' r) (OwnOrGiven R' r) (grow_w r) (grow_r r) o.cargo h.1,
+      more_take (OwnOrGiven W r) (OwnOrGiven R r) (OwnOrGiven W' r) (OwnOrGiven R' r) (grow_w r)
+          (grow_r r) o.payload h.1,
     )
     held r (Joins k n pr) e h = kept_to r pr e h
     held r Ended e h = tt
@@ -400,7 +401,7 @@ module _ (set : RunInput) (totals : Totals) (free : IsFreeOfInterference set.pro
         (λ i. ((sym c ∙ sym (puts_condition L ws t)) i, (sym f ∙ sym (puts_forks L ws t)) i)) (after_it (Works next) h))
 
     offering : (o : OfferOf L) → Keeps_to set.program W R s.forks q o.next
-        → MayTake set.program (OwnOrGiven W q) (OwnOrGiven R q) o.cargo → (z : Option Name)
+        → MayTake set.program (OwnOrGiven W q) (OwnOrGiven R q) o.payload → (z : Option Name)
         → NextRights W R (result_of s q (offer_outcome {L = L} s q o z))
     offering o h t None = as_it_is _ (after_it (Waits o) (h, t))
     offering o h t (Some z) = meets_keep (s.condition z) refl
@@ -427,7 +428,7 @@ module _ (set : RunInput) (totals : Totals) (free : IsFreeOfInterference set.pro
 
         meets_keep : (c : ConditionOf L) → s.condition z ≡ c
             → NextRights W R (result_of s q (meeting_outcome {L = L} s q o z c))
-        meets_keep (Waits w) e = hands_keep w e (message o.cargo w.cargo)
+        meets_keep (Waits w) e = hands_keep w e (message o.payload w.payload)
         meets_keep _ _ = as_it_is _ inv
 
     acts_keep : (r : WorkOutcome Action) → Result (λ d o. IsFairStep d o.frames) r → (ws : List (Loc × LocationContent))
@@ -467,7 +468,7 @@ module _ (set : RunInput) (totals : Totals) (free : IsFreeOfInterference set.pro
             (with_change {L = L} (Forked q) (with_change {L = L}
             (Becomes q (Joins (s.forks q) (length (new_processes pr.who o 0 bs)) next)) s))
     acts_keep (Computed (Offered c i g todo) o) h ws =
-        offering (record { channel = c; kind = i; cargo = g; next = record { todo = todo; who = pr.who; own = o } })
+        offering (record { channel = c; kind = i; payload = g; next = record { todo = todo; who = pr.who; own = o } })
         (next_is pr.who o todo k.named k.forked h.1) h.0 (s.pending c)
     acts_keep (Computed actions.Ended o) h ws = as_it_is _ (after_it Ended tt)
     acts_keep (EndsInFault f) h ws = as_it_is _ inv
@@ -520,7 +521,7 @@ module _ (set : RunInput) (totals : Totals) (free : IsFreeOfInterference set.pro
     assigned _ _ _ h = absurd h
 
     abbrev TakesWell : Name → ActOf L → Type 0
-    TakesWell r (Offering o) = MayTake set.program (OwnOrGiven W r) (OwnOrGiven R r) o.cargo
+    TakesWell r (Offering o) = MayTake set.program (OwnOrGiven W r) (OwnOrGiven R r) o.payload
     TakesWell _ _ = Unit {0}
 
     takes_well : (r : WorkOutcome Action) (ws : List (Loc × LocationContent))
@@ -536,7 +537,7 @@ module _ (set : RunInput) (totals : Totals) (free : IsFreeOfInterference set.pro
     takes_well IllFormed ws h = tt
     takes_well OutOfFuel ws h = tt
 
-    received : (who other : Name) (g h : Cargo LocationContent Address) (x : Address × LocationContent)
+    received : (who other : Name) (g h : Payload LocationContent Address) (x : Address × LocationContent)
         → message g h ≡ Some x
         → MayTake set.program (OwnOrGiven W q) (OwnOrGiven R q) g
         → MayTake set.program (OwnOrGiven W other) (OwnOrGiven R other) h
@@ -552,7 +553,7 @@ module _ (set : RunInput) (totals : Totals) (free : IsFreeOfInterference set.pro
 
     pub gets_right : (who : Name) (l : Loc) → Receiving s q (L.next pr s.store) who l → OwnOrGiven W who l
     gets_right who l g = subst (λ z. OwnOrGiven W who z) g.goes.there
-        (received who g.goes.partner g.offer.cargo g.goes.its.cargo g.goes.passes g.goes.message_is
+        (received who g.goes.partner g.offer.payload g.goes.its.payload g.goes.passes g.goes.message_is
         (subst (λ (a : ActOf L). TakesWell q a) (sym next_act ∙ g.offer_is) (takes_well came writes good))
         (subst (λ (c : ConditionOf L). ConditionInRights set.program W R s.forks g.goes.partner c) g.goes.waits
         (inv.holds g.goes.partner)).1 g.who_is)

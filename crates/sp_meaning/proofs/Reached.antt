@@ -191,7 +191,7 @@ module _ (g : RunInput) where
     },
     born_well K f p pr.who o h.named.name h.named.forks_are 0 bs x.1.0,
   )
-  well_by t f p pr ws h (Computed (Offered c n cargo todo) o) x =
+  well_by t f p pr ws h (Computed (Offered c n payload todo) o) x =
       record {
         named = record { name = h.named.name; forks_are = h.named.forks_are };
         light = x.1;
@@ -303,7 +303,7 @@ module _ (g : RunInput) where
 
     meets_well : Well T s → (o : OfferOf L) (z : Name) → ProcessKeeps K (T p) (s.forks p) p o.next → (c : ConditionOf L)
         → s.condition z ≡ c → Well T (result_of s p (meeting_outcome {L = L} s p o z c))
-    meets_well w o z own (Waits v) e = hands_well w o z v e own (message o.cargo v.cargo)
+    meets_well w o z own (Waits v) e = hands_well w o z v e own (message o.payload v.payload)
     meets_well w _ _ _ _ _ = w
 
     offered_well : Well T s → (o : OfferOf L) → ProcessKeeps K (T p) (s.forks p) p o.next → (z : Option Name)

@@ -17,7 +17,7 @@ use Rattle.sp_tree.specs.Uses.{In_actuals, In_target, In_width}
 use Rattle.sp_tree.specs.Sets.{Reach}
 use Rattle.sp_tree.specs.Interference.{IsFreeOfInterference}
 use Rattle.sp_meaning.specs.Maps.{at_key}
-use Rattle.sp_meaning.specs.Model.{Name, Channel, Cargo, Message, Takes}
+use Rattle.sp_meaning.specs.Model.{Name, Channel, Payload, Message, Takes}
 use Rattle.sp_meaning.specs.EffectTree.{EffectTree, Leaf, ReadThen, WriteThen, run_tree}
 use Rattle.sp_meaning.specs.Values.{Value, Ordinal, Chan}
 use Rattle.sp_meaning.specs.LocalWork.{RunInput, Loc, Cell, Input, Output, LocationContent, Tree, Written, Address}
@@ -309,7 +309,7 @@ module _ (set : RunInput) (free : IsFreeOfInterference set.program) (pure : AreF
           go l true e = inr (inr ((loc_test a.spot l).0 e))
           go l false e = inl (sym (ap (λ b. cond b v (s l)) e))
 
-  offers : (c : Channel) (t : ℕ) (x : Cargo LocationContent Address) (todo : List Item) → PureItems p todo
+  offers : (c : Channel) (t : ℕ) (x : Payload LocationContent Address) (todo : List Item) → PureItems p todo
       → StepIsSilent (give (Offered c t x todo))
   offers c t x todo k = record { proof = λ w o s n e. (k, λ h. (e, λ l. inl refl), λ h. absurd h) }
 

@@ -12,7 +12,7 @@ use Rattle.sp_tree.specs.declared.checked.Role.TheVariants as role
 use Rattle.sp_tree.specs.Plain.{Expr, Typed, Variable, Block, Stmt, Empty, Assign, Call, Sequence, If, IfElse, While}
 use Rattle.sp_tree.specs.Plain.{Repeat, For, Case, Parallel, Forall, Assume, ReadValue, ReadLine, WriteValue, WriteText}
 use Rattle.sp_tree.specs.Plain.{WriteLine, Open, Send, Receive, Stmts, No, And, On, Arms, NoArm, Or}
-use Rattle.sp_meaning.specs.Model.{Name, Channel, Cargo, Message, Takes}
+use Rattle.sp_meaning.specs.Model.{Name, Channel, Payload, Message, Takes}
 use Rattle.sp_tree.specs.Cells.{variables_of, cells_of_frame}
 use Rattle.sp_meaning.specs.Values.{Value, Ordinal, Chan, initials}
 use Rattle.sp_meaning.specs.LocalWork.{RunInput, Cell, Input, Output, LocationContent, Tree, Position, Written, Address}
@@ -42,7 +42,7 @@ pub data Action : Type 0 where
   Ticked : (todo : List Item) → Action
   Opened : (todo : List Item) → Action
   Forked : (births : List Birth) (todo : List Item) → Action
-  Offered : (c : Channel) (kind : ℕ) (cargo : Cargo LocationContent Address) (todo : List Item) → Action
+  Offered : (c : Channel) (kind : ℕ) (payload : Payload LocationContent Address) (todo : List Item) → Action
   Ended : Action
 
 -- a statement goes before what is left; the empty statement and sequences are no steps

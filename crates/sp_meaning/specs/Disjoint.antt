@@ -3,7 +3,7 @@
 -- interference is said by it, in the words of the model and of no rule.
 use Rattle.std.specs.Prelude.{◌≡◌, ◌≢◌, ◌⊎◌, ℕ, List, [], ◌∷◌, ◌++◌, Some}
 use Rattle.sp_meaning.specs.Model.{Name, Totals, Language, Act, Moves, Opens, Offering}
-use Rattle.sp_meaning.specs.Model.{Cargo}
+use Rattle.sp_meaning.specs.Model.{Payload}
 use Rattle.sp_meaning.specs.Model.{Message, Takes, Waits, State}
 use Rattle.sp_meaning.specs.Steps.{ActOf, OfferOf, own_part, message, step, process_system}
 use Rattle.sp_meaning.specs.Schedules.{ScheduleLeads}
@@ -32,7 +32,7 @@ Assigns (Opens o ws) l = IsWrittenIn ws l
 Assigns _ _ = ⊥
 
 -- who receives, of p that offers this and of z that waits
-abbrev pub receiver : {V T : Type 0} → Cargo V T → Name → Name → Name
+abbrev pub receiver : {V T : Type 0} → Payload V T → Name → Name → Name
 receiver (Message v) p z = z
 receiver (Takes t) p z = p
 
@@ -43,7 +43,7 @@ pub record Delivers {L : Language} (s : State L) (o : OfferOf L) (l : L.Loc) : T
   pub its : OfferOf L
   pub waits : s.condition partner ≡ Waits its
   pub passes : L.Target × L.Value
-  pub message_is : message o.cargo its.cargo ≡ Some passes
+  pub message_is : message o.payload its.payload ≡ Some passes
   pub there : L.place passes.0 ≡ l
 
 -- p's step at s assigns a message to l, which counts as a write of the receiver
@@ -51,7 +51,7 @@ pub record Receiving {L : Language} (s : State L) (p : Name) (a : ActOf L) (who 
   pub offer : OfferOf L
   pub offer_is : a ≡ Offering offer
   pub goes : Delivers s offer l
-  pub who_is : who ≡ receiver offer.cargo p goes.partner
+  pub who_is : who ≡ receiver offer.payload p goes.partner
 
 -- in the step of p at s, who writes l
 abbrev pub WritesIn : {L : Language} → State L → Name → L.Own → Name → L.Loc → Type 0

@@ -56,7 +56,7 @@ module _ (g : RunInput) where
 
   -- the process waits so
   abbrev pub WaitsSo : StateOf g → Waiting → Type 0
-  WaitsSo s w = (o : OfferOf (superpascal g)) × (s.condition w.who ≡ Waits o) × (w.way ≡ way_of o.cargo)
+  WaitsSo s w = (o : OfferOf (superpascal g)) × (s.condition w.who ≡ Waits o) × (w.way ≡ way_of o.payload)
       × (w.channel ≡ o.channel)
 
   -- no process is running, the root has not ended and no fault stands; the list is every process that waits, in order

@@ -8,15 +8,15 @@ use Rattle.sp_meaning.specs.Maps.{at_key}
 pub use Rattle.sp_journal.specs.Names.{Name, Channel, same_name, same_channel}
 
 -- what a waiting process offers: a value, or a place for one
-pub data Cargo (Value Target : Type 0) : Type 0 where
-  Message : (value : Value) → Cargo Value Target
-  Takes : (target : Target) → Cargo Value Target
+pub data Payload (Value Target : Type 0) : Type 0 where
+  Message : (value : Value) → Payload Value Target
+  Takes : (target : Target) → Payload Value Target
 
 -- an offer on a channel, of a message type; next is how its process goes on once the message went over
 pub record Offer (Own Value Target : Type 0) : Type 0 where
   pub channel : Channel
   pub kind : ℕ
-  pub cargo : Cargo Value Target
+  pub payload : Payload Value Target
   pub next : Own
 
 -- What a process does next. Own is its own part: what remains to be done, its frames, depth, ticks and opens

@@ -6,7 +6,7 @@ use Rattle.std.specs.Prelude.{Some, None, slice_get}
 use Rattle.sp_tree.specs.declared.checked.Role.{Role}
 use Rattle.sp_tree.specs.declared.checked.Role.TheVariants as role
 use Rattle.sp_tree.specs.Plain.{Program, Variable, Entire, ByValue, ByReference, Actuals, Nothing, Pass, Stmt, Repeat}
-use Rattle.sp_meaning.specs.Model.{Cargo, Message, Takes}
+use Rattle.sp_meaning.specs.Model.{Payload, Message, Takes}
 use Rattle.sp_meaning.specs.LocalWork.{LocationContent, Loc, Cell, Input, Output, Address, Home, OfBlock, OfIndex}
 use Rattle.sp_meaning.specs.LocalWork.{Frame, Item, Do}
 use Rattle.sp_meaning.specs.LocalWork.{First, Again, Test, Leave, Break, is_block, reference_target}
@@ -165,7 +165,7 @@ module _ (p : Program) where
     Born fs (s ∷ ss) (b ∷ bs) = (b.todo ≡ push s []) × Sound fs (In_stmt s) × IsClearOf fs s ss × Born fs ss bs
 
     -- a target that the process may write
-    abbrev pub MayTake : Cargo LocationContent Address → Type 0
+    abbrev pub MayTake : Payload LocationContent Address → Type 0
     MayTake (Message v) = Unit
     MayTake (Takes a) = W a.spot
 

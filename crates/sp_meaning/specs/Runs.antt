@@ -46,7 +46,7 @@ happening_of a (Faulty f) = Some (Faulted f)
 happening_of (Moves next_state ws) (Advances cs) = None
 happening_of (Opens next_state ws) (Advances cs) = Some Opened
 happening_of (Forks next_state os) (Advances cs) = Some (Forked (length os))
-happening_of (Offering o) (Advances cs) = Some (Offered (way_of o.cargo) o.channel)
+happening_of (Offering o) (Advances cs) = Some (Offered (way_of o.payload) o.channel)
 happening_of EndsProcess (Advances cs) = Some Ended
 happening_of (MeetsFault f) (Advances cs) = None
 

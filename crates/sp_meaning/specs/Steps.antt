@@ -10,7 +10,7 @@ use Rattle.sp_journal.specs.declared.entry.Way.TheVariants as way
 use Rattle.sp_meaning.specs.Maps.{IsTest}
 use Rattle.sp_meaning.specs.Model.{Name, Channel, Totals, Language, Act, Moves, Opens, Forks, Offering, EndsProcess}
 use Rattle.sp_meaning.specs.Model.{MeetsFault}
-use Rattle.sp_meaning.specs.Model.{Cargo, Message, Takes, Offer, Condition, Absent, Works, Waits, Joins, Ended, State}
+use Rattle.sp_meaning.specs.Model.{Payload, Message, Takes, Offer, Condition, Absent, Works, Waits, Joins, Ended, State}
 use Rattle.sp_meaning.specs.Model.{Change, Becomes, Forked, WritesLocation, Pends, AddsTotals, Faults, with_change}
 use Rattle.sp_meaning.specs.Model.{with_changes}
 use Rattle.sp_meaning.specs.Schedules.{System}
@@ -63,12 +63,12 @@ birth_changes p k i (o ∷ os) = Becomes ((k, i) ∷ p) (Works o) ∷ birth_chan
 
 -- offers
 
-abbrev pub way_of : {V T : Type 0} → Cargo V T → Way
+abbrev pub way_of : {V T : Type 0} → Payload V T → Way
 way_of (Message v) = way.Send
 way_of (Takes t) = way.Receive
 
 -- what goes over, and to where; nothing where both offers have one way
-abbrev pub message : {V T : Type 0} → Cargo V T → Cargo V T → Option (T × V)
+abbrev pub message : {V T : Type 0} → Payload V T → Payload V T → Option (T × V)
 message (Message v) (Takes t) = Some (t, v)
 message (Takes t) (Message v) = Some (t, v)
 message (Message v) (Message w) = None
@@ -99,7 +99,7 @@ handover_outcome s p o z w (Some m) = if o.kind == w.kind then Advances (meeting
 
 -- z's offer is pending. No case but the third comes up
 abbrev pub meeting_outcome : {L : Language} → State L → Name → OfferOf L → Name → ConditionOf L → ActOutcome L
-meeting_outcome s p o z (Waits w) = handover_outcome s p o z w (message o.cargo w.cargo)
+meeting_outcome s p o z (Waits w) = handover_outcome s p o z w (message o.payload w.payload)
 meeting_outcome _ _ _ _ _ = Faulty fault.F6
 
 -- the offer waits, or it meets the one that is pending

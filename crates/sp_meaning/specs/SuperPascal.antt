@@ -70,8 +70,8 @@ act_of w (Computed (Ticked todo) o) ws = Moves (with_todo todo w o) ws
 act_of w (Computed (Opened todo) o) ws = Opens (with_todo todo (record w { opens = w.opens + 1 }) o) ws
 act_of w (Computed (Forked os todo) o) ws =
     Forks (with_todo todo (record w { forks = w.forks + 1 }) o) (new_processes w o 0 os)
-act_of w (Computed (Offered c k cargo todo) o) ws =
-    Offering (record { channel = c; kind = k; cargo = cargo; next = with_todo todo w o })
+act_of w (Computed (Offered c k payload todo) o) ws =
+    Offering (record { channel = c; kind = k; payload = payload; next = with_todo todo w o })
 act_of w (Computed Ended o) ws = EndsProcess
 act_of w (EndsInFault f) ws = MeetsFault f
 act_of w IllFormed ws = MeetsFault fault.F8
@@ -83,7 +83,7 @@ is_pausing (Computed (Stepped todo) o) = false
 is_pausing (Computed (Ticked todo) o) = true
 is_pausing (Computed (Opened todo) o) = false
 is_pausing (Computed (Forked os todo) o) = false
-is_pausing (Computed (Offered c k cargo todo) o) = false
+is_pausing (Computed (Offered c k payload todo) o) = false
 is_pausing (Computed Ended o) = false
 is_pausing (EndsInFault f) = false
 is_pausing IllFormed = false

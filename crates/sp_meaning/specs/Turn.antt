@@ -18,7 +18,7 @@ module _ (g : RunInput) (due : LocalState → Bool) where
   rest_of_turn go (Ticked todo) = bind local_state (λ o. if due o then give (Paused todo) else go todo)
   rest_of_turn go (Opened todo) = give (Stops (Opened todo))
   rest_of_turn go (Forked os todo) = give (Stops (Forked os todo))
-  rest_of_turn go (Offered c k cargo todo) = give (Stops (Offered c k cargo todo))
+  rest_of_turn go (Offered c k payload todo) = give (Stops (Offered c k payload todo))
   rest_of_turn go Ended = give (Stops Ended)
 
   -- one step

@@ -79,7 +79,7 @@ hands_cost s p o z w (Some m) = elim (o.kind == w.kind) as
 
 meets_cost : {L : Language} (s : State L) (p : Name) (o : OfferOf L) (z : Name) (c : ConditionOf L)
     → Costs (Offering o) (meeting_outcome s p o z c)
-meets_cost s p o z (Waits w) = hands_cost s p o z w (message o.cargo w.cargo)
+meets_cost s p o z (Waits w) = hands_cost s p o z w (message o.payload w.payload)
 meets_cost _ _ _ _ _ = tt
 
 offered_cost : {L : Language} (s : State L) (p : Name) (o : OfferOf L) (m : Option Name)
@@ -186,7 +186,7 @@ module _ {L : Language} (t s : State L) (q : Name) where
 
   meets_same : (o : OfferOf L) (z : Name) (c : ConditionOf L) → s.pending o.channel ≡ Some z → s.condition z ≡ c
       → ((l : L.Loc) → Delivers s o l → t.store l ≡ s.store l) → meeting_outcome t q o z c ≡ meeting_outcome s q o z c
-  meets_same o z (Waits w) pe ce st = hands_same o z w (message o.cargo w.cargo)
+  meets_same o z (Waits w) pe ce st = hands_same o z w (message o.payload w.payload)
       (λ x is. st (L.place x.0) (record {
         partner = z;
         pends = pe;

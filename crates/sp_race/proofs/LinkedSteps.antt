@@ -234,13 +234,13 @@ module _ {L : Language} {limits : Totals} (s : State L) (v : JudgeNotes) (p : Na
 
   pub offers_linked : (o : OfferOf L) → L.next one.own s.store ≡ Offering o
       → NotesMatch (with_changes cs s) (notes_after s v p (L.next one.own s.store))
-      (knowledge_after j n p (Offered (way_of o.cargo) o.channel))
-      (done ++ record { who = p; what = Offered (way_of o.cargo) o.channel } ∷ []) (suc n) grows_label
+      (knowledge_after j n p (Offered (way_of o.payload) o.channel))
+      (done ++ record { who = p; what = Offered (way_of o.payload) o.channel } ∷ []) (suc n) grows_label
   offers_linked o is =
-      let h = Offered (way_of o.cargo) o.channel in
+      let h = Offered (way_of o.payload) o.channel in
       let does = subst (λ a. act_outcome s p a ≡ Advances cs) is one.does in
       let notes_are : notes_after s v p (L.next one.own s.store)
-      ≡ with_judge_notes (offer_notes v p o.channel (way_of o.cargo) (s.pending o.channel)) v =
+      ≡ with_judge_notes (offer_notes v p o.channel (way_of o.payload) (s.pending o.channel)) v =
       ap (notes_after s v p) is in
       elim (s.pending o.channel) as (λ m. s.pending o.channel ≡ m
       → NotesMatch (with_changes cs s) (notes_after s v p (L.next one.own s.store)) (knowledge_after j n p h)
@@ -248,7 +248,7 @@ module _ {L : Language} {limits : Totals} (s : State L) (v : JudgeNotes) (p : Na
         | None ↦ λ e.
             let x = linked_waits s v p cs sound known one j done n label link h o refl e in
             let same : v ≡ notes_after s v p (L.next one.own s.store) =
-            sym (notes_are ∙ ap (λ m. with_judge_notes (offer_notes v p o.channel (way_of o.cargo) m) v) e) in
+            sym (notes_are ∙ ap (λ m. with_judge_notes (offer_notes v p o.channel (way_of o.payload) m) v) e) in
             subst (λ w. NotesMatch (with_changes cs s) w (knowledge_after j n p h) (done ++ record { who = p; what = h }
             ∷ []) (suc n)
             grows_label) same
@@ -263,18 +263,18 @@ module _ {L : Language} {limits : Totals} (s : State L) (v : JudgeNotes) (p : Na
             let x = linked_meets s v p cs sound known one j done n label link h o refl z g.its g.passes e g.waits
             g.message_is
             b in
-            let same : with_judge_notes (meeting_notes v p o.channel (way_of o.cargo) z) v
+            let same : with_judge_notes (meeting_notes v p o.channel (way_of o.payload) z) v
             ≡ notes_after s v p (L.next one.own s.store) =
-            sym (notes_are ∙ ap (λ m. with_judge_notes (offer_notes v p o.channel (way_of o.cargo) m) v) e) in
+            sym (notes_are ∙ ap (λ m. with_judge_notes (offer_notes v p o.channel (way_of o.payload) m) v) e) in
             subst (λ w. NotesMatch (with_changes cs s) w (knowledge_after j n p h) (done ++ record { who = p; what = h }
             ∷ []) (suc n)
             grows_label) same
             (subst (λ m. NotesMatch (with_changes cs s)
-            (with_judge_notes (meeting_notes v p o.channel (way_of o.cargo) z) v)
+            (with_judge_notes (meeting_notes v p o.channel (way_of o.payload) z) v)
             (knowledge_after_offer j p n o.channel m) (done ++ record { who = p; what = h } ∷ []) (suc n) grows_label)
             (sym b.pending_is)
             (subst (λ ds. NotesMatch (with_changes ds s)
-            (with_judge_notes (meeting_notes v p o.channel (way_of o.cargo) z) v)
+            (with_judge_notes (meeting_notes v p o.channel (way_of o.payload) z) v)
             (knowledge_after_offer j p n o.channel (Some (z, b.position))) (done ++ record { who = p; what = h } ∷ [])
             (suc n)
             grows_label) (sym g.made) x))

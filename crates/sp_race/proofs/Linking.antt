@@ -33,9 +33,9 @@ KnowsEarlierOffers j done p w c = (i : ℕ) (z : Name) → slice_get done i ≡ 
 -- such an entry is an ordered step
 pub known_linked : {L : Language} (s : State L) (v : JudgeNotes) (j : Knowledge) (done : List Occurrence) (n : ℕ)
     (label : ℕ → Option Event) (p : Name) (o : OfferOf L) → NotesMatch s v j done n label
-    → KnowsEarlierOffers j done p (way_of o.cargo) o.channel → KnowsBefore L v p (Offering o)
+    → KnowsEarlierOffers j done p (way_of o.payload) o.channel → KnowsBefore L v p (Offering o)
 known_linked s v j done n label p o link k = λ e h.
-    let r = link.offers o.channel (way_of o.cargo) e h in
+    let r = link.offers o.channel (way_of o.payload) e h in
     ap (known_label (v.past p)) (sym r.names) ∙ sym (link.past p r.position r.inside) ∙ k r.position r.who r.entry
 
 pub below_or_at : (i n : ℕ) → i < suc n → (i < n) ⊎ (n ≡ i)
@@ -231,7 +231,7 @@ module _ {L : Language} {limits : Totals} (s : State L) (v : JudgeNotes) (p : Na
   last_is c w e = last_entry done n entry link.size ∙ ap (λ x. Some (record { who = p; what = x })) e
 
   -- an offer that waits
-  pub linked_waits : (o : OfferOf L) → h ≡ Offered (way_of o.cargo) o.channel → s.pending o.channel ≡ None
+  pub linked_waits : (o : OfferOf L) → h ≡ Offered (way_of o.payload) o.channel → s.pending o.channel ≡ None
       → NotesMatch (with_changes (waiting_changes s p o) s) v (knowledge_after_offer j p n o.channel None) grown
       (suc n) labels
   linked_waits o h_is none =
@@ -251,10 +251,10 @@ module _ {L : Language} {limits : Totals} (s : State L) (v : JudgeNotes) (p : Na
               pending_is = at_now c same ∙ ap (λ x. Some (x, n)) z_is;
               inside = omega arith;
               names = new_label ∙ ap (λ x. Some (next_event_of v x)) z_is;
-              entry = last_is c (way_of w.cargo)
-                  (h_is ∙ ap (λ (x : OfferOf L). Offered (way_of x.cargo) o.channel) w_is
-                  ∙ ap (Offered (way_of w.cargo)) same)
-                  ∙ ap (λ x. Some (record { who = x; what = Offered (way_of w.cargo) c })) z_is;
+              entry = last_is c (way_of w.payload)
+                  (h_is ∙ ap (λ (x : OfferOf L). Offered (way_of x.payload) o.channel) w_is
+                  ∙ ap (Offered (way_of w.payload)) same)
+                  ∙ ap (λ x. Some (record { who = x; what = Offered (way_of w.payload) c })) z_is;
             })
             (λ (other : o.channel ≢ c).
             let before : s.pending c ≡ Some z = sym (at_other channel_test s.pending o.channel c (Some p) other) ∙ e in
@@ -307,19 +307,19 @@ module _ {L : Language} {limits : Totals} (s : State L) (v : JudgeNotes) (p : Na
       at_key_here o = rw (itself channel_test o.channel) refl
 
   -- an offer that meets that of z, made at an earlier index
-  pub linked_meets : (o : OfferOf L) → h ≡ Offered (way_of o.cargo) o.channel
+  pub linked_meets : (o : OfferOf L) → h ≡ Offered (way_of o.payload) o.channel
       → (z : Name) (w : OfferOf L) (m : L.Target × L.Value) → s.pending o.channel ≡ Some z → s.condition z ≡ Waits w
-      → message o.cargo w.cargo ≡ Some m → (b : Pended s v j done n label o.channel z w)
+      → message o.payload w.payload ≡ Some m → (b : Pended s v j done n label o.channel z w)
       → NotesMatch (with_changes (meeting_changes s p o z w m) s)
-      (with_judge_notes (meeting_notes v p o.channel (way_of o.cargo) z) v)
+      (with_judge_notes (meeting_notes v p o.channel (way_of o.payload) z) v)
       (knowledge_after_offer j p n o.channel (Some (z, b.position))) grown (suc n) labels
   linked_meets o h_is z w m pe ce me b =
       let es = meeting_changes s p o z w m in
-      let ns = meeting_notes v p o.channel (way_of o.cargo) z in
+      let ns = meeting_notes v p o.channel (way_of o.payload) z in
       let t = with_changes es s in
       let u = with_judge_notes ns v in
-      let other : Way = other_way (way_of o.cargo) in
-      let w_way : way_of w.cargo ≡ other = ways_meet o.cargo w.cargo m me in
+      let other : Way = other_way (way_of o.payload) in
+      let w_way : way_of w.payload ≡ other = ways_meet o.payload w.payload m me in
       let at_is : (i : ℕ) → i < suc n → b.position == i ≡ known_label (same_event (next_event_of v z)) (labels i) =
       λ i lt. ⊎_elim
       (λ (e : b.position ≡ i). eq-eqb b.position i e ∙ sym
@@ -407,10 +407,10 @@ module _ {L : Language} {limits : Totals} (s : State L) (v : JudgeNotes) (p : Na
             inl (subst (λ (y : Event). y.nth < u.events y.who) e_is (counted ns v p (inl refl))))
             (below_or_at x n lt);
         offers = λ c x e k. recorded other w_way (same_channel o.channel c) (same_way other x)
-            (same_way (way_of o.cargo) x) c x e ((channel_test o.channel c).0) (way_is other x)
-            (way_is (way_of o.cargo) x) (sym
+            (same_way (way_of o.payload) x) c x e ((channel_test o.channel c).0) (way_is other x)
+            (way_is (way_of o.payload) x) (sym
             (two_records (same_channel o.channel c && same_way other x)
-            (same_channel o.channel c && same_way (way_of o.cargo) x) (v.offers c x) (same_event (next_event_of v z))
+            (same_channel o.channel c && same_way (way_of o.payload) x) (v.offers c x) (same_event (next_event_of v z))
             (same_event (next_event_of v p)) e) ∙ k);
       }
     where
@@ -436,7 +436,7 @@ module _ {L : Language} {limits : Totals} (s : State L) (v : JudgeNotes) (p : Na
       in_past false true false false false false false i a b c d e h = absurd (cc h)
       in_past false false false false false false false i a b c d e h = absurd (cc h)
 
-      of_p : (c : Channel) (x : Way) (e : Event) → o.channel ≡ c → way_of o.cargo ≡ x
+      of_p : (c : Channel) (x : Way) (e : Event) → o.channel ≡ c → way_of o.payload ≡ x
           → same_event (next_event_of v p) e ≡ true
           → Recorded grown (suc n) labels c x e
       of_p c x e ce xe k = record {
@@ -448,7 +448,7 @@ module _ {L : Language} {limits : Totals} (s : State L) (v : JudgeNotes) (p : Na
         entry = last_is c x (h_is ∙ ap (λ y. Offered y o.channel) xe ∙ ap (Offered x) ce);
       }
 
-      of_z : (other : Way) → way_of w.cargo ≡ other → (c : Channel) (x : Way) (e : Event) → o.channel ≡ c → other ≡ x
+      of_z : (other : Way) → way_of w.payload ≡ other → (c : Channel) (x : Way) (e : Event) → o.channel ≡ c → other ≡ x
           → same_event (next_event_of v z) e ≡ true → Recorded grown (suc n) labels c x e
       of_z other is c x e ce xe k = record {
         position = b.position;
@@ -460,8 +460,8 @@ module _ {L : Language} {limits : Totals} (s : State L) (v : JudgeNotes) (p : Na
             ∙ ap (λ y. Some (record { who = z; what = Offered x y })) ce;
       }
 
-      recorded : (other : Way) → way_of w.cargo ≡ other → (sc sw so : Bool) (c : Channel) (x : Way) (e : Event)
-          → (sc ≡ true → o.channel ≡ c) → (sw ≡ true → other ≡ x) → (so ≡ true → way_of o.cargo ≡ x)
+      recorded : (other : Way) → way_of w.payload ≡ other → (sc sw so : Bool) (c : Channel) (x : Way) (e : Event)
+          → (sc ≡ true → o.channel ≡ c) → (sw ≡ true → other ≡ x) → (so ≡ true → way_of o.payload ≡ x)
           → cond (sc && sw) (cond (sc && so) (v.offers c x e || same_event (next_event_of v p) e) (v.offers c x e)
           || same_event (next_event_of v z) e) (cond (sc && so) (v.offers c x e || same_event (next_event_of v p) e)
           (v.offers c x e))

@@ -111,7 +111,7 @@ tells_in s [] known = tt
 tells_in s (a ∷ p) known = (inr (a, refl), tt)
 
 offer_in : {L : Language} (s : State L) (n : JudgeNotes) (p : Name) (o : OfferOf L) (m : Option Name)
-    → s.pending o.channel ≡ m → AllNotesIn s p (Offering o) (offer_notes n p o.channel (way_of o.cargo) m)
+    → s.pending o.channel ≡ m → AllNotesIn s p (Offering o) (offer_notes n p o.channel (way_of o.payload) m)
 offer_in s n p o None e = tt
 offer_in s n p o (Some z) e = (refl, (refl, (inl refl, (inr (inl e), (inl (inl refl), (inl (inr (inl e)), tt))))))
 
@@ -171,13 +171,14 @@ notes_same t s m n q (Opens o ws) f e k pe other = λ i. Counts q ∷ Learns q (
     ∷ []
 notes_same t s m n q (Forks o os) f e k pe other = λ i. Counts q ∷ Learns q (same_event (record { who = q; nth = e i }))
     ∷ notes_to_children q (f i) (known_to_either (k i) (same_event (record { who = q; nth = e i }))) 0 (length os)
-notes_same t s m n q (Offering o) f e k pe other = ap (offer_notes m q o.channel (way_of o.cargo)) (pe o.channel refl)
+notes_same t s m n q (Offering o) f e k pe other = ap (offer_notes m q o.channel (way_of o.payload)) (pe o.channel refl)
     ∙ offered (s.pending o.channel) refl
   where
     offered : (x : Option Name) → s.pending o.channel ≡ x
-        → offer_notes m q o.channel (way_of o.cargo) x ≡ offer_notes n q o.channel (way_of o.cargo) x
+        → offer_notes m q o.channel (way_of o.payload) x ≡ offer_notes n q o.channel (way_of o.payload) x
     offered None h = refl
-    offered (Some z) h = let y = other z h in λ i. meeting_at q o.channel (way_of o.cargo) z (e i) (y.0 i) (k i) (y.1 i)
+    offered (Some z) h = let y = other z h in λ i. meeting_at q o.channel (way_of o.payload) z (e i) (y.0 i) (k i)
+        (y.1 i)
 notes_same t s m n q EndsProcess f e k pe other = λ i. Counts q ∷ Learns q (same_event (record { who = q; nth = e i }))
     ∷ notes_to_parent q (known_to_either (k i) (same_event (record { who = q; nth = e i })))
 notes_same t s m n q (MeetsFault f) g e k pe other = refl
@@ -310,7 +311,7 @@ module _ (n : JudgeNotes) (known : IsKnowledge n) where
             (knows_ok m p (events_grow xs n) (counted xs n p (inl refl))) 0
             (length os),
       )
-  acts_learn s p (Offering o) = offer_learn p o.channel (way_of o.cargo) (s.pending o.channel)
+  acts_learn s p (Offering o) = offer_learn p o.channel (way_of o.payload) (s.pending o.channel)
   acts_learn s p EndsProcess =
       let xs : List Note = Counts p ∷ Learns p (same_event (next_event_of n p))
       ∷ notes_to_parent p (known_after_event n p) in

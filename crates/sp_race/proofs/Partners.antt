@@ -2,7 +2,7 @@
 use Rattle.std.proofs.Common.{◌≡◌, ◌≢◌, ◌⊎◌, ⊎_elim, inl, inr, true, Some, refl, sym, ap, ◌∙◌, subst}
 use Rattle.sp_journal.specs.declared.entry.Way.{Way}
 use Rattle.sp_meaning.specs.Model.{Name, Channel, Language, Moves, Opens, Forks, Offering, EndsProcess, MeetsFault}
-use Rattle.sp_meaning.specs.Model.{Cargo, Message}
+use Rattle.sp_meaning.specs.Model.{Payload, Message}
 use Rattle.sp_meaning.specs.Model.{Takes, State}
 use Rattle.sp_meaning.specs.Steps.{ActOf, OfferOf, own_part, way_of, WaitsOn, Sound}
 use Rattle.sp_meaning.specs.Disjoint.{Assigns, receiver, WritesIn, AccessesIn}
@@ -42,14 +42,14 @@ writer {L} s p own l h = by_act (L.next own s.store) refl h
     by_act EndsProcess e h = absurd h
     by_act (MeetsFault f) e h = absurd h
     by_act (Offering o) e h = record {
-      who = receiver o.cargo p h.partner;
+      who = receiver o.payload p h.partner;
       writes = inr (record { offer = o; offer_is = e; goes = h; who_is = refl });
-      part = subst (λ a. TakesPart s p a (receiver o.cargo p h.partner)) (sym e) (of_cargo o.cargo);
+      part = subst (λ a. TakesPart s p a (receiver o.payload p h.partner)) (sym e) (of_payload o.payload);
     }
       where
-        of_cargo : (c : Cargo L.Value L.Target) → TakesPart s p (Offering o) (receiver c p h.partner)
-        of_cargo (Message v) = inr (o.channel, refl, h.pends)
-        of_cargo (Takes t) = inl refl
+        of_payload : (c : Payload L.Value L.Target) → TakesPart s p (Offering o) (receiver c p h.partner)
+        of_payload (Message v) = inr (o.channel, refl, h.pends)
+        of_payload (Takes t) = inl refl
 
 pub record Accessor {L : Language} (s : State L) (p : Name) (own : L.Own) (l : L.Loc) : Type 0 where
   pub who : Name
@@ -109,7 +109,7 @@ clash_or_off L (MeetsFault f) b = inr (λ c h k. h)
 pub knows_same : (L : Language) (t s : JudgeNotes) (q : Name) (b : ActOf L)
     → ((c : Channel) (v : Way) (e : Event) → IsOn b c → s.offers c v e ≡ true → t.offers c v e ≡ true)
     → t.past q ≡ s.past q → KnowsBefore L t q b → KnowsBefore L s q b
-knows_same L t s q (Offering o) h p k = λ e x. ap (λ f. f e) (sym p) ∙ k e (h o.channel (way_of o.cargo) e refl x)
+knows_same L t s q (Offering o) h p k = λ e x. ap (λ f. f e) (sym p) ∙ k e (h o.channel (way_of o.payload) e refl x)
 knows_same L t s q (Moves x y) h p k = tt
 knows_same L t s q (Opens x y) h p k = tt
 knows_same L t s q (Forks x y) h p k = tt

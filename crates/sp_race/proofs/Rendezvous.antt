@@ -8,7 +8,7 @@ use Rattle.sp_journal.specs.declared.entry.Way.{Way}
 use Rattle.sp_journal.specs.declared.entry.Way.TheVariants as way
 use Rattle.sp_journal.specs.Names.{same_way}
 use Rattle.sp_meaning.specs.Maps.{at_key}
-use Rattle.sp_meaning.specs.Model.{Name, Channel, same_name, same_channel, Totals, add, Language, Offering, Cargo}
+use Rattle.sp_meaning.specs.Model.{Name, Channel, same_name, same_channel, Totals, add, Language, Offering, Payload}
 use Rattle.sp_meaning.specs.Model.{Message, Takes, Works, Waits, State, Change, with_changes}
 use Rattle.sp_meaning.specs.Steps.{ActOf, OfferOf, ConditionOf, own_part, Advances, Faulty, way_of, message, entry_cost}
 use Rattle.sp_meaning.specs.Steps.{meeting_changes, waiting_changes, handover_outcome, meeting_outcome, offer_outcome}
@@ -27,7 +27,7 @@ use Rattle.sp_race.proofs.Ways.{way_itself}
 
 -- The state
 
-message_swap : {V T : Type 0} (a b : Cargo V T) → message a b ≡ message b a
+message_swap : {V T : Type 0} (a b : Payload V T) → message a b ≡ message b a
 message_swap (Message v) (Message w) = refl
 message_swap (Message v) (Takes t) = refl
 message_swap (Takes t) (Message v) = refl
@@ -65,7 +65,8 @@ swapped {L} s p q o r m apart e =
     }
 
 pub met_does : {L : Language} (s : State L) (p : Name) (o : OfferOf L) (z : Name) (w : OfferOf L)
-    (m : L.Target × L.Value) → s.pending o.channel ≡ Some z → s.condition z ≡ Waits w → message o.cargo w.cargo ≡ Some m
+    (m : L.Target × L.Value) → s.pending o.channel ≡ Some z → s.condition z ≡ Waits w
+    → message o.payload w.payload ≡ Some m
     → o.kind == w.kind ≡ true → act_outcome s p (Offering o) ≡ Advances (meeting_changes s p o z w m)
 met_does {L} s p o z w m pe ce me ke = ap (offer_outcome s p o) pe
     ∙ (ap (meeting_outcome s p o z) ce ∙ (ap (handover_outcome s p o z w) me
@@ -82,7 +83,7 @@ other_other way.Send = refl
 other_other way.Receive = refl
 
 -- two offers that meet have different ways
-pub ways_meet : {V T : Type 0} (a b : Cargo V T) (m : T × V) → message a b ≡ Some m → way_of b ≡ other_way (way_of a)
+pub ways_meet : {V T : Type 0} (a b : Payload V T) (m : T × V) → message a b ≡ Some m → way_of b ≡ other_way (way_of a)
 ways_meet (Message v) (Message w) m h = absurd (cc h)
 ways_meet (Message v) (Takes t) m h = refl
 ways_meet (Takes t) (Message v) m h = refl
@@ -158,26 +159,26 @@ pub met_first : {L : Language} {limits : Totals} (s : State L) (n : JudgeNotes) 
 met_first {L} {limits} s n p q cs sound known one own o r z is e apart w pe before =
     let a = L.next one.own s.store in
     let m = notes_after s n p a in
-    let made : m ≡ with_judge_notes (meeting_notes n p o.channel (way_of o.cargo) z) n =
-    ap (notes_after s n p) is ∙ ap (λ x. with_judge_notes (offer_notes n p o.channel (way_of o.cargo) x) n) pe in
+    let made : m ≡ with_judge_notes (meeting_notes n p o.channel (way_of o.payload) z) n =
+    ap (notes_after s n p) is ∙ ap (λ x. with_judge_notes (offer_notes n p o.channel (way_of o.payload) x) n) pe in
     let past : m.past q ≡ n.past q = past_frame s p a q
     (far s p cs sound one q apart (working_stands s.condition q (s.condition q) own w))
     (working_no_parent s p cs sound one q own w) (notes_of s n p a) n (notes_in s n p a) in
-    let never : (x : Name) → m.offers o.channel (way_of r.cargo) (next_event_of n x) ≡ true → ⊥ = λ x k.
+    let never : (x : Name) → m.offers o.channel (way_of r.payload) (next_event_of n x) ≡ true → ⊥ = λ x k.
     let knows_it : n.past q (next_event_of n x) ≡ true = ap (λ f. f (next_event_of n x)) (sym past)
-    ∙ before (next_event_of n x) (subst (λ d. m.offers d (way_of r.cargo) (next_event_of n x) ≡ true) e k) in
+    ∙ before (next_event_of n x) (subst (λ d. m.offers d (way_of r.payload) (next_event_of n x) ≡ true) e k) in
     let less : n.events x < n.events x = known q (next_event_of n x) knows_it in
     omega (arith, less) in
     ⊎_elim
-    (λ (v : way_of r.cargo ≡ way_of o.cargo). never p
+    (λ (v : way_of r.payload ≡ way_of o.payload). never p
     (subst (λ y. m.offers o.channel y (next_event_of n p) ≡ true) (sym v)
-    (subst (λ (y : JudgeNotes). y.offers o.channel (way_of o.cargo) (next_event_of n p) ≡ true) (sym made)
-    (recorded_first n p o.channel (way_of o.cargo) z))))
-    (λ (v : way_of r.cargo ≡ other_way (way_of o.cargo)). never z
+    (subst (λ (y : JudgeNotes). y.offers o.channel (way_of o.payload) (next_event_of n p) ≡ true) (sym made)
+    (recorded_first n p o.channel (way_of o.payload) z))))
+    (λ (v : way_of r.payload ≡ other_way (way_of o.payload)). never z
     (subst (λ y. m.offers o.channel y (next_event_of n z) ≡ true) (sym v)
-    (subst (λ (y : JudgeNotes). y.offers o.channel (other_way (way_of o.cargo)) (next_event_of n z) ≡ true) (sym made)
-    (recorded_second n p o.channel (way_of o.cargo) z))))
-    (one_of (way_of r.cargo) (way_of o.cargo))
+    (subst (λ (y : JudgeNotes). y.offers o.channel (other_way (way_of o.payload)) (next_event_of n z) ≡ true) (sym made)
+    (recorded_second n p o.channel (way_of o.payload) z))))
+    (one_of (way_of r.payload) (way_of o.payload))
 
 -- where p waits and q comes, q can wait and p come
 pub waits_first : {L : Language} {limits : Totals} (s : State L) (n : JudgeNotes) (p q : Name) (ds : List (Change L))
@@ -204,13 +205,13 @@ waits_first {L} {limits} s n p q ds sound pown o r pw is two is2 e apart w none 
       does = subst (λ x. act_outcome s q x ≡ Advances (waiting_changes s q r)) (sym is2) (waited_does s q r none');
     } in
     let s2 = with_changes (waiting_changes s q r) s in
-    let meets_o : message r.cargo o.cargo ≡ Some h.passes =
-    subst (λ (x : OfferOf L). message r.cargo x.cargo ≡ Some h.passes) its_is h.message_is in
+    let meets_o : message r.payload o.payload ≡ Some h.passes =
+    subst (λ (x : OfferOf L). message r.payload x.payload ≡ Some h.passes) its_is h.message_is in
     let qe : s2.pending o.channel ≡ Some q = rw ((channel_test r.channel o.channel).1 (sym e)) refl in
     let n1 : notes_after s n p (Offering o) ≡ n =
-    ap (λ x. with_judge_notes (offer_notes n p o.channel (way_of o.cargo) x) n) none in
+    ap (λ x. with_judge_notes (offer_notes n p o.channel (way_of o.payload) x) n) none in
     let n2 : notes_after s n q (Offering r) ≡ n =
-    ap (λ x. with_judge_notes (offer_notes n q r.channel (way_of r.cargo) x) n) none' in
+    ap (λ x. with_judge_notes (offer_notes n q r.channel (way_of r.payload) x) n) none' in
     record {
       ds = waiting_changes s q r;
       first = first;
@@ -226,7 +227,7 @@ waits_first {L} {limits} s n p q ds sound pown o r pw is two is2 e apart w none 
             (met_does s2 p o q r h.passes
             qe
             (rw (itself name_test q) refl)
-            (message_swap o.cargo r.cargo ∙ meets_o)
+            (message_swap o.payload r.payload ∙ meets_o)
             (eq-eqb o.kind r.kind (sym (eqb-true r.kind o.kind
             (subst (λ (x : OfferOf L). r.kind == x.kind ≡ true) its_is h.alike)))));
       };
@@ -236,12 +237,12 @@ waits_first {L} {limits} s n p q ds sound pown o r pw is two is2 e apart w none 
           ∙ swapped s p q o r h.passes apart e;
       same_notes =
           ap (λ m. notes_after s1 m q (Offering r)) n1
-          ∙ ap (λ x. with_judge_notes (offer_notes n q r.channel (way_of r.cargo) x) n) pe
-          ∙ notes_swapped n p q r.channel (way_of r.cargo)
+          ∙ ap (λ x. with_judge_notes (offer_notes n q r.channel (way_of r.payload) x) n) pe
+          ∙ notes_swapped n p q r.channel (way_of r.payload)
           ∙ ap (λ v. with_judge_notes (meeting_notes n p r.channel v q) n)
-          (sym (ways_meet r.cargo o.cargo h.passes meets_o))
-          ∙ ap (λ c. with_judge_notes (meeting_notes n p c (way_of o.cargo) q) n) (sym e)
-          ∙ ap (λ x. with_judge_notes (offer_notes n p o.channel (way_of o.cargo) x) n) (sym qe)
+          (sym (ways_meet r.payload o.payload h.passes meets_o))
+          ∙ ap (λ c. with_judge_notes (meeting_notes n p c (way_of o.payload) q) n) (sym e)
+          ∙ ap (λ x. with_judge_notes (offer_notes n p o.channel (way_of o.payload) x) n) (sym qe)
           ∙ ap (λ m. notes_after s2 m p (Offering o)) (sym n2);
     }
   where

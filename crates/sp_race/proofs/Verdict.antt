@@ -243,10 +243,10 @@ module _ (g : RunInput) where
           (forks_linked s v q x.cs at.sound at.known x.makes j done n label at.linked o os e)
           (subst (λ a. KnowsBefore (superpascal g) v q a) (sym e) tt))
       by (Offering o) e w h k =
-          let k' : KnowsOffers j done q (Offered (way_of o.cargo) o.channel) =
+          let k' : KnowsOffers j done q (Offered (way_of o.payload) o.channel) =
           subst (KnowsOffers j done q) (sym (same_Some _ _ h)) k in
           subst (λ z. Enters_at s v q own m (knowledge_after j n q z) (With done q z) (suc n)) (same_Some _ _ h)
-          (put (Offered (way_of o.cargo) o.channel) _
+          (put (Offered (way_of o.payload) o.channel) _
           (offers_linked s v q x.cs at.sound at.known x.makes j done n label at.linked o e)
           (subst (λ a. KnowsBefore (superpascal g) v q a) (sym e) (known_linked s v j done n label q o at.linked k')))
       by EndsProcess e w h k = subst (λ z. Enters_at s v q own m (knowledge_after j n q z) (With done q z) (suc n))

@@ -21,7 +21,7 @@ pub record Pended {L : Language} (s : State L) (v : JudgeNotes) (j : Knowledge) 
   pub pending_is : j.pending c ≡ Some (z, position)
   pub inside : position < n
   pub names : label position ≡ Some (next_event_of v z)
-  pub entry : slice_get done position ≡ Some (record { who = z; what = Offered (way_of w.cargo) c })
+  pub entry : slice_get done position ≡ Some (record { who = z; what = Offered (way_of w.payload) c })
 
 -- the entry of a completed offer
 pub record Recorded (done : List Occurrence) (n : ℕ) (label : ℕ → Option Event) (c : Channel) (w : Way) (e : Event) :

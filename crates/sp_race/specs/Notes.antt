@@ -93,7 +93,7 @@ notes_of s n p (Moves o ws) = []
 notes_of s n p (Opens o ws) = Counts p ∷ Learns p (same_event (next_event_of n p)) ∷ []
 notes_of s n p (Forks o os) = Counts p ∷ Learns p (same_event (next_event_of n p))
     ∷ notes_to_children p (s.forks p) (known_after_event n p) 0 (length os)
-notes_of s n p (Offering o) = offer_notes n p o.channel (way_of o.cargo) (s.pending o.channel)
+notes_of s n p (Offering o) = offer_notes n p o.channel (way_of o.payload) (s.pending o.channel)
 notes_of s n p EndsProcess = Counts p ∷ Learns p (same_event (next_event_of n p))
     ∷ notes_to_parent p (known_after_event n p)
 notes_of s n p (MeetsFault f) = []
@@ -105,7 +105,7 @@ IsKnowledge n = (q : Name) (e : Event) → n.past q e ≡ true → e.nth < n.eve
 -- the order condition at one step: who offers knows of each earlier offer of its way on its channel that it was
 -- completed. (Where one is pending, the step is contention)
 abbrev pub KnowsBefore : (L : Language) → JudgeNotes → Name → ActOf L → Type 0
-KnowsBefore L n p (Offering o) = (e : Event) → n.offers o.channel (way_of o.cargo) e ≡ true → n.past p e ≡ true
+KnowsBefore L n p (Offering o) = (e : Event) → n.offers o.channel (way_of o.payload) e ≡ true → n.past p e ≡ true
 KnowsBefore L n p (Moves o ws) = Unit {0}
 KnowsBefore L n p (Opens o ws) = Unit {0}
 KnowsBefore L n p (Forks o os) = Unit {0}

@@ -6,7 +6,7 @@ use Rattle.std.proofs.lemmas.List.{length-set}
 use Rattle.sp_base.proofs.Facts.{and_not_from, and_not_parts, first_false, or_from_either, second_false}
 use Rattle.sp_varsets.specs.declared.var_set.VarSet.{VarSet}
 use Rattle.sp_varsets.specs.Members.{has}
-use Rattle.sp_varsets.specs.Paths.{row_has, member, PathLeads, ExtendsByPaths, Carried, Visited, Swept, Closes}
+use Rattle.sp_varsets.specs.Paths.{row_has, member, PathLeads, ExtendsByPaths, Carried, Visited, PassUpTo, Closes}
 use Rattle.sp_varsets.proofs.Words.{below_words}
 
 -- rows of lists
@@ -175,11 +175,11 @@ follows_visit calls hidden old new b n r h changed er eh v = record {
   ];
 }
 
-pub swept_more : (calls hidden old mid new : List VarSet) (b : ℕ) (r h : VarSet) (one two : Bool)
+pub pass_up_to_more : (calls hidden old mid new : List VarSet) (b : ℕ) (r h : VarSet) (one two : Bool)
     → slice_get calls b ≡ Some r → slice_get hidden b ≡ Some h → length old ≤ 2 ^ 32
-    → Swept calls hidden old mid b one → Visited mid new b r h (2 ^ 32) two
-    → Swept calls hidden old new (b + 1) (one || two)
-swept_more calls hidden old mid new b r h one two er eh small s v = record {
+    → PassUpTo calls hidden old mid b one → Visited mid new b r h (2 ^ 32) two
+    → PassUpTo calls hidden old new (b + 1) (one || two)
+pass_up_to_more calls hidden old mid new b r h one two er eh small s v = record {
   follows = follows_then s.follows (follows_visit calls hidden mid new b (2 ^ 32) r h two er eh v);
   none = λ e c x. v.none (second_false one two e) c x ∙ s.none (first_false one two e) c x;
   full = λ e c f x l run hide m. elim (cases_eq c b) [
@@ -213,7 +213,7 @@ all_led calls hidden rows old kept full (c ∷ cs) b x (r, h, l) =
     full b c x r h (all_led calls hidden rows old kept full cs c x l)
 
 pub closes : (calls hidden old mid new : List VarSet) (changed : Bool) → length calls ≡ length old
-    → ExtendsByPaths calls hidden old mid → Swept calls hidden mid new (length mid) changed → changed ≡ false
+    → ExtendsByPaths calls hidden old mid → PassUpTo calls hidden mid new (length mid) changed → changed ≡ false
     → Closes calls hidden old new
 closes calls hidden old mid new changed len f s e =
     let all = follows_then f s.follows in record {

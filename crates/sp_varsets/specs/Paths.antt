@@ -51,7 +51,7 @@ pub record Visited (old new : List VarSet) (b : ℕ) (calls hidden : VarSet) (n 
   pub some : changed ≡ true → (x : ℕ) × (member new b x ≡ true) × (member old b x ≡ false)
 
 -- so for all blocks below this number, one after another
-pub record Swept (calls hidden old new : List VarSet) (n : ℕ) (changed : Bool) : Type 0 where
+pub record PassUpTo (calls hidden old new : List VarSet) (n : ℕ) (changed : Bool) : Type 0 where
   pub follows : ExtendsByPaths calls hidden old new
   pub none : changed ≡ false → (b x : ℕ) → member new b x ≡ member old b x
   pub full : changed ≡ false → (b c x : ℕ) → b < n → member calls b c ≡ true → member hidden b x ≡ false

@@ -2,7 +2,7 @@
 
 ghost use Rattle.std.specs.Prelude.{◌≡◌, ℕ, ◌^◌, ◌<◌, ◌≤◌, true, false, not, ◌||◌, ◌&&◌, OnOk, IfOk, length};
 ghost use Rattle.sp_varsets.specs.Members.{has};
-ghost use Rattle.sp_varsets.specs.Paths.{member, ExtendsByPaths, Carried, Visited, Swept, Closes};
+ghost use Rattle.sp_varsets.specs.Paths.{member, ExtendsByPaths, Carried, Visited, PassUpTo, Closes};
 
 use crate::take;
 use crate::var_set::VarSet;
@@ -68,7 +68,7 @@ fn sweep(rows: &mut List<VarSet>, calls: &[VarSet], hidden: &[VarSet]) -> Result
     requires calls { length calls.now ≡ length rows.old }
     requires hidden { length hidden.now ≡ length rows.old }
     requires small { length rows.old ≤ 2 ^ 32 }
-    ensures { IfOk result (λ changed. Swept calls.now hidden.now rows.old rows.new (length rows.old) changed) }
+    ensures { IfOk result (λ changed. PassUpTo calls.now hidden.now rows.old rows.new (length rows.old) changed) }
 {
     let mut changed = false;
     'rows: for b in 0..rows.len() {

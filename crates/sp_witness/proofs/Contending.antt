@@ -7,7 +7,7 @@ use Rattle.sp_journal.specs.declared.entry.Way.{Way}
 use Rattle.sp_journal.specs.declared.entry.Way.TheVariants as way
 use Rattle.sp_meaning.specs.Model.{Name, Channel, same_channel, Totals, Language, Moves, Opens, Forks, Offering}
 use Rattle.sp_meaning.specs.Model.{EndsProcess}
-use Rattle.sp_meaning.specs.Model.{MeetsFault, Cargo, Message, Takes, Waits, Faults, with_change, with_changes}
+use Rattle.sp_meaning.specs.Model.{MeetsFault, Payload, Message, Takes, Waits, Faults, with_change, with_changes}
 use Rattle.sp_meaning.specs.Steps.{ActOf, OfferOf, Advances, Faulty, way_of, message, entry_cost, meeting_outcome}
 use Rattle.sp_meaning.specs.Steps.{handover_outcome, offer_outcome}
 use Rattle.sp_meaning.specs.Steps.{act_outcome, limit_fault, fault_or, step_outcome, result_of, step_with}
@@ -32,7 +32,7 @@ use Rattle.sp_witness.proofs.Moving.{Head, Tag, Block, Does, Runs, BlockRuns}
 pub record Offers (L : Language) (a : ActOf L) (w : Way) (c : Channel) : Type 0 where
   pub offer : OfferOf L
   pub offer_is : a ≡ Offering offer
-  pub way_is : way_of offer.cargo ≡ w
+  pub way_is : way_of offer.payload ≡ w
   pub channel_is : offer.channel ≡ c
 
 pub offers_of : (L : Language) (a : ActOf L) (w : Way) (c : Channel)
@@ -67,7 +67,7 @@ offers_of L EndsProcess w c h = absurd (differ (same_Some _ _ h))
 offers_of L (MeetsFault f) w c h = absurd (none-some _ h)
 
 -- offers of one way have no message
-no_message : {V T : Type 0} (a b : Cargo V T) → way_of a ≡ way_of b → message a b ≡ None
+no_message : {V T : Type 0} (a b : Payload V T) → way_of a ≡ way_of b → message a b ≡ None
 no_message (Message v) (Message w) e = refl
 no_message (Takes t) (Takes u) e = refl
 no_message (Message v) (Takes t) e = absurd (ways e)
@@ -171,7 +171,7 @@ module _ (g : RunInput) (label : ℕ → Option Event) where
                   ((channel_test o.channel c).1 on))
                   ∙ here) in
                   let notes_are : m.notes ≡ s.notes = does.good.noted ∙ ap (λ a. notes_after s.state s.notes h.who a) is
-                  ∙ ap (λ p. with_judge_notes (offer_notes s.notes h.who o.channel (way_of o.cargo) p) s.notes) pe in
+                  ∙ ap (λ p. with_judge_notes (offer_notes s.notes h.who o.channel (way_of o.payload) p) s.notes) pe in
                   let own_label : label h.position ≡ Some (next_event_of s.notes h.who) =
                   ⊎_elim (λ (l : IsLocal x.act). absurd (subst IsLocal (sym act_is ∙ is) l))
                   (λ (e : label h.position ≡ Some (next_event_of s.notes h.who)). e) does.fits.named in
@@ -218,7 +218,7 @@ module _ (g : RunInput) (label : ℕ → Option Event) where
   -- an offer of one way with a pending one
   pub contends : (s : StateOf g) (p q : Name) (own : Process) (w : Way) (c : Channel) → running_process g s q ≡ Some own
       → (o : Offers L (L.next own s.store) w c) → (other : OfferOf L) → s.pending c ≡ Some p
-      → s.condition p ≡ Waits other → way_of other.cargo ≡ w
+      → s.condition p ≡ Waits other → way_of other.payload ≡ w
       → limit_fault (total_limits g) s.totals (Some entry_cost) ≡ None
       → (happening_at g s q own ≡ Some (Faulted fault.F6))
       × (next_state g s q ≡ Some (with_change (Faults q fault.F6) s))
@@ -232,7 +232,7 @@ module _ (g : RunInput) (label : ℕ → Option Event) where
       met_here =
           ap (offer_outcome s q o.offer) (ap s.pending o.channel_is ∙ pe)
           ∙ ap (meeting_outcome s q o.offer p) ce
-          ∙ ap (handover_outcome s q o.offer p other) (no_message o.offer.cargo other.cargo (o.way_is ∙ sym same))
+          ∙ ap (handover_outcome s q o.offer p other) (no_message o.offer.payload other.payload (o.way_is ∙ sym same))
 
       out : step_outcome (total_limits g) s q (L.next own s.store) ≡ Faulty fault.F6
       out = ap (step_outcome (total_limits g) s q) o.offer_is

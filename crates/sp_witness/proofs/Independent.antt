@@ -90,7 +90,7 @@ module _ {L : Language} (s : State L) (p : Name) where
       ]
 
   meets_none : (o : OfferOf L) (z : Name) (c : ConditionOf L) → EndsNone {L = L} (meeting_outcome s p o z c)
-  meets_none o z (Waits w) = hands_none o z w (message o.cargo w.cargo)
+  meets_none o z (Waits w) = hands_none o z w (message o.payload w.payload)
   meets_none _ _ _ = tt
 
   offered_none : (o : OfferOf L) (m : Option Name) → EndsNone {L = L} (offer_outcome s p o m)
@@ -171,12 +171,12 @@ near_learns {L} s n p a q apart near =
         → (IsLocal a → ⊥) × (((with_judge_notes (notes_of s n p a) n).past q (next_event_of n p)) ≡ true)
     partner (Offering o) h = (
       λ x. x,
-      subst (λ (m : Option Name). (with_judge_notes (offer_notes n p o.channel (way_of o.cargo) m) n).past q
+      subst (λ (m : Option Name). (with_judge_notes (offer_notes n p o.channel (way_of o.payload) m) n).past q
           (next_event_of n p) ≡ true)
           (sym h)
           (learned q (known_to_either (known_after_event n p) (known_after_event n q)) []
-          (with_judge_notes (Records o.channel (way_of o.cargo) (next_event_of n p)
-          ∷ Records o.channel (other_way (way_of o.cargo)) (next_event_of n q) ∷ Counts p ∷ Counts q
+          (with_judge_notes (Records o.channel (way_of o.payload) (next_event_of n p)
+          ∷ Records o.channel (other_way (way_of o.payload)) (next_event_of n q) ∷ Counts p ∷ Counts q
           ∷ Learns p (known_to_either (known_after_event n p) (known_after_event n q)) ∷ []) n) (next_event_of n p)
           (or_left (known_after_event n p (next_event_of n p)) (known_after_event n q (next_event_of n p))
           (knows_mine n p))),

@@ -21,12 +21,12 @@ pub record IsContention (g : RunInput) (u : StateOf g) (w : Way) (c : Channel) (
   pub runs : running_process g u second ≡ Some own
   pub offer : OfferOf (superpascal g)
   pub offers : (superpascal g).next own u.store ≡ Offering offer
-  pub way_is : way_of offer.cargo ≡ w
+  pub way_is : way_of offer.payload ≡ w
   pub channel_is : offer.channel ≡ c
   pub pends : u.pending c ≡ Some first
   pub waiting : OfferOf (superpascal g)
   pub waits : u.condition first ≡ Waits waiting
-  pub same_way : way_of waiting.cargo ≡ w
+  pub same_way : way_of waiting.payload ≡ w
 
 -- the journal of the witness is one of a run, which ends in the contention of the two offers
 pub record Shows (g : RunInput) (turn : ℕ) (es : List Occurrence) (w : Way) (c : Channel) (earlier later : ℕ) : Type

@@ -32,13 +32,13 @@ use Rattle.superpascal.specs.Calls.{WroteAll, Call, Exactly, Failed, IsAnswered,
 use Rattle.superpascal.specs.Calls.{OfText, WrotePart, SaysEnding}
 use Rattle.superpascal.specs.Causes.{Cause, by_words, before_words, by_command, HasGenerated, HasRead, HasReplayed}
 use Rattle.superpascal.specs.Causes.{HasRun, IsNotLoaded, IsNotRead, IsTooLong, IsUntouched, ReadsAfterRules}
-use Rattle.superpascal.specs.Causes.{refusal_answer, silent_answer}
+use Rattle.superpascal.specs.Causes.{refusal_answer, answer_without_output}
 use Rattle.superpascal.specs.Following.{Following, IsMeantAlong, PrintsReplay}
 use Rattle.superpascal.specs.Headline.{Headline, IsMeant, Prints}
 use Rattle.superpascal.specs.Replays.{IsJournalOf, IsWritten, ending_of_replay, replay_notes}
 use Rattle.superpascal.specs.Runs.{IsRunOf, Reports, ending_of, generated_answer, generated_output, run_answer}
 use Rattle.superpascal.specs.Runs.{told_notes, told_output}
-use Rattle.superpascal.specs.Statuses.{InputIsTooLong, OutsideWorks, IsRunOfWords, IsWell, ReadsFail, Statuses}
+use Rattle.superpascal.specs.Statuses.{InputIsTooLong, OutsideWorks, IsRunOfWords, IsRegularStatus, ReadsFail, Statuses}
 use Rattle.superpascal.specs.Texts.{FirstBrokenFor, CanRead, HasLongCode, IsDisjointText, IsJournalText, AcceptedFor}
 use Rattle.superpascal.specs.Texts.{IsAcceptedText, Makes, command_of_run, asks_build, asks_text, command_of_replay}
 use Rattle.superpascal.specs.Traces.{IsStateOf, IsTraceOf}
@@ -348,13 +348,13 @@ module _ (c : Call) (k : IsAnswered c) (l : Laws) where
 
   no_run_of_memory : status ≡ 8 → IsUnwritten c.output × (c.outcome.ran ≡ None)
   no_run_of_memory h =
-      let m : k.answer ≡ silent_answer e.OutOfMemory = no_memory c.files c.source c.reports
+      let m : k.answer ≡ answer_without_output e.OutOfMemory = no_memory c.files c.source c.reports
       (command_of c.words) k.answer ending due_why (undisplaced 8 (λ p. absurd (omega arith)) h) in
       (k.written.untouched (ap (λ (z : Answer). has_output z.ending) m), k.ran ∙ ap (λ (z : Answer). z.ran) m)
 
-  complete_is : OfText c (λ d text. AcceptedFor d text → OutsideWorks c d → IsWell d status)
+  complete_is : OfText c (λ d text. AcceptedFor d text → OutsideWorks c d → IsRegularStatus d status)
   complete_is d text v t kept q =
-      subst (IsWell d) (sym (same_status not_displaced))
+      subst (IsRegularStatus d) (sym (same_status not_displaced))
       (ends_well c.files c.source c.reports
       (command_of c.words) k.answer d text v t l kept q.library q.source q.input ending due_why)
     where

@@ -4,7 +4,7 @@ use Rattle.std.proofs.Common.{arith}
 use Rattle.std.proofs.lemmas.Bool.{cases_order}
 use Rattle.sp_code.specs.declared.code.Parts.{Parts}
 use Rattle.sp_codefile.specs.CodeText.{IsFirstBad, IsTextOf}
-use Rattle.sp_rules.specs.Verdict.{Rule, V1, V2, V3, V4, V5, V6, V7, V8, V9, IsRejected, IsVerified, number}
+use Rattle.sp_verify_rules.specs.Verdict.{Rule, V1, V2, V3, V4, V5, V6, V7, V8, V9, IsRejected, IsVerified, number}
 use Rattle.superpascal.specs.Texts.{IsSoundFile}
 use Rattle.superpascal.proofs.Laws.{Laws}
 

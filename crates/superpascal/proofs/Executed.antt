@@ -9,7 +9,7 @@ use Rattle.superpascal.specs.declared.ending.Ending.{Ending}
 use Rattle.superpascal.specs.declared.ending.Ending.TheVariants as e
 use Rattle.superpascal.specs.Answering.{ending_answer}
 use Rattle.superpascal.specs.Causes.{by_code_line, by_execution, by_length, by_library, by_long_file, by_memory}
-use Rattle.superpascal.specs.Causes.{by_rejection, by_source, Files, IsTold, IsUntouched, Stream}
+use Rattle.superpascal.specs.Causes.{by_rejection, by_source, Files, IsKnownAs, IsUntouched, Stream}
 use Rattle.superpascal.specs.Executions.{IsExecutionOf}
 use Rattle.superpascal.specs.Runs.{Reports}
 use Rattle.superpascal.specs.Steps.{AnswersCommand, CommandCause, DecodesTo, GivesFile, GivesInput, HasInput}
@@ -20,7 +20,7 @@ use Rattle.superpascal.proofs.Parts.{when_told}
 
 -- ---- the code of a file
 
-module _ (f : Files) (name bytes : List ℕ) (t : IsTold (f.held name) bytes) (short : length bytes ≤ 67108864) where
+module _ (f : Files) (name bytes : List ℕ) (t : IsKnownAs (f.held name) bytes) (short : length bytes ≤ 67108864) where
   -- the bytes are the text of no code
   pub not_decoded : (x : Ending) → DecodesTo bytes (Err x) → GivesFile f name (Err x)
   not_decoded x (inl (n, h, bad)) = inr (bytes, t, short, inl (n, h, bad))
@@ -69,7 +69,7 @@ module _ (f : Files) (s : Stream) (reports : Reports) (b : Executed) where
     inl u,
   )
 
-  module _ (bytes : List ℕ) (t : IsTold (f.held b.file) bytes) (code : Parts) (file : IsFileOf code bytes) where
+  module _ (bytes : List ℕ) (t : IsKnownAs (f.held b.file) bytes) (code : Parts) (file : IsFileOf code bytes) where
     may_read : CanRead f.held (command_of_execution b)
     may_read = when_told IsSoundFile (f.held b.file) bytes t (code, file)
 

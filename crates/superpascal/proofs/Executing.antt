@@ -8,7 +8,7 @@ use Rattle.sp_codefile.specs.Verifying.{rule_of}
 use Rattle.sp_codefile.specs.declared.verifier.VRule.{VRule}
 use Rattle.sp_kernel.specs.declared.closed.Closed.{Closed}
 use Rattle.sp_print.specs.OutcomeLines.{HasLines, end_text}
-use Rattle.sp_rules.specs.Verdict.{IsRejected, number}
+use Rattle.sp_verify_rules.specs.Verdict.{IsRejected, number}
 use Rattle.sp_tree.specs.Bare.{without_places}
 use Rattle.sp_words.specs.Words.{command_of}
 use Rattle.sp_words.specs.declared.command.Command.{Command}
@@ -20,7 +20,7 @@ use Rattle.superpascal.specs.declared.ending.Ending.TheVariants as e
 use Rattle.superpascal.specs.declared.ending.Answer.{Answer}
 use Rattle.superpascal.specs.Answers.{line_of, notes_of, output_of, status_of}
 use Rattle.superpascal.specs.Calls.{WroteAll, Call, IsAnswered, IsFinal, IsOutside, WrotePart, SaysEnding}
-use Rattle.superpascal.specs.Causes.{Files, HasExecuted, IsBadCode, IsLongFile, IsRefusedFor, IsRejectedCode, IsTold}
+use Rattle.superpascal.specs.Causes.{Files, HasExecuted, IsBadCode, IsLongFile, IsRefusedFor, IsRejectedCode, IsKnownAs}
 use Rattle.superpascal.specs.Causes.{IsTooLong, Stream}
 use Rattle.superpascal.specs.Executing.{Executing, IsExecutionOfWords, IsFaultyFile, IsMeantHere}
 use Rattle.superpascal.specs.Executions.{IsExecutionOf, execution_answer}
@@ -248,7 +248,7 @@ module _ (c : Call) (k : IsAnswered c) (l : Laws) where
     not_refused : IsRefusedFor c.files (command_of_execution b) k.answer → ⊥
     not_refused h = if_told (λ x. ⊥) (c.files.held b.file) bytes t h.breaks
 
-    this_file : (x : List ℕ) → IsTold (c.files.held b.file) x → x ≡ bytes
+    this_file : (x : List ℕ) → IsKnownAs (c.files.held b.file) x → x ≡ bytes
     this_file x h = told_of (c.files.held b.file) x bytes t h
 
     too_short : length bytes ≤ 67108864 → 67108864 < length bytes → ⊥

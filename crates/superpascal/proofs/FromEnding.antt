@@ -22,13 +22,13 @@ use Rattle.superpascal.specs.declared.ending.Ending.TheVariants as e
 use Rattle.superpascal.specs.declared.ending.Answer.{Answer}
 use Rattle.superpascal.specs.Answers.{line_of, notes_by, status_of}
 use Rattle.superpascal.specs.Calls.{IsFinal, IsOutside}
-use Rattle.superpascal.specs.Causes.{Files, HasMade, HasRead, HasReplayed, IsBadCode, IsBadJournal, IsLongCode}
+use Rattle.superpascal.specs.Causes.{Files, HasMadeOutput, HasRead, HasReplayed, IsBadCode, IsBadJournal, IsLongCode}
 use Rattle.superpascal.specs.Causes.{IsLongFile, IsLongJournal, IsNotLoaded, IsNotRead, IsRefusedFor, IsRejectedCode}
-use Rattle.superpascal.specs.Causes.{IsTold, IsTooLong, IsTooMuch, IsUnfit, Stream, silent_answer}
+use Rattle.superpascal.specs.Causes.{IsKnownAs, IsTooLong, IsLongInput, IsUnfit, Stream, answer_without_output}
 use Rattle.superpascal.specs.Following.{IsNoJournal}
 use Rattle.superpascal.specs.Replays.{IsUnfitFor}
 use Rattle.superpascal.specs.Runs.{IsRunOf, Reports}
-use Rattle.superpascal.specs.Statuses.{IsWell}
+use Rattle.superpascal.specs.Statuses.{IsRegularStatus}
 use Rattle.superpascal.specs.Texts.{FirstBrokenFor, CanRead, HasLongCode, IsSoundFile, AcceptedFor, IsAcceptedText}
 use Rattle.superpascal.specs.Texts.{LoadsText, Makes, command_of_run, asks_build, asks_execution, asks_replay, asks_run}
 use Rattle.superpascal.specs.Texts.{asks_text, command_of_execution, command_of_replay, text_of}
@@ -81,11 +81,11 @@ module _ (f : Files) (s : Stream) (reports : Reports) (w : Option Command) (a : 
   read_fails e.ReadFault k h = k
   read_fails _ k h = absurd (omega arith)
 
-  pub input_long : (x : Ending) → Why x → status_of x ≡ 7 → (d : Command) × (w ≡ Some d) × IsTooMuch f s d a
+  pub input_long : (x : Ending) → Why x → status_of x ≡ 7 → (d : Command) × (w ≡ Some d) × IsLongInput f s d a
   input_long e.TooLong k h = k
   input_long _ k h = absurd (omega arith)
 
-  pub no_memory : (x : Ending) → Why x → status_of x ≡ 8 → a ≡ silent_answer e.OutOfMemory
+  pub no_memory : (x : Ending) → Why x → status_of x ≡ 8 → a ≡ answer_without_output e.OutOfMemory
   no_memory e.OutOfMemory k h = k
   no_memory _ k h = absurd (omega arith)
 
@@ -103,7 +103,7 @@ module _ (f : Files) (s : Stream) (reports : Reports) (w : Option Command) (a : 
         → IsAcceptedText all
     run_keeps all input workers r limits h = (h.tree, h.has.accepted, h.has.short)
 
-    told_keeps : (o : Option (List ℕ)) (all : List ℕ) → IsTold o all → IsAcceptedText all → IfSome o IsAcceptedText
+    told_keeps : (o : Option (List ℕ)) (all : List ℕ) → IsKnownAs o all → IsAcceptedText all → IfSome o IsAcceptedText
     told_keeps o all h k = when_told IsAcceptedText o all h k
 
     pub ran_keeps : HasRanFor f s reports w a → AcceptedFor d text
@@ -152,7 +152,7 @@ module _ (f : Files) (s : Stream) (reports : Reports) (w : Option Command) (a : 
     ended_keeps (inr (inl k)) = replay_keeps k
     ended_keeps (inr (inr k)) = executed_keeps k
 
-    makes : (c : Command) → w ≡ Some c → (h : HasMade f c a) → Makes d text h.output h.line
+    makes : (c : Command) → w ≡ Some c → (h : HasMadeOutput f c a) → Makes d text h.output h.line
     makes c u h =
         subst (λ (x : Command). Makes x text h.output h.line) (one_command w d c v u)
         (subst (λ (x : List ℕ). Makes c x h.output h.line) (of_text (λ x. h.text ≡ x) c u h.loaded) h.makes)
@@ -226,11 +226,11 @@ module _ (f : Files) (s : Stream) (reports : Reports) (w : Option Command) (a : 
     not_ended q (inr (inl k)) = not_followed_by q k.0 k.1
     not_ended q (inr (inr k)) = not_executed_by q k.0 k.1
 
-    pub made_only : asks_text d → (x : Ending) → Why x → status_of x ≡ 0 → (h : HasMade f d a)
+    pub made_only : asks_text d → (x : Ending) → Why x → status_of x ≡ 0 → (h : HasMadeOutput f d a)
         × Makes d text h.output h.line
     made_only q e.Done k i = absurd (not_ended q k)
     made_only q e.NoEnd k i = absurd (not_followed_by q k.0 k.1)
-    made_only q e.Accepted (c, u, h) i = subst (λ (y : Command). (z : HasMade f y a)
+    made_only q e.Accepted (c, u, h) i = subst (λ (y : Command). (z : HasMadeOutput f y a)
         × Makes d text z.output z.line) (one_command w d c v u) (h, makes c u h)
     made_only q _ k i = absurd (omega arith)
 
@@ -293,7 +293,7 @@ module _ (f : Files) (s : Stream) (reports : Reports) (w : Option Command) (a : 
           (subst (λ (x : Command). LoadsText f.held x h.name) (one_command w d c v u) h.loads) h.rose
       read_well c u (inr h) = source h.rose
 
-      long_well : (c : Command) → w ≡ Some c → IsTooMuch f s c a → ⊥
+      long_well : (c : Command) → w ≡ Some c → IsLongInput f s c a → ⊥
       long_well c u h =
           let i = fits (subst (λ (x : Command). CanRead f.held x) (one_command w d c v u) h.reads) in
           let k : IsTooLong i.0 = if_told IsTooLong s.left i.0 i.1 h.long in
@@ -320,7 +320,7 @@ module _ (f : Files) (s : Stream) (reports : Reports) (w : Option Command) (a : 
           (subst IsSoundFile (sym (of_text (λ x. h.bytes ≡ x) (command_of_execution b) u h.loaded))
           (file_kept b u)) h.text (rule_of r) n h.rejected
 
-      pub ends_well : (x : Ending) → Why x → IsWell d (status_of x)
+      pub ends_well : (x : Ending) → Why x → IsRegularStatus d (status_of x)
       ends_well e.Done k = inl (inl refl)
       ends_well e.Deadlock k = inl (inr (inr refl))
       ends_well e.Fault k = inl (inr (inl refl))

@@ -28,14 +28,14 @@ use Rattle.superpascal.specs.declared.teller.Account.{Account}
 use Rattle.superpascal.specs.declared.teller.Teller.{Teller}
 use Rattle.superpascal.specs.declared.teller.Teller.TheVariants as teller
 use Rattle.superpascal.specs.Answering.{HasCode}
-use Rattle.superpascal.specs.Causes.{Files, IsTold}
+use Rattle.superpascal.specs.Causes.{Files, IsKnownAs}
 use Rattle.superpascal.specs.Steps.{AccountsFor, GivesMarked, HasSymbols, HasTeller, MarksTo}
 use Rattle.superpascal.specs.Texts.{FirstBroken}
 use Rattle.superpascal.specs.Traces.{IsStateOf, IsToldOf, IsTraceOf}
 use Rattle.superpascal.proofs.Parts.{when_told}
 
 -- of the text under a name
-pub given_marked : (f : Files) (name text : List ℕ) → IsTold (f.held name) text → (r : Result MarkedText Ending)
+pub given_marked : (f : Files) (name text : List ℕ) → IsKnownAs (f.held name) text → (r : Result MarkedText Ending)
     → MarksTo text r → GivesMarked f name r
 given_marked f name text t (Ok m) is = (text, t, is)
 given_marked f name text t (Err x) (inl (r, h, b)) = inl

@@ -27,12 +27,13 @@ use Rattle.superpascal.specs.declared.ending.Ending.TheVariants as e
 use Rattle.superpascal.specs.declared.telling.Telling.{Telling}
 use Rattle.superpascal.specs.Answering.{AnswersEnding, HasCode, ending_answer, ending_of_halt}
 use Rattle.superpascal.specs.Causes.{Cause, by_words, before_words, by_command, Due, by_run, by_generated, by_text}
-use Rattle.superpascal.specs.Causes.{by_code, by_rule, by_library, by_source, by_length, by_memory, Files, IsTold}
-use Rattle.superpascal.specs.Causes.{IsUntouched, ReadsAfterRules, Stream, accepted_answer, silent_answer}
+use Rattle.superpascal.specs.Causes.{by_code, by_rule, by_library, by_source, by_length, by_memory, Files, IsKnownAs}
+use Rattle.superpascal.specs.Causes.{IsUntouched, ReadsAfterRules, Stream, accepted_answer, answer_without_output}
 use Rattle.superpascal.specs.Runs.{IsRunOf, Reports}
 use Rattle.superpascal.specs.Steps.{AnswersCommand, AnswersText, AnswersWords, CommandCause, CompilesTo, GivesCode}
 use Rattle.superpascal.specs.Steps.{GivesInput}
-use Rattle.superpascal.specs.Steps.{HasInput, IsKeptBack, IsSaidOf, IsUnready, ReadsCommand, TellsGenerated, TellsRun}
+use Rattle.superpascal.specs.Steps.{HasInput, LoadFails, IsSaidOf, IsUnready, ReadsCommand, ReportsGenerated}
+use Rattle.superpascal.specs.Steps.{ReportsRun}
 use Rattle.superpascal.specs.Steps.{TellsSets, TextCause, length_refusal}
 use Rattle.superpascal.specs.Texts.{FirstBrokenFor, FirstBroken, CanRead, HasCodeText, IsAcceptedText, Makes}
 use Rattle.superpascal.specs.Texts.{command_of_run, text_of}
@@ -42,7 +43,7 @@ use Rattle.superpascal.proofs.Laws.{IsAbout, long_breaks}
 -- ---- what is told
 
 -- what holds of a told text holds of what is told
-pub when_told : (P : List ℕ → Type 0) (o : Option (List ℕ)) (text : List ℕ) → IsTold o text → P text → IfSome o P
+pub when_told : (P : List ℕ → Type 0) (o : Option (List ℕ)) (text : List ℕ) → IsKnownAs o text → P text → IfSome o P
 when_told P None text h k = tt
 when_told P (Some all) text h k = subst P h k
 
@@ -86,7 +87,7 @@ compiled_code text r code i k = (
   subst (λ (x : Parts). HasCode text (program_of r.accepted.checked) x) (sym i) (has_code text r k),
 )
 
-pub unready : (f : Files) (name : List ℕ) (x : Ending) → IsKeptBack f name 1048576 (e.Refused length_refusal) x
+pub unready : (f : Files) (name : List ℕ) (x : Ending) → LoadFails f name 1048576 (e.Refused length_refusal) x
     → IsUnready f name x
 unready f name x (inl h) = inl (
   length_refusal,
@@ -95,7 +96,7 @@ unready f name x (inl h) = inl (
 )
 unready f name x (inr h) = inr h
 
-pub given_code : (f : Files) (name text : List ℕ) → IsTold (f.held name) text → (r : Result Parts Ending)
+pub given_code : (f : Files) (name text : List ℕ) → IsKnownAs (f.held name) text → (r : Result Parts Ending)
     → CompilesTo text r → GivesCode f name r
 given_code f name text t (Ok code) (tree, h) = (text, t, tree, h)
 given_code f name text t (Err x) (inl (r, h, b)) = inl
@@ -129,7 +130,7 @@ module _ (f : Files) (d : Command) (name : List ℕ) (about : IsAbout d name) wh
       (record { name = name; loads = inl about.0; rose = r; answer = ap ending_answer h }))))
 
   -- a text that is not loaded
-  pub text_kept_back : (x : Ending) → IsKeptBack f name 1048576 (e.Refused length_refusal) x
+  pub text_kept_back : (x : Ending) → LoadFails f name 1048576 (e.Refused length_refusal) x
       → TextCause f d (ending_answer x)
   text_kept_back x (inl h) = refuses length_refusal x h.0 (long_broken d name (f.held name) about h.1)
   text_kept_back x (inr (inl h)) = fails x h.0 h.1
@@ -144,16 +145,16 @@ module _ (f : Files) (d : Command) (name : List ℕ) (about : IsAbout d name) wh
   text_unready all x (inr (inr h)) = inr (inr (inr (inr (ap ending_answer h))))
 
   -- one that breaks a rule of the command
-  pub text_refused : (text : List ℕ) → IsTold (f.held name) text → (r : Refusal) → FirstBrokenFor d text r
+  pub text_refused : (text : List ℕ) → IsKnownAs (f.held name) text → (r : Refusal) → FirstBrokenFor d text r
       → TextCause f d (ending_answer (e.Refused r))
   text_refused text t r b = refuses r (e.Refused r) refl (when_told (λ y. FirstBrokenFor d y r) (f.held name) text t b)
 
   -- what is made of it
-  pub text_made : (text : List ℕ) → IsTold (f.held name) text → (out line : List ℕ) → Makes d text out line
+  pub text_made : (text : List ℕ) → IsKnownAs (f.held name) text → (out line : List ℕ) → Makes d text out line
       → (a : Answer) → a ≡ accepted_answer out line → TextCause f d a
   text_made text t out line m a h = inl (record {
     text = text;
-    loaded = to_text (λ o. IsTold o text) t;
+    loaded = to_text (λ o. IsKnownAs o text) t;
     output = out;
     line = line;
     makes = m;
@@ -161,17 +162,17 @@ module _ (f : Files) (d : Command) (name : List ℕ) (about : IsAbout d name) wh
   })
 
 -- a text that is not accepted, or of which no sets, or no layout, are made
-pub check_halted : (f : Files) (file text : List ℕ) → IsTold (f.held file) text → (h : Halt) → Accepts text (Err h)
+pub check_halted : (f : Files) (file text : List ℕ) → IsKnownAs (f.held file) text → (h : Halt) → Accepts text (Err h)
     → TextCause f (command.Check file) (ending_answer (ending_of_halt h))
 check_halted f file text t (halt.Refused r) b = text_refused f (command.Check file) file (refl, λ k. k) text t r b
 check_halted f file text t halt.Memory b = inr (inr (inr (inr refl)))
 
-pub sets_halted : (f : Files) (file text : List ℕ) → IsTold (f.held file) text → (h : Halt) → TellsSets text (Err h)
+pub sets_halted : (f : Files) (file text : List ℕ) → IsKnownAs (f.held file) text → (h : Halt) → TellsSets text (Err h)
     → TextCause f (command.Sets file) (ending_answer (ending_of_halt h))
 sets_halted f file text t (halt.Refused r) b = text_refused f (command.Sets file) file (refl, λ k. k) text t r b
 sets_halted f file text t halt.Memory b = inr (inr (inr (inr refl)))
 
-pub layout_halted : (f : Files) (file text : List ℕ) → IsTold (f.held file) text → (h : Halt) → Formats text (Err h)
+pub layout_halted : (f : Files) (file text : List ℕ) → IsKnownAs (f.held file) text → (h : Halt) → Formats text (Err h)
     → TextCause f (command.Format file) (ending_answer (ending_of_halt h))
 layout_halted f file text t (halt.Refused r) b = text_refused f (command.Format file) file (refl, λ k. k) text t r b
 layout_halted f file text t halt.Memory b = inr (inr (inr (inr refl)))
@@ -182,7 +183,7 @@ pub has_code_text : (text : List ℕ) (tree : c.Program) (code : Parts) (out : L
 has_code_text text tree code out h o = (tree, h.has.accepted, h.has.short, code, h.code, o)
 
 -- the code of the text is too long for a file
-pub code_long : (f : Files) (file text : List ℕ) → IsTold (f.held file) text → (out : List ℕ) → HasCodeText text out
+pub code_long : (f : Files) (file text : List ℕ) → IsKnownAs (f.held file) text → (out : List ℕ) → HasCodeText text out
     → 67108864 < length out → TextCause f (command.Build file) (ending_answer e.LongCode)
 code_long f file text t out h long = inr
     (inl (record { builds = tt; text = text; loaded = t; long = (out, h, long); answer = refl }))
@@ -220,7 +221,7 @@ module _ (f : Files) (s : Stream) (reports : Reports) (b : Asked) where
   run_unready u x h = cause_of_text f s reports (command_of_run b) u (ending_answer x)
       (text_unready f (command_of_run b) b.file (asked_about b) (asked_breaks b) x h)
 
-  module _ (text : List ℕ) (t : IsTold (f.held b.file) text) (tree : c.Program) (code : Parts)
+  module _ (text : List ℕ) (t : IsKnownAs (f.held b.file) text) (tree : c.Program) (code : Parts)
       (has : HasCode text tree code) where
     can_read : CanRead f.held (command_of_run b)
     can_read = asked_reads f.held b (when_told IsAcceptedText (f.held b.file) text t (keeps_code text tree code has))
@@ -240,7 +241,7 @@ module _ (f : Files) (s : Stream) (reports : Reports) (b : Asked) where
     run_unread x (inr (inr h)) = run_wanting x h
 
     pub run_told : (input : List ℕ) → HasInput s input → (ran : Ran) → IsRunOf text input b.workers b.limits ran
-        → (r : Result Answer Ending) → TellsRun reports b.telling ran r
+        → (r : Result Answer Ending) → ReportsRun reports b.telling ran r
         → AnswersCommand f s reports (command_of_run b) r
     run_told input i ran is (Ok a) k = (
       by_run b refl (record {
@@ -260,8 +261,8 @@ module _ (f : Files) (s : Stream) (reports : Reports) (b : Asked) where
 
 -- the answer to a telling that is known
 pub told_by : (reports : Reports) (t u : Telling) (ran : Ran) (r : Result Answer Ending) → t ≡ u
-    → ((made : Reports) → TellsRun made u ran r) → TellsRun reports t ran r
-told_by reports t u ran r h k = subst (λ (x : Telling). TellsRun reports x ran r) (sym h) (k reports)
+    → ((made : Reports) → ReportsRun made u ran r) → ReportsRun reports t ran r
+told_by reports t u ran r h k = subst (λ (x : Telling). ReportsRun reports x ran r) (sym h) (k reports)
 
 -- ---- `gen`
 
@@ -284,7 +285,7 @@ module _ (f : Files) (s : Stream) (reports : Reports) (size workers : ℕ) (u : 
   -- a run on an input that is empty, with the limits where no option is given
   pub generated_told : (text input : List ℕ) (lim : Limits) (ran : Ran) → text ≡ generated_text size → input ≡ []
       → lim ≡ default_limits → IsRunOf text input workers lim ran → (r : Result Answer Ending)
-      → TellsGenerated size ran r → AnswersCommand f s reports (command.Gen size workers) r
+      → ReportsGenerated size ran r → AnswersCommand f s reports (command.Gen size workers) r
   generated_told text input lim ran t h i is (Ok a) k = (
     by_generated size workers refl (record {
       ran = ran;
@@ -309,7 +310,7 @@ module _ (f : Files) (s : Stream) (reports : Reports) (w : Option Command) where
   words_answered d v r h = said (CommandCause f s reports d) (Cause f s reports w) (λ a k. by_command d v k.0 k.1) r h
 
   -- memory was wanting for the line of an ending
-  wanting : (a : Answer) → Cause f s reports w a → Cause f s reports w (silent_answer e.OutOfMemory)
+  wanting : (a : Answer) → Cause f s reports w a → Cause f s reports w (answer_without_output e.OutOfMemory)
   wanting a (by_words n h u) = before_words refl u
   wanting a (before_words h u) = before_words refl u
   wanting a (by_command d v due reads) = by_command d v (by_memory refl) reads

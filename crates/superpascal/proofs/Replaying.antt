@@ -28,7 +28,7 @@ use Rattle.superpascal.specs.declared.ending.Answer.{Answer}
 use Rattle.superpascal.specs.Answering.{HasCode, HasEndLines, ending_answer}
 use Rattle.superpascal.specs.Answers.{notes_by}
 use Rattle.superpascal.specs.Causes.{by_library, by_source, by_length, by_memory, by_replay, by_entry, by_line, by_size}
-use Rattle.superpascal.specs.Causes.{Files, HasRead, IsTold, IsUntouched, Stream}
+use Rattle.superpascal.specs.Causes.{Files, HasRead, IsKnownAs, IsUntouched, Stream}
 use Rattle.superpascal.specs.Following.{IsMeantAlong}
 use Rattle.superpascal.specs.Replays.{IsJournalOf, IsReplayOf, IsUnfitFor, IsWritten, ending_of_replay, replay_answer}
 use Rattle.superpascal.specs.Runs.{HasTree, Reports}
@@ -76,7 +76,7 @@ pub tree_keeps : (text : List ℕ) (tree : c.Program) → HasTree text tree → 
 tree_keeps text tree h = (tree, h.accepted, h.short)
 
 -- the journal of the bytes under a name
-pub given_journal : (f : Files) (name bytes : List ℕ) → IsTold (f.held name) bytes → length bytes ≤ 67108864
+pub given_journal : (f : Files) (name bytes : List ℕ) → IsKnownAs (f.held name) bytes → length bytes ≤ 67108864
     → (r : Result Journal Ending) → ReadsJournal bytes r → GivesJournal f name r
 given_journal f name bytes t short (Ok j) (v, is) =
     (bytes, t, record { version = v; text = is; short = short })
@@ -86,14 +86,14 @@ given_journal f name bytes t short (Err x) (inr h) = inl (inr (inr h))
 -- of the library that was asked once before for the text
 pub journal_under : (f g : Files) (name : List ℕ) → g.held name ≡ f.held name → f.before name ≤ g.before name
     → g.after name ≡ f.after name → (r : Result Journal Ending) → GivesJournal g name r → GivesJournal f name r
-journal_under f g name held l i (Ok j) (bytes, t, is) = (bytes, subst (λ o. IsTold o bytes) held t, is)
+journal_under f g name held l i (Ok j) (bytes, t, is) = (bytes, subst (λ o. IsKnownAs o bytes) held t, is)
 journal_under f g name held l i (Err x) (inl (inl h)) = inl
     (inl (h.0, subst (λ o. IfSome o (λ all. 67108864 < length all)) held h.1))
 journal_under f g name held l i (Err x) (inl (inr (inl h))) = inl
     (inr (inl (h.0, rose_before (f.before name) (g.before name) (f.after name) l (subst (Rose (g.before name)) i h.1))))
 journal_under f g name held l i (Err x) (inl (inr (inr h))) = inl (inr (inr h))
 journal_under f g name held l i (Err x) (inr (bytes, n, t, short, h, bad)) = inr
-    (bytes, n, subst (λ o. IsTold o bytes) held t, short, h, bad)
+    (bytes, n, subst (λ o. IsKnownAs o bytes) held t, short, h, bad)
 
 module _ (f : Files) (s : Stream) (reports : Reports) (b : Followed) where
   abbrev Due_replay : Answer → Type 0
@@ -104,7 +104,7 @@ module _ (f : Files) (s : Stream) (reports : Reports) (b : Followed) where
   replay_unready u x h = cause_of_text f s reports (command_of_replay b) u (ending_answer x)
       (text_unready f (command_of_replay b) b.file (refl, λ k. k) (λ text r k. k) x h)
 
-  module _ (text : List ℕ) (t : IsTold (f.held b.file) text) (tree : c.Program) (code : Parts)
+  module _ (text : List ℕ) (t : IsKnownAs (f.held b.file) text) (tree : c.Program) (code : Parts)
       (has : HasCode text tree code) where
     kept_is : IfSome (f.held b.file) IsAcceptedText
     kept_is = when_told IsAcceptedText (f.held b.file) text t (keeps_code text tree code has)
@@ -132,7 +132,7 @@ module _ (f : Files) (s : Stream) (reports : Reports) (b : Followed) where
       inl u,
     )
 
-    module _ (bytes : List ℕ) (told : IsTold (f.held b.journal) bytes) (j : Journal) (is : IsJournalOf bytes j) where
+    module _ (bytes : List ℕ) (told : IsKnownAs (f.held b.journal) bytes) (j : Journal) (is : IsJournalOf bytes j) where
       may_read : CanRead f.held (command_of_replay b)
       may_read = (kept_is, when_told IsJournalText (f.held b.journal) bytes told ((is.version, j, is.text), is.short))
 
@@ -189,8 +189,8 @@ module _ (f : Files) (s : Stream) (reports : Reports) (b : Followed) where
 
 -- ---- what stands for what
 
-pub told_of : (o : Option (List ℕ)) (all text : List ℕ) → o ≡ Some text → IsTold o all → all ≡ text
-told_of o all text h t = subst (λ x. IsTold x all) h t
+pub told_of : (o : Option (List ℕ)) (all text : List ℕ) → o ≡ Some text → IsKnownAs o all → all ≡ text
+told_of o all text h t = subst (λ x. IsKnownAs x all) h t
 
 pub if_told : (P : List ℕ → Type 0) (o : Option (List ℕ)) (text : List ℕ) → o ≡ Some text → IfSome o P → P text
 if_told P o text h k = subst (λ x. IfSome x P) h k

@@ -11,7 +11,7 @@ use Rattle.sp_codefile.specs.CodeText.{IsTextOf}
 use Rattle.sp_execute.specs.Machines.{RunsCode}
 use Rattle.sp_generate.specs.Generated.{IsCodeOf}
 use Rattle.sp_kernel.specs.declared.closed.Closed.{Closed}
-use Rattle.sp_rules.specs.Verdict.{IsVerified}
+use Rattle.sp_verify_rules.specs.Verdict.{IsVerified}
 use Rattle.sp_tree.specs.Bare.{without_places}
 use Rattle.sp_words.specs.Ranges.{IsInRange}
 use Rattle.superpascal.specs.Answering.{HasCode}

@@ -17,9 +17,10 @@ use Rattle.superpascal.specs.Answering.{HasEndLines}
 use Rattle.superpascal.specs.Causes.{Cause, by_words, before_words, by_command, Due, by_run, by_generated, by_text}
 use Rattle.superpascal.specs.Causes.{by_code, by_rule, by_library, by_source, by_length, by_memory, by_replay, by_entry}
 use Rattle.superpascal.specs.Causes.{by_line, by_size, by_execution, by_long_file, by_code_line, by_rejection, Files}
-use Rattle.superpascal.specs.Causes.{HasExecuted, HasGenerated, HasMade, HasReplayed, HasRun, IsBadCode, IsBadJournal}
+use Rattle.superpascal.specs.Causes.{HasExecuted, HasGenerated, HasMadeOutput, HasReplayed, HasRun, IsBadCode}
+use Rattle.superpascal.specs.Causes.{IsBadJournal}
 use Rattle.superpascal.specs.Causes.{IsLongCode, IsLongFile, IsLongJournal, IsNotLoaded, IsNotRead, IsRefusedFor}
-use Rattle.superpascal.specs.Causes.{IsRejectedCode, IsTooMuch, IsUnfit, Stream, silent_answer}
+use Rattle.superpascal.specs.Causes.{IsRejectedCode, IsLongInput, IsUnfit, Stream, answer_without_output}
 use Rattle.superpascal.specs.Executions.{execution_answer}
 use Rattle.superpascal.specs.Replays.{ending_of_replay, replay_answer}
 use Rattle.superpascal.specs.Runs.{Reports, ending_of, generated_answer, run_answer}
@@ -52,12 +53,12 @@ module _ (f : Files) (s : Stream) (reports : Reports) (w : Option Command) (a : 
   why e.Deadlock = HasEnded
   why e.Fault = HasEnded
   why e.NoEnd = HasReplayedFor
-  why e.Accepted = (d : Command) × (w ≡ Some d) × HasMade f d a
+  why e.Accepted = (d : Command) × (w ≡ Some d) × HasMadeOutput f d a
   why (e.Refused r) = (d : Command) × (w ≡ Some d) × IsRefusedFor f d a
   why e.BadWords = w ≡ None
   why e.ReadFault = (d : Command) × (w ≡ Some d) × (IsNotLoaded f d a ⊎ IsNotRead f s d a)
-  why e.TooLong = (d : Command) × (w ≡ Some d) × IsTooMuch f s d a
-  why e.OutOfMemory = a ≡ silent_answer e.OutOfMemory
+  why e.TooLong = (d : Command) × (w ≡ Some d) × IsLongInput f s d a
+  why e.OutOfMemory = a ≡ answer_without_output e.OutOfMemory
   why e.LongJournal = (asked : Followed) × (w ≡ Some (command_of_replay asked)) × IsLongJournal f asked a
   why (e.BadJournal n) = (asked : Followed) × (w ≡ Some (command_of_replay asked)) × IsBadJournal f asked n a
   why (e.Unfit n) = (asked : Followed) × (w ≡ Some (command_of_replay asked)) × IsUnfit f s asked n a

@@ -17,7 +17,7 @@ use Rattle.superpascal.specs.declared.ending.Ending.{Ending}
 use Rattle.superpascal.specs.declared.ending.Ending.TheVariants as e
 use Rattle.superpascal.specs.declared.ending.Answer.{Answer}
 use Rattle.superpascal.specs.Answers.{line_of}
-use Rattle.superpascal.specs.Causes.{silent_answer}
+use Rattle.superpascal.specs.Causes.{answer_without_output}
 use Rattle.superpascal.specs.Runs.{HasTree}
 
 -- the line of an ending, where it is not the same for every text; else nothing
@@ -45,7 +45,7 @@ ending_of_error error.Memory = e.OutOfMemory
 
 -- this answer, or want of memory
 abbrev pub AnswersEnding : Ending → Answer → Type 0
-AnswersEnding x a = (a ≡ ending_answer x) ⊎ (a ≡ silent_answer e.OutOfMemory)
+AnswersEnding x a = (a ≡ ending_answer x) ⊎ (a ≡ answer_without_output e.OutOfMemory)
 
 -- the text has this tree, which breaks no rule, and this is its code
 pub record HasCode (text : List ℕ) (tree : c.Program) (parts : Parts) : Type 0 where

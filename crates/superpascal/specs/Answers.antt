@@ -6,7 +6,7 @@ use Rattle.sp_codefile.specs.Verifying.{rule_of}
 use Rattle.sp_execute.specs.declared.execution.Ran.{Ran}
 use Rattle.sp_kernel.specs.declared.closed.Closed.{Closed}
 use Rattle.sp_print.specs.OutcomeLines.{refusal_text}
-use Rattle.sp_rules.specs.Verdict.{number}
+use Rattle.sp_verify_rules.specs.Verdict.{number}
 use Rattle.superpascal.specs.declared.ending.Ending.{Ending}
 use Rattle.superpascal.specs.declared.ending.Ending.TheVariants as e
 use Rattle.superpascal.specs.declared.ending.Answer.{Answer}

@@ -17,7 +17,7 @@ use Rattle.sp_outside.specs.Counts.{Rose}
 use Rattle.sp_outside.specs.Visible.{IsAtEnd}
 use Rattle.sp_print.specs.OutcomeLines.{refusal_text}
 use Rattle.sp_replay.specs.declared.replayer.Replayed.{Replayed}
-use Rattle.sp_rules.specs.Verdict.{IsRejected}
+use Rattle.sp_verify_rules.specs.Verdict.{IsRejected}
 use Rattle.sp_words.specs.Ranges.{default_limits}
 use Rattle.sp_words.specs.declared.command.Command.{Command}
 use Rattle.sp_words.specs.declared.command.Command.TheVariants as command
@@ -63,8 +63,8 @@ abbrev pub IsUntouched : Stream → Type 0
 IsUntouched s = (s.left' ≡ s.left) × (s.after ≡ s.before)
 
 -- the text is what is told, where it is told
-abbrev pub IsTold : Option (List ℕ) → List ℕ → Type 0
-IsTold told text = IfSome told (λ all. text ≡ all)
+abbrev pub IsKnownAs : Option (List ℕ) → List ℕ → Type 0
+IsKnownAs told text = IfSome told (λ all. text ≡ all)
 
 -- more input than is read
 abbrev pub IsTooLong : List ℕ → Type 0
@@ -73,8 +73,8 @@ IsTooLong input = 16777216 < length input
 -- ---- answers
 
 -- an answer without an output
-abbrev pub silent_answer : Ending → Answer
-silent_answer ending = record { ending = ending; ran = None; executed = None; output = None; notes = [] }
+abbrev pub answer_without_output : Ending → Answer
+answer_without_output ending = record { ending = ending; ran = None; executed = None; output = None; notes = [] }
 
 -- the answer of a command that answers from the text alone
 abbrev pub accepted_answer : List ℕ → List ℕ → Answer
@@ -91,8 +91,8 @@ pub record HasRun (f : Files) (s : Stream) (reports : Reports) (asked : Asked) (
   pub text : List ℕ
   pub input : List ℕ
   pub ran : Ran
-  pub loaded : IsTold (f.held asked.file) text
-  pub read : IsTold s.left input
+  pub loaded : IsKnownAs (f.held asked.file) text
+  pub read : IsKnownAs s.left input
   pub fits : length input ≤ 16777216
   pub at_end : IsAtEnd s.left'
   pub is_run : IsRunOf text input asked.workers asked.limits ran
@@ -105,9 +105,9 @@ pub record HasGenerated (size workers : ℕ) (a : Answer) : Type 0 where
   pub answer : a ≡ generated_answer size ran
 
 -- the command makes this answer of its text
-pub record HasMade (f : Files) (c : Command) (a : Answer) : Type 0 where
+pub record HasMadeOutput (f : Files) (c : Command) (a : Answer) : Type 0 where
   pub text : List ℕ
-  pub loaded : IsTold (text_of f.held c) text
+  pub loaded : IsKnownAs (text_of f.held c) text
   pub output : List ℕ
   pub line : List ℕ
   pub makes : Makes c text output line
@@ -117,9 +117,9 @@ pub record HasMade (f : Files) (c : Command) (a : Answer) : Type 0 where
 pub record IsLongCode (f : Files) (c : Command) (a : Answer) : Type 0 where
   pub builds : asks_build c
   pub text : List ℕ
-  pub loaded : IsTold (text_of f.held c) text
+  pub loaded : IsKnownAs (text_of f.held c) text
   pub long : HasLongCode text
-  pub answer : a ≡ silent_answer e.LongCode
+  pub answer : a ≡ answer_without_output e.LongCode
 
 -- the text of the command breaks a rule first
 pub record IsRefusedFor (f : Files) (c : Command) (a : Answer) : Type 0 where
@@ -132,19 +132,19 @@ pub record IsNotLoaded (f : Files) (c : Command) (a : Answer) : Type 0 where
   pub name : List ℕ
   pub loads : LoadsText f.held c name
   pub rose : Rose (f.before name) (f.after name)
-  pub answer : a ≡ silent_answer e.ReadFault
+  pub answer : a ≡ answer_without_output e.ReadFault
 
 -- the source failed, where the command reads it
 pub record IsNotRead (f : Files) (s : Stream) (c : Command) (a : Answer) : Type 0 where
   pub reads : CanRead f.held c
   pub rose : Rose s.before s.after
-  pub answer : a ≡ silent_answer e.ReadFault
+  pub answer : a ≡ answer_without_output e.ReadFault
 
 -- the source gave too much, where the command reads it
-pub record IsTooMuch (f : Files) (s : Stream) (c : Command) (a : Answer) : Type 0 where
+pub record IsLongInput (f : Files) (s : Stream) (c : Command) (a : Answer) : Type 0 where
   pub reads : CanRead f.held c
   pub long : IfSome s.left IsTooLong
-  pub answer : a ≡ silent_answer e.TooLong
+  pub answer : a ≡ answer_without_output e.TooLong
 
 -- what a command that follows a journal reads: its text, its journal and the whole input, as far as they are told
 pub record HasRead (f : Files) (s : Stream) (asked : Followed) : Type 0 where
@@ -152,10 +152,10 @@ pub record HasRead (f : Files) (s : Stream) (asked : Followed) : Type 0 where
   pub bytes : List ℕ
   pub journal : Journal
   pub input : List ℕ
-  pub loaded : IsTold (f.held asked.file) text
-  pub told : IsTold (f.held asked.journal) bytes
+  pub loaded : IsKnownAs (f.held asked.file) text
+  pub told : IsKnownAs (f.held asked.journal) bytes
   pub is_journal : IsJournalOf bytes journal
-  pub read : IsTold s.left input
+  pub read : IsKnownAs s.left input
   pub fits : length input ≤ 16777216
   pub at_end : IsAtEnd s.left'
 
@@ -186,15 +186,15 @@ pub record IsBadJournal (f : Files) (asked : Followed) (n : ℕ) (a : Answer) : 
 pub record IsLongJournal (f : Files) (asked : Followed) (a : Answer) : Type 0 where
   pub kept : IfSome (f.held asked.file) IsAcceptedText
   pub long : IfSome (f.held asked.journal) (λ bytes. 67108864 < length bytes)
-  pub answer : a ≡ silent_answer e.LongJournal
+  pub answer : a ≡ answer_without_output e.LongJournal
 
 -- the code file has run on the whole input, and this is the answer
 pub record HasExecuted (f : Files) (s : Stream) (asked : Executed) (a : Answer) : Type 0 where
   pub bytes : List ℕ
   pub input : List ℕ
   pub run : Closed
-  pub loaded : IsTold (f.held asked.file) bytes
-  pub read : IsTold s.left input
+  pub loaded : IsKnownAs (f.held asked.file) bytes
+  pub read : IsKnownAs s.left input
   pub fits : length input ≤ 16777216
   pub at_end : IsAtEnd s.left'
   pub is_execution : IsExecutionOf bytes input asked.limits run
@@ -203,12 +203,12 @@ pub record HasExecuted (f : Files) (s : Stream) (asked : Executed) (a : Answer) 
 -- the code file is longer than the limit
 pub record IsLongFile (f : Files) (asked : Executed) (a : Answer) : Type 0 where
   pub long : IfSome (f.held asked.file) (λ bytes. 67108864 < length bytes)
-  pub answer : a ≡ silent_answer e.LongFile
+  pub answer : a ≡ answer_without_output e.LongFile
 
 -- line n of the code file is the first with which its lines begin no code's text
 pub record IsBadCode (f : Files) (asked : Executed) (n : ℕ) (a : Answer) : Type 0 where
   pub bytes : List ℕ
-  pub loaded : IsTold (f.held asked.file) bytes
+  pub loaded : IsKnownAs (f.held asked.file) bytes
   pub short : length bytes ≤ 67108864
   pub bad : IsFirstBadOfCode n bytes
   pub answer : a ≡ numbered_answer (e.BadCode n)
@@ -217,7 +217,7 @@ pub record IsBadCode (f : Files) (asked : Executed) (n : ℕ) (a : Answer) : Typ
 pub record IsRejectedCode (f : Files) (asked : Executed) (v : VRule) (i : ℕ) (a : Answer) : Type 0 where
   pub bytes : List ℕ
   pub code : Parts
-  pub loaded : IsTold (f.held asked.file) bytes
+  pub loaded : IsKnownAs (f.held asked.file) bytes
   pub short : length bytes ≤ 67108864
   pub text : IsTextOfCode code bytes
   pub rejected : IsRejected code (rule_of v) i
@@ -227,12 +227,12 @@ pub record IsRejectedCode (f : Files) (asked : Executed) (v : VRule) (i : ℕ) (
 pub data Due (f : Files) (s : Stream) (reports : Reports) (c : Command) (a : Answer) : Type 0 where
   by_run : (asked : Asked) → c ≡ command_of_run asked → HasRun f s reports asked a → Due f s reports c a
   by_generated : (size workers : ℕ) → c ≡ command.Gen size workers → HasGenerated size workers a → Due f s reports c a
-  by_text : HasMade f c a → Due f s reports c a
+  by_text : HasMadeOutput f c a → Due f s reports c a
   by_code : IsLongCode f c a → Due f s reports c a
   by_rule : IsRefusedFor f c a → Due f s reports c a
   by_library : IsNotLoaded f c a → Due f s reports c a
   by_source : IsNotRead f s c a → Due f s reports c a
-  by_length : IsTooMuch f s c a → Due f s reports c a
+  by_length : IsLongInput f s c a → Due f s reports c a
   by_replay : (asked : Followed) → c ≡ command_of_replay asked → HasReplayed f s asked a → Due f s reports c a
   by_entry : (asked : Followed) (n : ℕ) → c ≡ command_of_replay asked → IsUnfit f s asked n a → Due f s reports c a
   by_line : (asked : Followed) (n : ℕ) → c ≡ command_of_replay asked → IsBadJournal f asked n a → Due f s reports c a
@@ -243,7 +243,7 @@ pub data Due (f : Files) (s : Stream) (reports : Reports) (c : Command) (a : Ans
       → Due f s reports c a
   by_rejection : (asked : Executed) (v : VRule) (i : ℕ) → c ≡ command_of_execution asked → IsRejectedCode f asked v i a
       → Due f s reports c a
-  by_memory : a ≡ silent_answer e.OutOfMemory → Due f s reports c a
+  by_memory : a ≡ answer_without_output e.OutOfMemory → Due f s reports c a
 
 -- the source is touched only where the command reads it, and what it loads before is right
 abbrev pub ReadsAfterRules : Files → Stream → Command → Type 0
@@ -251,6 +251,6 @@ ReadsAfterRules f s c = IsUntouched s ⊎ CanRead f.held c
 
 -- Why an answer to words is due: they are refused, or memory was wanting for them, or they ask for a command.
 pub data Cause (f : Files) (s : Stream) (reports : Reports) (words : Option Command) (a : Answer) : Type 0 where
-  by_words : words ≡ None → a ≡ silent_answer e.BadWords → IsUntouched s → Cause f s reports words a
-  before_words : a ≡ silent_answer e.OutOfMemory → IsUntouched s → Cause f s reports words a
+  by_words : words ≡ None → a ≡ answer_without_output e.BadWords → IsUntouched s → Cause f s reports words a
+  before_words : a ≡ answer_without_output e.OutOfMemory → IsUntouched s → Cause f s reports words a
   by_command : (c : Command) → words ≡ Some c → Due f s reports c a → ReadsAfterRules f s c → Cause f s reports words a

@@ -13,14 +13,14 @@ use Rattle.sp_front.specs.Checks.{IsProgramOf}
 use Rattle.sp_kernel.specs.declared.closed.Closed.{Closed}
 use Rattle.sp_outside.specs.Visible.{IsAtEnd}
 use Rattle.sp_print.specs.OutcomeLines.{end_text}
-use Rattle.sp_rules.specs.Verdict.{IsRejected}
+use Rattle.sp_verify_rules.specs.Verdict.{IsRejected}
 use Rattle.sp_tree.specs.Plain.{Program}
 use Rattle.sp_words.specs.Words.{command_of}
 use Rattle.superpascal.specs.declared.asked.Executed.{Executed}
 use Rattle.superpascal.specs.declared.ending.Ending.TheVariants as e
 use Rattle.superpascal.specs.Answers.{status_of}
 use Rattle.superpascal.specs.Calls.{Call, IsAnswered, IsFinal, IsOutside, OfExecution, OfExecutionInput, SaysEnding}
-use Rattle.superpascal.specs.Causes.{IsTold, IsTooLong}
+use Rattle.superpascal.specs.Causes.{IsKnownAs, IsTooLong}
 use Rattle.superpascal.specs.Executions.{IsExecutionOf}
 use Rattle.superpascal.specs.Runs.{ending_of}
 use Rattle.superpascal.specs.Texts.{IsCodeFile, IsSoundFile, command_of_execution}
@@ -37,7 +37,7 @@ IsFaultyFile bytes =
 abbrev pub IsExecutionOfWords : Call → Closed → Type 0
 IsExecutionOfWords c r =
     (b : Executed) × (command_of c.words ≡ Some (command_of_execution b)) × IsAtEnd c.source.left'
-    × (bytes input : List ℕ) × IsTold (c.files.held b.file) bytes × IsTold c.source.left input
+    × (bytes input : List ℕ) × IsKnownAs (c.files.held b.file) bytes × IsKnownAs c.source.left input
     × IsExecutionOf bytes input b.limits r
 
 -- the text has this program, which means that end and that output along the journal

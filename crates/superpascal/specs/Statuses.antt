@@ -16,7 +16,7 @@ use Rattle.superpascal.specs.declared.ending.Ending.TheVariants as e
 use Rattle.superpascal.specs.Answers.{status_of}
 use Rattle.superpascal.specs.Calls.{Call, Exactly, Failed, IsFinal, IsOutside, IsUnwritten, OfReplay, OfRun, OfText}
 use Rattle.superpascal.specs.Calls.{SaysEnding}
-use Rattle.superpascal.specs.Causes.{IsTold, IsTooLong, IsUntouched}
+use Rattle.superpascal.specs.Causes.{IsKnownAs, IsTooLong, IsUntouched}
 use Rattle.superpascal.specs.Runs.{IsRunOf, ending_of}
 use Rattle.superpascal.specs.Texts.{FirstBrokenFor, CanRead, HasLongCode, IsDisjointText, IsJournalText, AcceptedFor}
 use Rattle.superpascal.specs.Texts.{IsAcceptedText}
@@ -40,7 +40,7 @@ InputIsTooLong c = (d : Command) × (command_of c.words ≡ Some d) × CanRead c
 abbrev pub IsRunOfWords : Call → Ran → Type 0
 IsRunOfWords c r =
     ((a : Asked) × (command_of c.words ≡ Some (command_of_run a)) × IsAtEnd c.source.left'
-    × (text input : List ℕ) × IsTold (c.files.held a.file) text × IsTold c.source.left input
+    × (text input : List ℕ) × IsKnownAs (c.files.held a.file) text × IsKnownAs c.source.left input
     × IsRunOf text input a.workers a.limits r)
     ⊎ ((size workers : ℕ) × (command_of c.words ≡ Some (command.Gen size workers))
     × IsRunOf (generated_text size) [] workers default_limits r)
@@ -54,8 +54,9 @@ pub record OutsideWorks (c : Call) (d : Command) : Type 0 where
   pub notes : Failed c.notes → ⊥
 
 -- the status is a final one, or memory was wanting, or the journal or the code of the text is at fault
-abbrev pub IsWell : Command → ℕ → Type 0
-IsWell d status = IsFinal status ⊎ ((status ≡ 8) ⊎ ((asks_replay d × (status ≡ 9)) ⊎ (asks_build d × (status ≡ 10))))
+abbrev pub IsRegularStatus : Command → ℕ → Type 0
+IsRegularStatus d status = IsFinal status
+    ⊎ ((status ≡ 8) ⊎ ((asks_replay d × (status ≡ 9)) ⊎ (asks_build d × (status ≡ 10))))
 
 pub record Statuses (c : Call) : Type 0 where
   -- 2: the words are refused
@@ -89,7 +90,7 @@ pub record Statuses (c : Call) : Type 0 where
       × ((asks_build d × IfSome (text_of c.files.held d) HasLongCode) ⊎ asks_execution d)
   -- nothing else: where the words ask for a command that refuses the text, or the code file, for no rule, and nothing
   -- outside fails
-  pub complete : OfText c (λ d text. AcceptedFor d text → OutsideWorks c d → IsWell d c.outcome.status)
+  pub complete : OfText c (λ d text. AcceptedFor d text → OutsideWorks c d → IsRegularStatus d c.outcome.status)
   -- the source is read by `run`, `witness`, `replay`, `trace`, `where` and `exec` alone, and only where what they load
   -- before is right
   pub source : IsUntouched c.source ⊎ ((d : Command) × (command_of c.words ≡ Some d) × CanRead c.files.held d)

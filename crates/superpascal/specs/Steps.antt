@@ -30,7 +30,7 @@ use Rattle.sp_lines.specs.Marks.{marks}
 use Rattle.sp_replay.specs.declared.replayer.Replayed.{Replayed}
 use Rattle.sp_replay.specs.Tracing.{TracedTo}
 use Rattle.sp_replay.specs.declared.tracing.Traced.{Traced}
-use Rattle.sp_rules.specs.Verdict.{IsRejected, IsVerified}
+use Rattle.sp_verify_rules.specs.Verdict.{IsRejected, IsVerified}
 use Rattle.sp_shown.specs.Constants.{by_kind, constants_of}
 use Rattle.sp_tree.specs.Breaches.{IsTree}
 use Rattle.sp_tree.specs.CheckedOf.{program_of}
@@ -50,8 +50,8 @@ use Rattle.superpascal.specs.declared.teller.Teller.{Teller}
 use Rattle.superpascal.specs.declared.teller.Teller.TheVariants as teller
 use Rattle.superpascal.specs.declared.telling.Telling.{Telling}
 use Rattle.superpascal.specs.Answering.{HasCode, ending_answer}
-use Rattle.superpascal.specs.Causes.{Cause, Due, Files, HasMade, IsLongCode, IsNotLoaded, IsRefusedFor, IsTold}
-use Rattle.superpascal.specs.Causes.{IsTooLong, ReadsAfterRules, Stream, silent_answer}
+use Rattle.superpascal.specs.Causes.{Cause, Due, Files, HasMadeOutput, IsLongCode, IsNotLoaded, IsRefusedFor, IsKnownAs}
+use Rattle.superpascal.specs.Causes.{IsTooLong, ReadsAfterRules, Stream, answer_without_output}
 use Rattle.superpascal.specs.Executions.{execution_answer}
 use Rattle.superpascal.specs.Replays.{IsJournalOf, IsReplayOf, IsUnfitFor, IsWritten, replay_answer}
 use Rattle.superpascal.specs.Runs.{Reports, generated_answer, run_answer}
@@ -65,15 +65,15 @@ length_refusal = record { rule = rule.L1; at = start }
 
 -- why nothing is loaded: more is held than the limit, and `long` is the ending for that; the library failed; or memory
 -- was wanting
-abbrev pub IsKeptBack : Files → List ℕ → ℕ → Ending → Ending → Type 0
-IsKeptBack f name limit long x =
+abbrev pub LoadFails : Files → List ℕ → ℕ → Ending → Ending → Type 0
+LoadFails f name limit long x =
     ((x ≡ long) × IfSome (f.held name) (λ all. limit < length all))
     ⊎ (((x ≡ e.ReadFault) × Rose (f.before name) (f.after name)) ⊎ (x ≡ e.OutOfMemory))
 
 -- the bytes under a name
 abbrev pub GivesBytes : Files → List ℕ → ℕ → Ending → Result (Vec ℕ Global) Ending → Type 0
-GivesBytes f name limit long (Ok bytes) = IsTold (f.held name) bytes.items × (vec_len bytes ≤ limit)
-GivesBytes f name limit long (Err x) = IsKeptBack f name limit long x
+GivesBytes f name limit long (Ok bytes) = IsKnownAs (f.held name) bytes.items × (vec_len bytes ≤ limit)
+GivesBytes f name limit long (Err x) = LoadFails f name limit long x
 
 -- the text under a name
 abbrev pub GivesText : Files → List ℕ → Result (Vec ℕ Global) Ending → Type 0
@@ -94,7 +94,8 @@ IsUnready f name x =
 
 -- the code of the text under a name
 abbrev pub GivesCode : Files → List ℕ → Result Parts Ending → Type 0
-GivesCode f name (Ok code) = (text : List ℕ) × IsTold (f.held name) text × (tree : c.Program) × HasCode text tree code
+GivesCode f name (Ok code) = (text : List ℕ) × IsKnownAs (f.held name) text × (tree : c.Program)
+    × HasCode text tree code
 GivesCode f name (Err x) = IsUnready f name x
 
 -- what is known of a text, for commands that tell its places and names, or the first rule that it breaks
@@ -104,7 +105,7 @@ MarksTo text (Err x) = ((r : Refusal) × (x ≡ e.Refused r) × FirstBroken text
 
 -- the same of the text under a name
 abbrev pub GivesMarked : Files → List ℕ → Result MarkedText Ending → Type 0
-GivesMarked f name (Ok m) = (text : List ℕ) × IsTold (f.held name) text × IsMarked text m
+GivesMarked f name (Ok m) = (text : List ℕ) × IsKnownAs (f.held name) text × IsMarked text m
 GivesMarked f name (Err x) = IsUnready f name x
 
 -- these are the tree, the marks and the names of the text
@@ -117,7 +118,7 @@ pub record HasSymbols (text : List ℕ) (tree : c.Program) (y : Symbols) : Type 
 
 -- the code, the tree, the marks and the names of the text under a name
 abbrev pub GivesSymbols : Files → List ℕ → Result (Parts × Symbols) Ending → Type 0
-GivesSymbols f name (Ok r) = (text : List ℕ) × IsTold (f.held name) text × (tree : c.Program)
+GivesSymbols f name (Ok r) = (text : List ℕ) × IsKnownAs (f.held name) text × (tree : c.Program)
     × HasCode text tree r.0 × HasSymbols text tree r.1
 GivesSymbols f name (Err x) = IsUnready f name x
 
@@ -135,7 +136,7 @@ HasTeller text tree view.State (teller.State y) = HasSymbols text tree y
 
 -- the code of the text under a name, and by what its journals are told
 abbrev pub GivesReady : Files → List ℕ → View → Result Ready Ending → Type 0
-GivesReady f name v (Ok r) = (text : List ℕ) × IsTold (f.held name) text × (tree : c.Program)
+GivesReady f name v (Ok r) = (text : List ℕ) × IsKnownAs (f.held name) text × (tree : c.Program)
     × HasCode text tree r.code × HasTeller text tree v r.teller
 GivesReady f name v (Err x) = IsUnready f name x
 
@@ -158,10 +159,10 @@ ReadsJournal bytes (Err x) = ((n : ℕ) × (x ≡ e.BadJournal n) × IsNoJournal
 
 -- the journal under a name
 abbrev pub GivesJournal : Files → List ℕ → Result Journal Ending → Type 0
-GivesJournal f name (Ok j) = (bytes : List ℕ) × IsTold (f.held name) bytes × IsJournalOf bytes j
+GivesJournal f name (Ok j) = (bytes : List ℕ) × IsKnownAs (f.held name) bytes × IsJournalOf bytes j
 GivesJournal f name (Err x) =
-    IsKeptBack f name 67108864 e.LongJournal x
-    ⊎ ((bytes : List ℕ) × (n : ℕ) × IsTold (f.held name) bytes × (length bytes ≤ 67108864) × (x ≡ e.BadJournal n)
+    LoadFails f name 67108864 e.LongJournal x
+    ⊎ ((bytes : List ℕ) × (n : ℕ) × IsKnownAs (f.held name) bytes × (length bytes ≤ 67108864) × (x ≡ e.BadJournal n)
     × IsNoJournalAt bytes n)
 
 -- ---- a code file
@@ -186,16 +187,16 @@ IsFaulty bytes x =
 
 -- the code of the code file under a name
 abbrev pub GivesFile : Files → List ℕ → Result Parts Ending → Type 0
-GivesFile f name (Ok code) = (bytes : List ℕ) × IsTold (f.held name) bytes × IsFileOf code bytes
+GivesFile f name (Ok code) = (bytes : List ℕ) × IsKnownAs (f.held name) bytes × IsFileOf code bytes
 GivesFile f name (Err x) =
-    IsKeptBack f name 67108864 e.LongFile x
-    ⊎ ((bytes : List ℕ) × IsTold (f.held name) bytes × (length bytes ≤ 67108864) × IsFaulty bytes x)
+    LoadFails f name 67108864 e.LongFile x
+    ⊎ ((bytes : List ℕ) × IsKnownAs (f.held name) bytes × (length bytes ≤ 67108864) × IsFaulty bytes x)
 
 -- ---- the input
 
 -- the input that the source gives was read whole
 pub record HasInput (s : Stream) (input : List ℕ) : Type 0 where
-  pub read : IsTold s.left input
+  pub read : IsKnownAs s.left input
   pub fits : length input ≤ 16777216
   pub at_end : IsAtEnd s.left'
 
@@ -209,14 +210,14 @@ GivesInput s (Err x) =
 -- ---- what is told
 
 -- how a run is told, or want of memory
-abbrev pub TellsRun : Reports → Telling → Ran → Result Answer Ending → Type 0
-TellsRun reports telling r (Ok a) = a ≡ run_answer reports telling r
-TellsRun reports telling r (Err x) = x ≡ e.OutOfMemory
+abbrev pub ReportsRun : Reports → Telling → Ran → Result Answer Ending → Type 0
+ReportsRun reports telling r (Ok a) = a ≡ run_answer reports telling r
+ReportsRun reports telling r (Err x) = x ≡ e.OutOfMemory
 
 -- how a run is told by `gen`, or want of memory
-abbrev pub TellsGenerated : ℕ → Ran → Result Answer Ending → Type 0
-TellsGenerated size r (Ok a) = a ≡ generated_answer size r
-TellsGenerated size r (Err x) = x ≡ e.OutOfMemory
+abbrev pub ReportsGenerated : ℕ → Ran → Result Answer Ending → Type 0
+ReportsGenerated size r (Ok a) = a ≡ generated_answer size r
+ReportsGenerated size r (Err x) = x ≡ e.OutOfMemory
 
 -- how a journal that was followed is told, or want of memory
 abbrev pub TellsReplay : Account → Result Answer Ending → Type 0
@@ -256,8 +257,8 @@ IsSaidOf P (Err x) = P (ending_answer x)
 
 -- the answer of a command that answers from the text alone
 abbrev pub TextCause : Files → Command → Answer → Type 0
-TextCause f c a = HasMade f c a
-    ⊎ (IsLongCode f c a ⊎ (IsRefusedFor f c a ⊎ (IsNotLoaded f c a ⊎ (a ≡ silent_answer e.OutOfMemory))))
+TextCause f c a = HasMadeOutput f c a
+    ⊎ (IsLongCode f c a ⊎ (IsRefusedFor f c a ⊎ (IsNotLoaded f c a ⊎ (a ≡ answer_without_output e.OutOfMemory))))
 
 abbrev pub AnswersText : Files → Command → Result Answer Ending → Type 0
 AnswersText f c r = IsSaidOf (TextCause f c) r

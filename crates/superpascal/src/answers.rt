@@ -2,10 +2,10 @@
 
 ghost use Rattle.std.specs.Prelude.{◌≡◌, ◌++◌, IfOk, codes, decimal};
 ghost use Rattle.sp_codefile.specs.Verifying.{rule_of};
-ghost use Rattle.sp_rules.specs.Verdict.{number};
+ghost use Rattle.sp_verify_rules.specs.Verdict.{number};
 ghost use Rattle.superpascal.specs.Answering.{AnswersEnding, own_line};
 ghost use Rattle.superpascal.specs.Answers.{line_of};
-ghost use Rattle.superpascal.specs.Causes.{accepted_answer, silent_answer};
+ghost use Rattle.superpascal.specs.Causes.{accepted_answer, answer_without_output};
 ghost use Rattle.superpascal.specs.declared.ending.Ending.TheVariants as variants;
 
 use crate::ending::{Answer, Ending};
@@ -17,7 +17,7 @@ use std::alloc::Global;
 
 // An answer without an output.
 fn silent(alloc: Global, ending: Ending) -> Answer
-    ensures { result ≡ silent_answer ending }
+    ensures { result ≡ answer_without_output ending }
 {
     Answer {
         ending,

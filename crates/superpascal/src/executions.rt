@@ -21,7 +21,7 @@ use sp_execute::{accepted_programs_are_ready, run_code};
 use sp_kernel::Closed;
 use sp_outside::{Gate, Library, Source};
 use sp_print::end_lines;
-use sp_rules::laws::verified_code_is_sound;
+use sp_verify_rules::laws::verified_code_is_sound;
 use std::alloc::Global;
 use std::sync::{Arc, Wait};
 use std::thread::Threads;

@@ -9,7 +9,7 @@ ghost use Rattle.sp_words.specs.declared.command.Command.TheVariants.{Gen};
 ghost use Rattle.superpascal.specs.Answering.{HasCode};
 ghost use Rattle.superpascal.specs.Causes.{Files, IsUntouched, Stream};
 ghost use Rattle.superpascal.specs.Runs.{IsRunOf, Reports as AReports};
-ghost use Rattle.superpascal.specs.Steps.{AnswersCommand, TellsGenerated, TellsRun};
+ghost use Rattle.superpascal.specs.Steps.{AnswersCommand, ReportsGenerated, ReportsRun};
 ghost use Rattle.superpascal.specs.declared.telling.Telling.TheVariants.{Reports, Witness};
 
 use crate::ending::{Answer, Ending};
@@ -58,7 +58,7 @@ fn reported(
 ) -> Result<Answer, Ending>
     requires fresh { AreFresh told watchers.items }
     requires run { IsReadyRun ran }
-    ensures { TellsRun (reports text title watchers.items) (Reports show) ran result }
+    ensures { ReportsRun (reports text title watchers.items) (Reports show) ran result }
 {
     match run_notes(alloc, watchers, show, &ran) {
         Ok(notes) => Ok(Answer {
@@ -75,7 +75,7 @@ fn reported(
 // Tells of a run by the witness of its race, its end and its verdict.
 fn witnessed(alloc: Global, ran: Ran) -> Result<Answer, Ending>
     requires run { IsReadyRun ran }
-    ensures { (made : AReports) → TellsRun made Witness ran result }
+    ensures { (made : AReports) → ReportsRun made Witness ran result }
 {
     let Ok(output) = witness_text(alloc, &ran) else {
         return Err(Ending::OutOfMemory);
@@ -101,7 +101,7 @@ pub(crate) fn tell_run(
 ) -> Result<Answer, Ending>
     requires fresh { AreFresh told watchers.items }
     requires run { IsReadyRun ran }
-    ensures { TellsRun (reports text title watchers.items) telling ran result }
+    ensures { ReportsRun (reports text title watchers.items) telling ran result }
 {
     match telling {
         Telling::Reports(show) => reported(alloc, watchers, show, ran),
@@ -112,7 +112,7 @@ pub(crate) fn tell_run(
 // Tells of a run of the generated program of this size.
 fn tell_generated(alloc: Global, size: u32, ran: Ran) -> Result<Answer, Ending>
     requires run { IsReadyRun ran }
-    ensures { TellsGenerated size ran result }
+    ensures { ReportsGenerated size ran result }
 {
     match generated_output(alloc, size, &ran) {
         Ok(output) => Ok(Answer {

@@ -68,7 +68,7 @@ fn run<R: Threads + Wait + Sync, L: Library, I: Source, G: Gate>(
 }
 
 // Does what the command asks.
-fn obey<R: Threads + Wait + Sync, L: Library, I: Source, G: Gate>(
+fn dispatch<R: Threads + Wait + Sync, L: Library, I: Source, G: Gate>(
     host: &Host<R, G>,
     command: Command,
     library: &mut L,
@@ -162,7 +162,7 @@ fn answer_words<R: Threads + Wait + Sync, L: Library, I: Source, G: Gate>(
         (command_of (map string_bytes words.now)) result }
 {
     let command = read_command(host.alloc, words)?;
-    obey(host, command, library, input, watchers)
+    dispatch(host, command, library, input, watchers)
 }
 
 // The answer to the words, whatever ended what they ask.

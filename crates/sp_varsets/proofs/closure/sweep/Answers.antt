@@ -1,6 +1,6 @@
 use Rattle.std.proofs.Common.{length, arith, refl, []}
 use Rattle.std.proofs.lemmas.Option.{slice_get_read}
-use Rattle.sp_varsets.proofs.Paths.{swept_more}
+use Rattle.sp_varsets.proofs.Paths.{pass_up_to_more}
 use Rattle.sp_varsets.proofs.closure.sweep.Goals as goal
 
 pub rows-preserved : goal.rows-preserved
@@ -13,7 +13,7 @@ rows-preserved c =
     c.index-calls-b.is in
     let eh = slice_get_read c.args.hidden.now (length c.args.hidden.now) c.rows.b c.index-hidden-b.result refl
     (omega arith) c.index-hidden-b.is in
-    swept_more c.args.calls.now c.args.hidden.now c.args.rows.now c.rows.rows c.visit.new.rows c.rows.b
+    pass_up_to_more c.args.calls.now c.args.hidden.now c.args.rows.now c.rows.rows c.visit.new.rows c.rows.b
     c.index-calls-b.result c.index-hidden-b.result c.rows.changed c.in_ok-changed.field-0 er eh c.requires.small
     c.rows.invariant c.in_ok-changed.ensures
 

@@ -11,4 +11,5 @@ returns-in_err-command g c =
     (no_command_read _ _ _ _ (refl, refl) _ c.in_err-command.ensures)
 
 pub returns : goal.returns
-returns g c = words_answered _ _ _ _ c.in_ok-command.command c.in_ok-command.ensures c.obey.result c.obey.ensures
+returns g c = words_answered _ _ _ _ c.in_ok-command.command c.in_ok-command.ensures c.dispatch.result
+    c.dispatch.ensures

@@ -1,6 +1,0 @@
-use Rattle.sp_areas.specs.Around.{AreNodes}
-use Rattle.sp_areas.proofs.hung.nodes_of.Given as goal
-
--- the owners so far have theirs
-abbrev pub invariant-loop-p : goal.invariant-loop-p
-invariant-loop-p l = AreNodes l.code l.owners l.of_blocks l.grown l.at l.p

@@ -1,6 +1,0 @@
-use Rattle.sp_areas.specs.Around.{PutsChildren}
-use Rattle.sp_areas.proofs.hung.put_children.Given as goal
-
--- the children so far have their nodes
-abbrev pub invariant-loop-child : goal.invariant-loop-child
-invariant-loop-child l = PutsChildren l.fn.nodes l.nodes l.around l.children l.child-index

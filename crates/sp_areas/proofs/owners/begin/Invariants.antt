@@ -1,6 +1,0 @@
-use Rattle.sp_areas.specs.Owners.{AreBegun, Spreads}
-use Rattle.sp_areas.proofs.owners.begin.Given as goal
-
--- the blocks so far are known at their entries
-abbrev pub invariant-loop-l : goal.invariant-loop-l
-invariant-loop-l l = Spreads l.code l.fn.owners l.owners (AreBegun l.code l.l-index) l.changed

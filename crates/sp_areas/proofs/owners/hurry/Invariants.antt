@@ -1,6 +1,0 @@
-use Rattle.sp_areas.specs.Owners.{Spreads}
-use Rattle.sp_areas.proofs.owners.hurry.Given as goal
-
--- what was handed on is true
-abbrev pub invariant-loop-step : goal.invariant-loop-step
-invariant-loop-step l = Spreads l.code l.fn.owners l.owners (λ os. Unit {0}) l.changed

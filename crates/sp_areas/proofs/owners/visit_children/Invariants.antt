@@ -1,6 +1,0 @@
-use Rattle.sp_areas.specs.Owners.{IsHanded, Spreads}
-use Rattle.sp_areas.proofs.owners.visit_children.Given as goal
-
--- the children so far have been handed it
-abbrev pub invariant-loop-k : goal.invariant-loop-k
-invariant-loop-k l = Spreads l.code l.fn.owners l.owners (IsHanded l.code l.o l.children l.k) l.changed

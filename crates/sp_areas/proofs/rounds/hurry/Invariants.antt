@@ -1,7 +1,0 @@
-use Rattle.std.proofs.Common.{ℕ}
-use Rattle.sp_areas.specs.Rounds.{AreLed, Widens}
-use Rattle.sp_areas.proofs.rounds.hurry.Given as goal
-
--- no flag was taken away
-abbrev pub invariant-loop-step : goal.invariant-loop-step
-invariant-loop-step l = (s : ℕ) → AreLed l.code s l.fn.flags → Widens l.code s l.fn.flags l.flags

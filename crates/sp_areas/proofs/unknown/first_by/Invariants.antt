@@ -1,7 +1,0 @@
-use Rattle.sp_areas.specs.LeastPlaces.{IsLeast, Upto}
-use Rattle.sp_areas.specs.Unknown.{UnknownBy}
-use Rattle.sp_areas.proofs.unknown.first_by.Given as goal
-
--- of the instructions so far
-abbrev pub invariant-loop-q : goal.invariant-loop-q
-invariant-loop-q l = IsLeast (Upto (UnknownBy l.code) l.q) l.first

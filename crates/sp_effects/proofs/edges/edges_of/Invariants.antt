@@ -1,6 +1,0 @@
-use Rattle.sp_effects.specs.Edges.{HasEdges}
-use Rattle.sp_effects.proofs.edges.edges_of.Given as goal
-
--- the edges of the instructions so far are put
-abbrev pub invariant-loop-p : goal.invariant-loop-p
-invariant-loop-p l = HasEdges l.g.code.now l.p l.rows

@@ -1,5 +1,0 @@
-use Rattle.sp_held.proofs.Held.{verified_held}
-use Rattle.sp_held.proofs.laws.verified_code_is_held.Goals as goal
-
-pub returns : goal.returns
-returns k = λ c small verified. verified_held c small verified

@@ -1,0 +1,17 @@
+pub mod LeastPlaces
+pub mod Blocks
+pub mod Alone
+pub mod Owners
+pub mod Placed
+pub mod Rounds
+pub mod Only
+pub mod Twice
+pub mod Namers
+pub mod Sums
+pub mod Tree
+pub mod Homes
+pub mod Grown
+pub mod Around
+pub mod Misnamed
+pub mod OrphanBlock
+pub mod Unknown

@@ -1,0 +1,18 @@
+use Rattle.std.proofs.Common.{length}
+use Rattle.sp_base.proofs.Facts.{on_map as ok_on}
+use Rattle.sp_verify_shapes.specs.Stacks.{list_of}
+use Rattle.sp_verify_effects.specs.Edges.{Links, IsCall, IsDeeper}
+use Rattle.sp_verify_effects.proofs.Linking.{call_linked}
+use Rattle.sp_verify_effects.proofs.edges.link_call.Goals as goal
+
+pub returns : goal.returns
+returns c =
+    let ss = list_of c.args.stacks.now c.args.stack in
+    let l = c.args.layout.now in
+    let n = c.args.to in
+    let a = c.args.rows.now in
+    let b = c.link.new.rows in
+    let d = c.link_operands.new.rows in
+    ok_on c.link_operands.result (Links b d (IsDeeper l n ss (length l.formals))) (Links a d (IsCall l n ss))
+    (λ v. call_linked l n ss a b d c.in-Ok.ensures v)
+    c.link_operands.ensures

@@ -1,0 +1,33 @@
+use Rattle.std.proofs.Common.{sym, ◌∙◌, subst}
+use Rattle.std.specs.Prelude.{◌≡◌, Some}
+use Rattle.sp_base.proofs.Facts.{on_map as ok_on}
+use Rattle.sp_code.specs.declared.code.Parts.{Parts}
+use Rattle.sp_code.specs.Machine.{layout_of}
+use Rattle.sp_verify_shapes.specs.Stacks.{list_of}
+use Rattle.sp_verify_effects.specs.Edges.{Links, IsCall, CalledAt}
+use Rattle.sp_verify_effects.proofs.Linking.{no_stack, call_at}
+use Rattle.sp_verify_effects.proofs.edges.link_called.Goals as goal
+
+pub returns-in-None : goal.returns-in-None
+returns-in-None c = no_stack c.args.g.now.code.now c.args.p c.args.g.now.shapes.now c.requires.known.shapes
+    c.args.rows.now
+    (sym c.reached.ensures ∙ c.in-None.is)
+
+pub returns-in-Some-find : goal.returns-in-Some-find
+returns-in-Some-find c =
+    let code = c.args.g.now.code.now in
+    let p = c.args.p in
+    let n = c.args.to in
+    let x = c.args.rows.now in
+    let y = c.link_call.new.rows in
+    let s = c.in-Some.stack in
+    let f = c.in-Some-called_block.block in
+    let l = c.in-Some-find.layout.now in
+    let lies = c.requires.lies in
+    let e : layout_of code.layouts f ≡ Some l = subst
+    (λ (z : Parts). layout_of z.layouts f ≡ Some l) c.parts.ensures.same (sym c.in-Some-find.ensures) in
+    let shapes = c.args.g.now.shapes.now in
+    ok_on c.link_call.result (Links x y (IsCall l n (list_of shapes.stacks s))) (Links x y (CalledAt code p))
+    (λ v. call_at code p lies.0 n lies.1 lies.2 x y shapes s f l c.requires.known.shapes (sym c.reached.ensures
+    ∙ c.in-Some.is) (sym c.called_block.ensures ∙ c.in-Some-called_block.is) e v)
+    c.link_call.ensures

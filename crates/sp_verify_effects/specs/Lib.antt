@@ -1,0 +1,14 @@
+pub mod Facts
+pub mod Effects
+pub mod Own
+pub mod Edges
+pub mod Closing
+pub mod Sets
+pub mod Handed
+pub mod Befores
+pub mod Variables
+pub mod SideEffects
+pub mod Calls
+pub mod Turns
+pub mod PassContexts
+pub mod Asked

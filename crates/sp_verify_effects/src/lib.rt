@@ -1,0 +1,44 @@
+//! What the code of blocks and children does to variables, for rules V6 to V8 of code files.
+//!
+//! Calls:
+//! - `PassContext` (`pass_context`): code that keeps V1, with what is known of it. All passes go by it.
+//! - `find_effects` (`effects`): exactly the variables that each area stores and loads which a rule asks about, with
+//!   what it starts and calls, and whether it comes to a stop other than a fault (`AreEffects`).
+//! - `Effects::of`, `touches`: what the area with this first instruction does; whether it stores or loads a variable.
+//! - `first_ill_handed` (`handed`): the least instruction at which V6 is broken; none where it is broken nowhere.
+//! - `first_clash` (`clash`): the same for V7, of code that keeps V2 to V5 too. `first_side_effect` (`side_effects`):
+//!   the same for V8.
+//! - `tell_own` (`own`), `edges_of` (`edges`): what areas do themselves, the ways on which this goes from area to area.
+//!   `Asked::has` (`asked`): whether a rule asks about an area, or it is started or called by one of these.
+//! - `Facts::new`, `len`, `at`, `has`, `add` (`facts`): a list of facts, each once. `table_of`, `area_at` (`areas`),
+//!   `stored_place`, `loaded_place`, `is_stop` (`places`): what is looked up of an instruction.
+//!
+//! To know:
+//! - Each answer is exact. The only other one is want of memory.
+//! - An area is known by its first instruction: that of no other area, where V1 is kept.
+//! - The rules ask about children, about blocks that answer or take a variable by reference, and about blocks that are
+//!   called inside themselves (`specs/Asked.antt`). What no such area comes to is not followed. `asked.rt` marks them
+//!   with no contract, and looks whether the marks are right; else all areas are followed.
+//! - `facts.rt` is a set of facts about areas (`specs/Facts.antt`), `places.rt` and `own.rt` are what instructions do
+//!   themselves, `edges.rt` and `closing.rt` how facts go from area to area until nothing is new, `effects.rt` makes a
+//!   table of them, with the variables of blocks (`variables.rt`).
+//! - `handed.rt` is V6; `clash.rt` is V7, with `calls.rt` (a call) and `inside.rt` (a block that is called inside
+//!   itself); `side_effects.rt` is V8. `sets.rt` serves them.
+#![tactic(auto)]
+
+pub mod areas;
+pub mod asked;
+pub mod calls;
+pub mod clash;
+pub mod closing;
+pub mod edges;
+pub mod effects;
+pub mod facts;
+pub mod handed;
+pub mod inside;
+pub mod own;
+pub mod pass_context;
+pub mod places;
+pub mod sets;
+pub mod side_effects;
+pub mod variables;

@@ -1,0 +1,328 @@
+-- The effects of an area are variables around it, and an activation of the area may touch them.
+use Rattle.std.proofs.Common.{◌≡◌, ◌⊎◌, inl, inr, ⊎_elim, ℕ, zero, suc, ◌-◌, ◌<◌, ◌≤◌, ◌==◌, ◌||◌, List, [], ◌∷◌}
+use Rattle.std.proofs.Common.{length, drop, Option, Some, None, Bool, true, false, refl, sym, ap, ◌∙◌, subst}
+use Rattle.std.proofs.Common.{arith}
+use Rattle.std.specs.Prelude.{slice_get, IsSome}
+use Rattle.std.proofs.lemmas.Bool.{eqb-true, true_from_ne_false}
+use Rattle.sp_base.proofs.Facts.{below_two_or_not, first_true}
+use Rattle.sp_tree.specs.Interference.{IsMember}
+use Rattle.sp_tree.proofs.Members.{member_front, member_back, member_either}
+use Rattle.sp_code.specs.declared.code.Layout.{Layout}
+use Rattle.sp_code.specs.declared.code.ChildTable.{ChildTable}
+use Rattle.sp_code.specs.declared.code.Parts.{Parts}
+use Rattle.sp_code.specs.declared.instr.Instr.{Instr}
+use Rattle.sp_code.specs.declared.instr.Instr.TheVariants as i
+use Rattle.sp_code.specs.Machine.{layout_of}
+use Rattle.sp_code.specs.Memory.{Home, OfBlock, OfIndex}
+use Rattle.sp_cell.proofs.FrameLaws.{is_same}
+use Rattle.sp_verify_rules.specs.Areas.{Area, Body, Child, VariableInfo, on_option, variable_at, homes, with_home}
+use Rattle.sp_verify_rules.specs.Areas.{instr_at}
+use Rattle.sp_verify_rules.specs.Areas.{child_at}
+use Rattle.sp_verify_rules.specs.Areas.{child_of, table_at, table_named, index_of_child}
+use Rattle.sp_verify_rules.specs.Chains.{variables_of, variables_in, all_variables}
+use Rattle.sp_verify_rules.specs.Effects.{Kind, Stored, Loaded, CountsAsEffect, Becomes, IsStarted, IsCalled}
+use Rattle.sp_verify_rules.specs.Effects.{EffectBy, IsEffect}
+use Rattle.sp_verify_rules.specs.Effects.{HasEffect, handed_to, does_at, handed_as, Does, Granted, May}
+use Rattle.sp_verify_rules.specs.Forks.{KeepsEffects}
+use Rattle.sp_verify_rules.specs.KeepsCodeRules.{KeepsCodeRules}
+use Rattle.sp_verify_rules.specs.Named.{Names, Unknown, is_block, is_in, is_loop_variable, is_plain, has_variable}
+use Rattle.sp_verify_rules.specs.Named.{some_has}
+use Rattle.sp_verify_rules.specs.Named.{level_fits, loops_well}
+use Rattle.sp_verify_rules.specs.Reach.{IsIn, IsArea}
+use Rattle.sp_verify_rules.specs.Shapes.{Shape, O, C, L, A, below_topmost}
+use Rattle.sp_verify_rules.specs.Touched.{stored_by, loaded_by, topmost_variable, addresses, number_list}
+use Rattle.sp_verify_rules.proofs.Addresses.{AllP, addresses_around, found_around}
+use Rattle.sp_verify_rules.proofs.Scoping.{found_layout, area_drop, homes_step, is_block_of, inner}
+use Rattle.sp_verify_rules.proofs.Walking.{passes}
+
+pub is_member : (x : ℕ) (ys : List ℕ) → IsIn x ys → IsMember x ys
+is_member x [] h = h
+is_member x (y ∷ ys) (inl e) = inl e
+is_member x (y ∷ ys) (inr h) = inr (is_member x ys h)
+
+pub is_in_list : (x : ℕ) (ys : List ℕ) → IsMember x ys → IsIn x ys
+is_in_list x [] h = h
+is_in_list x (y ∷ ys) (inl e) = inl e
+is_in_list x (y ∷ ys) (inr h) = inr (is_in_list x ys h)
+
+module _ (P : ℕ → Type 0) where
+  -- what is touched at the top of the stack
+  pub top_p : (ss : List Shape) (x : ℕ) → AllP P ss → IsIn x (topmost_variable ss) → P x
+  top_p [] x h i = absurd i
+  top_p (O ∷ ss) x h i = absurd i
+  top_p (C ∷ ss) x h i = absurd i
+  top_p (L n ∷ ss) x h i = absurd i
+  top_p (A y n ∷ ss) x h (inl e) = subst P (sym e) h.0
+  top_p (A y n ∷ ss) x h (inr i) = absurd i
+
+  pub below_p : (ss : List Shape) → AllP P ss → AllP P (below_topmost ss)
+  below_p [] h = tt
+  below_p (O ∷ ss) h = h
+  below_p (C ∷ ss) h = h
+  below_p (L n ∷ ss) h = h
+  below_p (A y n ∷ ss) h = h.1
+
+  some_p : (n : ℕ) (ss : List Shape) (x : ℕ) → AllP P ss → IsIn x (addresses n ss) → P x
+  some_p zero ss x h i = absurd i
+  some_p (suc n) [] x h i = absurd i
+  some_p (suc n) (O ∷ ss) x h i = some_p n ss x h i
+  some_p (suc n) (C ∷ ss) x h i = some_p n ss x h i
+  some_p (suc n) (L m ∷ ss) x h i = some_p n ss x h i
+  some_p (suc n) (A y m ∷ ss) x h (inl e) = subst P (sym e) h.0
+  some_p (suc n) (A y m ∷ ss) x h (inr i) = some_p n ss x h.1 i
+
+  pub at_p : (ss : List Shape) (j x n : ℕ) → AllP P ss → slice_get ss j ≡ Some (A x n) → P x
+  at_p [] j x n h e = absurd (cc e)
+  at_p (O ∷ ss) zero x n h e = absurd (cc e)
+  at_p (C ∷ ss) zero x n h e = absurd (cc e)
+  at_p (L m ∷ ss) zero x n h e = absurd (cc e)
+  at_p (A y m ∷ ss) zero x n h e = let s : y ≡ x = cc e in subst P s h.0
+  at_p (O ∷ ss) (suc j) x n h e = at_p ss j x n h e
+  at_p (C ∷ ss) (suc j) x n h e = at_p ss j x n h e
+  at_p (L m ∷ ss) (suc j) x n h e = at_p ss j x n h e
+  at_p (A y m ∷ ss) (suc j) x n h e = at_p ss j x n h.1 e
+
+  abbrev Small : ℕ → Type 0
+  Small x = (x < 2) ⊎ P x
+
+  zero_p : (x : ℕ) (ys : List ℕ) → (IsIn x ys → Small x) → IsIn x (0 ∷ ys) → Small x
+  zero_p x ys h (inl e) = inl (omega (arith, e))
+  zero_p x ys h (inr i) = h i
+
+  one_p : (x : ℕ) → IsIn x (1 ∷ []) → Small x
+  one_p x (inl e) = inl (omega (arith, e))
+  one_p x (inr i) = absurd i
+
+  module _ (c : Parts) (a : Area) (found : (var : ℕ) (f : VariableInfo) → variable_at c a 0 var ≡ Some f
+      → is_loop_variable (Some f) ≡ true → P f.number) (ss : List Shape) (h : AllP P ss) (x : ℕ) where
+    loop : (var : ℕ) (o : Option VariableInfo) → variable_at c a 0 var ≡ o → is_loop_variable o ≡ true
+        → IsIn x (number_list o)
+        → Small x
+    loop var None e w i = absurd i
+    loop var (Some f) e w (inl s) = inr (subst P (sym s) (found var f e w))
+    loop var (Some f) e w (inr i) = absurd i
+
+    called : (o : Option Layout) → IsIn x (on_option [] o (λ l. addresses (length l.formals) ss)) → Small x
+    called None i = absurd i
+    called (Some l) i = inr (some_p (length l.formals) ss x h i)
+
+    stored_p : (o : Option Instr) → loops_well c a o ≡ true → IsIn x (stored_by c a o ss) → Small x
+    stored_p (Some i.Store) w m = inr (top_p (below_topmost ss) x (below_p ss h) m)
+    stored_p (Some (i.Copy k)) w m = inr (top_p (below_topmost ss) x (below_p ss h) m)
+    stored_p (Some (i.Forup var to)) w m = loop var (variable_at c a 0 var) refl w m
+    stored_p (Some (i.Fordown var to)) w m = loop var (variable_at c a 0 var) refl w m
+    stored_p (Some (i.Nextup var to)) w m = loop var (variable_at c a 0 var) refl w m
+    stored_p (Some (i.Nextdown var to)) w m = loop var (variable_at c a 0 var) refl w m
+    stored_p (Some (i.Call b up)) w m = called (layout_of c.layouts b) m
+    stored_p (Some i.ReadInt) w m = zero_p x (topmost_variable ss) (λ j. inr (top_p ss x h j)) m
+    stored_p (Some i.ReadChar) w m = zero_p x (topmost_variable ss) (λ j. inr (top_p ss x h j)) m
+    stored_p (Some i.Readln) w m = zero_p x [] (λ j. absurd j) m
+    stored_p (Some i.WriteInt) w m = one_p x m
+    stored_p (Some i.WriteChar) w m = one_p x m
+    stored_p (Some i.WriteBool) w m = one_p x m
+    stored_p (Some (i.WriteText k)) w m = one_p x m
+    stored_p (Some i.WritewInt) w m = one_p x m
+    stored_p (Some i.WritewChar) w m = one_p x m
+    stored_p (Some i.WritewBool) w m = one_p x m
+    stored_p (Some (i.WritewText k)) w m = one_p x m
+    stored_p (Some i.Writeln) w m = one_p x m
+    stored_p (Some i.Open) w m = inr (top_p ss x h m)
+    stored_p (Some (i.Receive k)) w m = inr (top_p ss x h m)
+    stored_p _ w m = absurd m
+
+    loaded_p : (o : Option Instr) → IsIn x (loaded_by c a o ss) → Small x
+    loaded_p (Some i.Load) m = inr (top_p ss x h m)
+    loaded_p (Some i.Loadc) m = inr (top_p ss x h m)
+    loaded_p (Some (i.Pack k)) m = inr (top_p ss x h m)
+    loaded_p (Some (i.Copy k)) m = inr (top_p ss x h m)
+    loaded_p (Some i.Eof) m = zero_p x [] (λ j. absurd j) m
+    loaded_p (Some i.Eoln) m = zero_p x [] (λ j. absurd j) m
+    loaded_p _ m = absurd m
+
+module _ (c : Parts) (k : KeepsCodeRules c) (e : KeepsEffects c (Does c)) (known : (p : ℕ) → Unknown c p → ⊥) where
+  abbrev Around : Area → ℕ → Type 0
+  Around a x = IsMember x (all_variables c.layouts (homes c a))
+
+  -- ---- tables
+
+  -- the table that an instruction names, where it has a child
+  table_of_child : (p j : ℕ) (t : ChildTable) → child_at c p j ≡ Some t → (n : ℕ) × Names c n p
+      × (child_of (slice_get c.forks n) j ≡ Some t)
+  table_of_child p j t s = go (table_named (instr_at c p)) refl s
+    where
+      go : (o : Option ℕ) → table_named (instr_at c p) ≡ o → child_of (table_at c.forks o) j ≡ Some t → (n : ℕ)
+          × Names c n p × (child_of (slice_get c.forks n) j ≡ Some t)
+      go None w s = absurd (cc s)
+      go (Some n) w s = (n, w, s)
+
+  has_member : (x : ℕ) (ys : List ℕ) → is_in x ys ≡ true → IsMember x ys
+  has_member x [] h = absurd (cc h)
+  has_member x (y ∷ ys) h = go (x == y) refl h (λ w. has_member x ys w)
+    where
+      go : (t : Bool) → (x == y) ≡ t → (t || is_in x ys) ≡ true → (is_in x ys ≡ true → IsMember x ys)
+          → IsMember x (y ∷ ys)
+      go true w h on = inl (eqb-true x y w)
+      go false w h on = inr (on h)
+
+  has_home : (x : ℕ) (h : Home) → has_variable c.layouts x h ≡ true → IsMember x (variables_in c.layouts h)
+  has_home x (OfBlock b) w = go (layout_of c.layouts b) w
+    where
+      go : (o : Option Layout) → on_option false o (λ l. is_in x l.variables) ≡ true → IsMember x (variables_of o)
+      go None w = absurd (cc w)
+      go (Some l) w = has_member x l.variables w
+  has_home x (OfIndex y) w = inl (eqb-true x y w)
+
+  has_homes : (x : ℕ) (hs : List Home) → some_has c.layouts x hs ≡ true → IsMember x (all_variables c.layouts hs)
+  has_homes x [] w = absurd (cc w)
+  has_homes x (h ∷ hs) w = go (has_variable c.layouts x h) refl w (λ v. has_homes x hs v)
+    where
+      go : (t : Bool) → has_variable c.layouts x h ≡ t → (t || some_has c.layouts x hs) ≡ true
+          → (some_has c.layouts x hs ≡ true → IsMember x (all_variables c.layouts hs))
+          → IsMember x (all_variables c.layouts (h ∷ hs))
+      go true s w on = member_front x (variables_in c.layouts h) (all_variables c.layouts hs) (has_home x h s)
+      go false s w on = member_back x (variables_in c.layouts h) (all_variables c.layouts hs) (on w)
+
+  -- what is handed to a child is around
+  pub handed_around : (a : Area) (p j x : ℕ) (t : ChildTable) → IsArea c a → IsStarted c a p j t
+      → IsMember x (handed_to t) → 2 ≤ x → Around a x
+  handed_around a p j x t area s m real =
+      let w = table_of_child p j t s.1 in
+      has_homes x (homes c a) (true_from_ne_false (some_has c.layouts x (homes c a))
+      (λ f. known t.entry (w.0, p, j, x, t, a, w.1, (area, s.0), w.2, refl, is_in_list x (handed_to t) m, real, f)))
+
+  -- ---- calls
+
+  -- the homes of a called block
+  pub called_homes : (a : Area) (p f up : ℕ) (ss : List Shape) (l : Layout) → IsArea c a → IsCalled c a p f up ss l
+      → (homes c (Body f) ≡ OfBlock f ∷ drop up (homes c a)) × ((l.block ≡ f) × ((f == 0) ≡ false))
+  called_homes a p f up ss l area call = (
+    homes_step c k f w.0 l call.layout nz w.1
+        ∙ ap (λ hs. OfBlock f ∷ hs) (sym (area_drop c k a up w.0 area w.2)),
+    ((found_layout c.layouts f l call.layout).0, nz),
+  )
+    where
+      level : is_block l.parent (slice_get (homes c a) up) ≡ true
+      level =
+          ap (λ o. on_option false o (λ (m : Layout). is_block m.parent (slice_get (homes c a) up))) (sym call.layout)
+          ∙ ap (λ o. level_fits c a o) (sym call.call)
+          ∙ k.levels a p (area, passes c a p ss call.reached)
+
+      w : (d : ℕ) × (l.parent ≡ Some d) × (slice_get (homes c a) up ≡ Some (OfBlock d))
+      w = is_block_of c k l.parent (slice_get (homes c a) up) level
+
+      nz : (f == 0) ≡ false
+      nz = inner c k f l (slice_get (homes c a) up) call.layout level
+
+  in_outer : (up x : ℕ) (hs : List Home) → IsMember x (all_variables c.layouts (drop up hs))
+      → IsMember x (all_variables c.layouts hs)
+  in_outer zero x hs m = m
+  in_outer (suc up) x [] m = m
+  in_outer (suc up) x (h ∷ hs) m = member_back x (variables_in c.layouts h) (all_variables c.layouts hs)
+      (in_outer up x hs m)
+
+  -- ---- effects are around
+
+  does_around : (u : Kind) (a : Area) (x : ℕ) → IsArea c a → Does c u a x → (x < 2) ⊎ Around a x
+  does_around u a x area (inl d) = go u d.3
+    where
+      p : ℕ
+      p = d.0
+
+      ss : List Shape
+      ss = d.1
+
+      all : AllP (Around a) ss
+      all = addresses_around c k a area p ss d.2
+
+      loops : loops_well c a (instr_at c p) ≡ true
+      loops = k.loops a p (area, passes c a p ss d.2)
+
+      found : (var : ℕ) (f : VariableInfo) → variable_at c a 0 var ≡ Some f → is_loop_variable (Some f) ≡ true
+          → Around a f.number
+      found var f s w = found_around c k a 0 var f s (inl (first_true (is_plain f.naming) (f.cells == 1) w))
+
+      go : (v : Kind) → IsIn x (does_at c v a p ss) → (x < 2) ⊎ Around a x
+      go Stored m = stored_p (Around a) c a found ss all x (instr_at c p) loops m
+      go Loaded m = loaded_p (Around a) c a found ss all x (instr_at c p) m
+  does_around u a x area (inr d) = ⊎_elim (λ (l : x < 2). inl l)
+      (λ (r : 2 ≤ x). inr (handed_around a d.0 d.1 x d.2 area d.3 (handed u d.4) r)) (below_two_or_not x)
+    where
+      handed : (v : Kind) → IsMember x (handed_as c v d.2) → IsMember x (handed_to d.2)
+      handed Stored m = member_front x d.2.moved d.2.shared m
+      handed Loaded m = member_back x d.2.moved d.2.shared m
+
+  area_of_child : (a : Area) (p j : ℕ) (t : ChildTable) → IsArea c a → IsStarted c a p j t → IsArea c (Child a p j)
+  area_of_child a p j t area s = (area, s.0, (t, s.1))
+
+  -- an effect of a child that is none of its index
+  not_index : (u : Kind) (a : Area) (p j x y : ℕ) (t : ChildTable) → IsArea c (Child a p j) → child_at c p j ≡ Some t
+      → t.index ≡ Some y → CountsAsEffect u t.index x → IsEffect c (Does c) u (Child a p j) x → x ≡ y → ⊥
+  not_index Stored a p j x y t area at is o f s = nothing
+      (subst (IsMember x) (e.no_moves a p j t area at (subst (λ z. IsSome z) (sym is) refl))
+      (e.stored a p j x t area at f))
+    where
+      nothing : IsMember x [] → ⊥
+      nothing m = m
+  not_index Loaded a p j x y t area at is o f s = subst (λ z. CountsAsEffect Loaded z x) is o s
+
+  pub around : (bs : List Area) (u : Kind) (a : Area) (x : ℕ) → IsArea c a → EffectBy c (Does c) bs u a x → (x < 2)
+      ⊎ Around a x
+  around [] u a x area d = does_around u a x area d
+  around (b ∷ bs) u a x area (inl d) = ⊎_elim (λ (l : x < 2). inl l)
+      (λ m. inr (outside (index_of_child (child_at c d.0 d.1)) refl (subst (λ z. Around z x) d.3 m)))
+      (around bs u b x (subst (IsArea c) (sym d.3) child) d.6)
+    where
+      child : IsArea c (Child a d.0 d.1)
+      child = area_of_child a d.0 d.1 d.2 area d.4
+
+      outside : (o : Option ℕ) → index_of_child (child_at c d.0 d.1) ≡ o → Around (Child a d.0 d.1) x → Around a x
+      outside None is m = subst (λ z. IsMember x (all_variables c.layouts (with_home z (homes c a)))) is m
+      outside (Some y) is m = ⊎_elim
+          (λ s. absurd (not_index u a d.0 d.1 x y d.2 child d.4.1 (sym (ap index_of_child d.4.1)
+          ∙ is) d.5 (record { areas = bs; proof = subst (λ z. EffectBy c (Does c) bs u z x) d.3 d.6 }) s))
+          (λ r. r)
+          (subst (λ z. IsMember x (all_variables c.layouts (with_home z (homes c a)))) is m)
+  around (b ∷ bs) u a x area (inr d) = becomes
+      (around bs u b d.7.0 (subst (IsArea c) (sym d.5) (d.4, d.6.layout)) d.7.1) d.7.2
+    where
+      w : (homes c (Body d.1) ≡ OfBlock d.1 ∷ drop d.2 (homes c a)) × ((d.4.block ≡ d.1) × ((d.1 == 0) ≡ false))
+      w = called_homes a d.0 d.1 d.2 d.3 d.4 area d.6
+
+      variables : variables_in c.layouts (OfBlock d.1) ≡ d.4.variables
+      variables = ap variables_of d.6.layout
+
+      outer : (IsMember d.7.0 d.4.variables → ⊥) → Around b d.7.0 → Around a d.7.0
+      outer n m = ⊎_elim (λ z. absurd (n (subst (IsMember d.7.0) variables z))) (λ z. in_outer d.2 d.7.0 (homes c a) z)
+          (member_either d.7.0 (variables_in c.layouts (OfBlock d.1)) (all_variables c.layouts (drop d.2 (homes c a)))
+          (subst (λ hs. IsMember d.7.0 (all_variables c.layouts hs)) w.0 (subst (λ z. Around z d.7.0) d.5 m)))
+
+      becomes : (d.7.0 < 2) ⊎ Around b d.7.0 → Becomes d.4 d.3 d.7.0 x → (x < 2) ⊎ Around a x
+      becomes inside (inl q) = subst (λ z. (z < 2)
+          ⊎ Around a z) (sym q.0) (⊎_elim (λ (l : d.7.0 < 2). inl l) (λ m. inr (outer q.1 m)) inside)
+      becomes inside (inr q) = inr (at_p (Around a) d.3 (length d.4.formals - 1 - q.0) x q.2.1
+          (addresses_around c k a area d.0 d.3 d.6.reached) q.2.3)
+
+  pub effects_around : (a : Area) (x : ℕ) → IsArea c a → HasEffect c (Does c) a x → (x < 2) ⊎ Around a x
+  effects_around a x area (inl h) = around h.areas Stored a x area h.proof
+  effects_around a x area (inr h) = around h.areas Loaded a x area h.proof
+
+  -- ---- what an activation may touch
+
+  pub may_effect : (a : Area) (x : ℕ) → IsArea c a → HasEffect c (Does c) a x → May c a x
+  may_effect (Body b) x area h = inl h
+  may_effect (Child a p j) x area h = go (child_at c p j) refl h
+    where
+      go : (o : Option ChildTable) → child_at c p j ≡ o → HasEffect c (Does c) (Child a p j) x → Granted c o x
+      go None s h = absurd (cc (sym s ∙ area.2.1))
+      go (Some t) s (inl f) = inl (member_front x t.moved t.shared (e.stored a p j x t area s f))
+      go (Some t) s (inr f) = index (t.index) refl
+        where
+          index : (o : Option ℕ) → t.index ≡ o → IsMember x (handed_to t) ⊎ (t.index ≡ Some x)
+          index None is = inl (e.loaded a p j x t area s f (subst (λ z. CountsAsEffect Loaded z x) (sym is) tt))
+          index (Some y) is = own (x == y) refl
+            where
+              own : (b : Bool) → (x == y) ≡ b → IsMember x (handed_to t) ⊎ (t.index ≡ Some x)
+              own true w = inr (is ∙ ap Some (sym (eqb-true x y w)))
+              own false w = inl (e.loaded a p j x t area s f
+                  (subst (λ z. CountsAsEffect Loaded z x) (sym is) (λ q. cc (sym w
+                  ∙ is_same x y q))))

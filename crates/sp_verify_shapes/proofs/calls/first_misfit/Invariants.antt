@@ -1,0 +1,8 @@
+use Rattle.std.proofs.Common.{◌≡◌, ℕ, ◌<◌, false}
+use Rattle.sp_verify_rules.specs.Rules.{call_fits}
+use Rattle.sp_verify_shapes.specs.Reached.{fails_at}
+use Rattle.sp_verify_shapes.proofs.calls.first_misfit.Given as goal
+
+-- those so far fit
+abbrev pub invariant-loop-p : goal.invariant-loop-p
+invariant-loop-p l = (k : ℕ) → k < l.p → fails_at (call_fits l.code) l.code l.shapes k ≡ false

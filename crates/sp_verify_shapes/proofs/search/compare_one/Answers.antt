@@ -1,0 +1,6 @@
+use Rattle.sp_verify_shapes.proofs.Comparing.{compared}
+use Rattle.sp_verify_shapes.proofs.search.compare_one.Goals as goal
+
+pub returns-in-Ok : goal.returns-in-Ok
+returns-in-Ok c = compared c.args.search.now c.place.new.search c.pop.new.self c.in-Some.x
+    c.in-Some.ensures c.in-Ok.ensures

@@ -1,0 +1,15 @@
+use Rattle.std.proofs.Common.{sym, subst, arith, ◌<◌}
+use Rattle.sp_verify_shapes.specs.Stacks.{IsJump, shape_of}
+use Rattle.sp_verify_shapes.proofs.Stacking.{jump_one}
+use Rattle.sp_verify_shapes.proofs.stacks.Stacks.skip.Goals as goal
+
+pub returns-else-jump-gt0 : goal.returns-else-jump-gt0
+returns-else-jump-gt0 c =
+    let st = c.args.self.now in
+    let below = c.in-Some.below in
+    let some : 0 < c.args.left = c.requires.some in (
+      omega arith,
+      omega (arith, some),
+      subst (λ ss. IsJump st ss (record { to = below; far = 1 })) (sym c.in-Some.ensures.0)
+          (jump_one st below (shape_of c.in-Some._shape) c.in-Some.ensures.1),
+    )

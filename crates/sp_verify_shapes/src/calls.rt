@@ -1,0 +1,175 @@
+//! Operands of calls against the formals of blocks: rule V5.
+
+ghost use Rattle.std.specs.Prelude.{◌≡◌, ◌&&◌, [], length, not, true, List, Some};
+ghost use Rattle.sp_verify_areas.specs.Alone.{LayoutFails, flag_at};
+ghost use Rattle.sp_verify_areas.specs.Blocks.{IsNumbered};
+ghost use Rattle.sp_verify_areas.specs.LeastPlaces.{IsLeast, Upto};
+ghost use Rattle.sp_verify_areas.specs.declared.owners.Owner.{Owner};
+ghost use Rattle.sp_verify_rules.specs.Rules.{BreaksV5, call_fits, fit_formals, fits_formal};
+ghost use Rattle.sp_verify_rules.specs.Rules.{lowest_first, some_reference};
+ghost use Rattle.sp_verify_shapes.specs.Reached.{answers_by_reference, fails_at};
+ghost use Rattle.sp_verify_shapes.specs.Repeats.{AreRepeats};
+ghost use Rattle.sp_verify_shapes.specs.Shapes.{AreShapes};
+ghost use Rattle.sp_verify_shapes.specs.Stacks.{IsListNumber, IsStacks, list_of, shape_of};
+
+use crate::reached::reached;
+use crate::shapes::Shapes;
+use crate::stacks::{Shape, Stacks};
+use sp_base::List;
+use sp_code::{Code, Formal, Instr, Layout, Parts};
+use sp_verify_areas::blocks::Blocks;
+use sp_verify_areas::flags::flag_at;
+use sp_verify_areas::least::{least, place_if};
+
+// Whether an operand fits a formal.
+fn fits_formal(formal: Formal, shape: Shape) -> bool
+    ensures { result ≡ fits_formal formal (shape_of shape) }
+{
+    match formal {
+        Formal::Value(n) => match shape {
+            Shape::Ordinal => n == 1,
+            Shape::Channel => n == 1,
+            Shape::Cells(k) => k == n,
+            Shape::Address { .. } => false,
+        },
+        Formal::Reference(n) => match shape {
+            Shape::Address { variable: _, left } => n <= left,
+            _ => false,
+        },
+    }
+}
+
+// Whether the first shapes of a list, the last operand first, fit formals.
+fn fit_formals(stacks: &Stacks, formals: &[Formal], n: u32) -> bool
+    requires stacks { IsStacks stacks.now }
+    requires there { IsListNumber stacks.now n }
+    ensures { result ≡ fit_formals formals.now (lowest_first (length formals.now) (list_of stacks.now n) []) }
+{
+    let count = formals.len();
+    let mut rest = n;
+    for k in 0..count {
+        match stacks.top(rest) {
+            None => return false,
+            Some((shape, below)) => {
+                if !fits_formal(formals[count - 1 - k], shape) {
+                    return false;
+                }
+                rest = below;
+            }
+        }
+    }
+    true
+}
+
+// Whether an instruction calls no block that its operands do not fit.
+fn call_fits(parts: &Parts, blocks: &Blocks, stacks: &Stacks, instr: Instr, n: u32) -> bool
+    requires blocks { IsNumbered blocks.now.first parts.now.layouts }
+    requires stacks { IsStacks stacks.now }
+    requires there { IsListNumber stacks.now n }
+    ensures { result ≡ call_fits parts.now (Some instr) (list_of stacks.now n) }
+{
+    match instr {
+        Instr::Call { block, up: _ } => match blocks.find(&parts.layouts, block) {
+            None => false,
+            Some(l) => fit_formals(stacks, l.formals.items(), n),
+        },
+        _ => true,
+    }
+}
+
+// Whether an instruction is a call that its operands do not fit.
+fn misfits(code: &Code, blocks: &Blocks, shapes: &Shapes, p: u32) -> bool
+    requires blocks { IsNumbered blocks.now.first code.now.layouts }
+    requires shapes { AreShapes code.now shapes.now }
+    ensures { result ≡ fails_at (call_fits code.now) code.now shapes.now p }
+{
+    match reached(shapes, p) {
+        None => false,
+        Some(n) => match code.instr(p) {
+            None => false,
+            Some(instr) => !call_fits(code.parts(), blocks, &shapes.stacks, instr, n),
+        },
+    }
+}
+
+// Whether it is one that repeats no earlier call.
+fn misfits_first(
+    code: &Code,
+    blocks: &Blocks,
+    shapes: &Shapes,
+    repeats: &List<bool>,
+    p: u32,
+) -> bool
+    requires blocks { IsNumbered blocks.now.first code.now.layouts }
+    requires shapes { AreShapes code.now shapes.now }
+    ensures { result ≡ (not (flag_at repeats.now p) && fails_at (call_fits code.now) code.now shapes.now p) }
+{
+    if flag_at(repeats, p as usize) {
+        false
+    } else {
+        misfits(code, blocks, shapes, p)
+    }
+}
+
+// The least call that its operands do not fit.
+fn first_misfit(code: &Code, blocks: &Blocks, shapes: &Shapes, repeats: &List<bool>) -> Option<u32>
+    requires blocks { IsNumbered blocks.now.first code.now.layouts }
+    requires shapes { AreShapes code.now shapes.now }
+    requires repeats { (os : List Owner) × AreRepeats code.now os shapes.now repeats.now }
+    ensures { IsLeast (λ p. fails_at (call_fits code.now) code.now shapes.now p ≡ true) result }
+{
+    for p in 0..code.parts().instrs.len() {
+        if misfits_first(code, blocks, shapes, repeats, p as u32) {
+            return Some(p as u32);
+        }
+    }
+    None
+}
+
+/// Whether one of the formals is a reference.
+pub fn some_reference(formals: &[Formal]) -> bool
+    ensures { result ≡ some_reference formals.now }
+{
+    for f in formals {
+        if let Formal::Reference(_) = *f {
+            return true;
+        }
+    }
+    false
+}
+
+// Whether a block answers, and has a formal by reference.
+fn answers_by_reference(l: &Layout) -> bool
+    ensures { result ≡ answers_by_reference l.now }
+{
+    l.answer && some_reference(l.formals.items())
+}
+
+// The least entry of a block that answers and has a formal by reference.
+fn first_answering(layouts: &[Layout]) -> Option<u32>
+    ensures { IsLeast (Upto (LayoutFails answers_by_reference layouts.now) (length layouts.now)) result }
+{
+    let mut first = None;
+    for l in layouts {
+        first = least(first, place_if(answers_by_reference(l), l.entry));
+    }
+    first
+}
+
+/// V5: the least call whose operands do not fit the formals of its block, or entry of a block that answers and has a
+/// formal by reference. Of calls that repeat each other the first one tells.
+pub fn first_unfit(
+    code: &Code,
+    blocks: &Blocks,
+    shapes: &Shapes,
+    repeats: &List<bool>,
+) -> Option<u32>
+    requires blocks { IsNumbered blocks.now.first code.now.layouts }
+    requires shapes { AreShapes code.now shapes.now }
+    requires repeats { (os : List Owner) × AreRepeats code.now os shapes.now repeats.now }
+    ensures { IsLeast (BreaksV5 code.now) result }
+{
+    let misfit = first_misfit(code, blocks, shapes, repeats);
+    let answering = first_answering(code.parts().layouts.items());
+    least(misfit, answering)
+}
