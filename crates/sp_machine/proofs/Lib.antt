@@ -10,3 +10,4 @@ mod Placing
 mod Planning
 mod Giving
 mod Returning
+mod Noting

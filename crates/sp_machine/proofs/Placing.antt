@@ -77,20 +77,27 @@ spot_here ls fs count x f s h e q = first_spot ls fs count x f h e
     ∙ ap (λ (o : Option Spot). or_outward o (spot_from ls (count - 1) (last_frames f.link (last_frames (count - 1) fs))
     x)) q
 
+pub spot_next : (ls : List Layout) (fs : List PlainFrame) (count x : ℕ) (f : PlainFrame) → 0 < count
+    → count ≤ length fs → last_frames (count - 1 + 1) fs ≡ f ∷ last_frames (count - 1) fs
+    → spot_from ls count (last_frames count fs) x ≡ or_outward (spot_in ls f f.home x)
+    (spot_from ls (min f.link (count - 1)) (last_frames (min f.link (count - 1)) fs) x)
+spot_next ls fs count x f h l e =
+    let next : last_frames f.link (last_frames (count - 1) fs) ≡ last_frames (min f.link (count - 1)) fs =
+    last_twice fs f.link (count - 1) (omega (arith, l)) in
+    let size : length (last_frames (min f.link (count - 1)) fs) ≡ length fs - (length fs - min f.link (count - 1)) =
+    length-drop (length fs - min f.link (count - 1)) fs in
+    first_spot ls fs count x f h e ∙ ap (or_outward (spot_in ls f f.home x))
+    (ap (λ (gs : List PlainFrame). spot_from ls (count - 1) gs x) next
+    ∙ enough ls (count - 1) (min f.link (count - 1)) (last_frames (min f.link (count - 1)) fs) x
+    (omega (arith, size, l)) (omega (arith, size, l)))
+
 pub spot_on : (ls : List Layout) (fs : List PlainFrame) (count x : ℕ) (f : PlainFrame) → 0 < count → count ≤ length fs
     → last_frames (count - 1 + 1) fs ≡ f ∷ last_frames (count - 1) fs → spot_in ls f f.home x ≡ None
     → spot_from ls count (last_frames count fs) x
     ≡ spot_from ls (min f.link (count - 1)) (last_frames (min f.link (count - 1)) fs) x
 spot_on ls fs count x f h l e q =
-    let next : last_frames f.link (last_frames (count - 1) fs) ≡ last_frames (min f.link (count - 1)) fs =
-    last_twice fs f.link (count - 1) (omega (arith, l)) in
-    let size : length (last_frames (min f.link (count - 1)) fs) ≡ length fs - (length fs - min f.link (count - 1)) =
-    length-drop (length fs - min f.link (count - 1)) fs in
-    first_spot ls fs count x f h e ∙ ap (λ (o : Option Spot). or_outward o
-    (spot_from ls (count - 1) (last_frames f.link (last_frames (count - 1) fs)) x)) q
-    ∙ ap (λ (gs : List PlainFrame). spot_from ls (count - 1) gs x) next
-    ∙ enough ls (count - 1) (min f.link (count - 1)) (last_frames (min f.link (count - 1)) fs) x
-    (omega (arith, size, l)) (omega (arith, size, l))
+    spot_next ls fs count x f h l e ∙ ap (λ (o : Option Spot). or_outward o
+    (spot_from ls (min f.link (count - 1)) (last_frames (min f.link (count - 1)) fs) x)) q
 
 pub spots_found : (ls : List Layout) (fs : List PlainFrame) (xs : List ℕ) (found : List Spot) (i x : ℕ) (s : Spot)
     → i < length xs → x ≡ get_or xs i x → spot_of ls fs x ≡ Some s

@@ -10,3 +10,4 @@ pub mod Answers
 pub mod Codes
 pub mod Children
 pub mod Calls
+pub mod Seen

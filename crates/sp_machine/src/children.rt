@@ -16,11 +16,13 @@ ghost use Rattle.sp_store.specs.Layout.{FramesBelow};
 ghost use Rattle.sp_machine.specs.Children.{handed_to, with_frame, IsBornSo, AreBornSo, AreNewborn, plan_by};
 ghost use Rattle.sp_machine.specs.declared.state.State.{State};
 ghost use Rattle.sp_machine.specs.Frames.{frame_of, home_of, plain_frames};
+ghost use Rattle.sp_machine.specs.Seen.{IsSeen};
 
 use crate::frames::{Frame, Frames, Home, lesser, referred};
 use crate::have;
 use crate::layouts::layout_of;
 use crate::proc::Proc;
+use crate::seen::seen_by;
 use crate::stack::Stack;
 use crate::state::{State, Stop};
 use sp_base::{List, Memory};
@@ -28,6 +30,7 @@ use sp_cell::{Handing, Spot};
 use sp_code::{ChildTable, Code, ForkTable, Formal, Layout};
 use sp_store::Store;
 use std::alloc::Global;
+use std::collections::BTreeMap;
 use std::sync::Arc;
 
 /// The place of a variable of the tree in a frame, counted from the first one. More places than a number can tell count
@@ -50,7 +53,7 @@ fn place_of(variable: u32, first: u32, variables: &[u32]) -> Result<Option<u32>,
 }
 
 /// The program's frame has its variables from number 2 on.
-fn first_number(layout: &Layout) -> u32
+pub(crate) fn first_number(layout: &Layout) -> u32
     ensures value { result ≡ first_number layout.now }
     ensures small { result ≤ 2 }
 {
@@ -123,14 +126,23 @@ fn spot_from(frames: &Frames, code: &Code, variable: u32) -> Result<Option<Spot>
 }
 
 /// The spot of a variable of the tree. The input and the output are variables 0 and 1 of frame 0.
-fn spot_of(frames: &Frames, code: &Code, variable: u32) -> Result<Option<Spot>, Memory>
-    requires { HasDistinctBlocks code.now.layouts }
+fn spot_of(
+    frames: &Frames,
+    code: &Code,
+    seen: &Option<BTreeMap<u32, Spot>>,
+    variable: u32,
+) -> Result<Option<Spot>, Memory>
+    requires blocks { HasDistinctBlocks code.now.layouts }
+    requires seen { IsSeen code.now.layouts frames.now seen.now }
     ensures { IfOk result (λ r. r ≡ spot_of code.now.layouts frames.now variable) }
 {
     if variable < 2 {
         return Ok(Some(Spot { frame: 0, variable }));
     }
-    spot_from(frames, code, variable)
+    match seen {
+        Some(seen) => Ok(seen.get(&variable).copied()),
+        None => spot_from(frames, code, variable),
+    }
 }
 
 /// The spots of variables.
@@ -139,14 +151,16 @@ fn spots_of(
     alloc: Global,
     frames: &Frames,
     code: &Code,
+    seen: &Option<BTreeMap<u32, Spot>>,
     variables: &[u32],
 ) -> Result<List<Spot>, Memory>
-    requires { HasDistinctBlocks code.now.layouts }
+    requires blocks { HasDistinctBlocks code.now.layouts }
+    requires seen { IsSeen code.now.layouts frames.now seen.now }
     ensures { IfOk result (λ spots. spots ≡ spots_of code.now.layouts frames.now variables.now) }
 {
     let mut spots = List::new(alloc);
     for variable in variables {
-        let found = have!(spot_of(frames, code, *variable));
+        let found = have!(spot_of(frames, code, seen, *variable));
         if let Some(spot) = found {
             have!(spots.push(spot));
         }
@@ -196,10 +210,12 @@ fn handing_of(
     alloc: Global,
     frames: &Frames,
     code: &Code,
+    seen: &Option<BTreeMap<u32, Spot>>,
     value: i64,
     child: Option<&ChildTable>,
 ) -> Result<Handing, Memory>
     requires blocks { HasDistinctBlocks code.now.layouts }
+    requires seen { IsSeen code.now.layouts frames.now seen.now }
     ensures { IfOk result (λ h. h ≡ handed_to code.now.layouts frames.now value
         (child_or (option_copied child.entry))) }
 {
@@ -210,8 +226,8 @@ fn handing_of(
                 None => None,
             };
             Ok(Handing {
-                moved: have!(spots_of(alloc, frames, code, child.moved.items())),
-                shared: have!(spots_of(alloc, frames, code, child.shared.items())),
+                moved: have!(spots_of(alloc, frames, code, seen, child.moved.items())),
+                shared: have!(spots_of(alloc, frames, code, seen, child.shared.items())),
                 index,
             })
         }
@@ -232,11 +248,13 @@ impl State {
         ensures { IfOk result (λ hs. hs ≡ plan_from code.now.layouts self.now.frames table.now self.now.first 0 count) }
     {
         let alloc = *self.text.allocator();
+        let seen = have!(seen_by(alloc, &self.frames, code, table, count));
+        let seen = &seen;
         let mut plan = List::new(alloc);
         for k in 0..count {
             let value = self.first + i64::from(k);
             let child = table.child(u64::from(k));
-            let handing = have!(handing_of(alloc, &self.frames, code, value, child));
+            let handing = have!(handing_of(alloc, &self.frames, code, seen, value, child));
             plan.push(handing)?;
         }
         Ok(plan)

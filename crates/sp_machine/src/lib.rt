@@ -27,6 +27,8 @@
 //! - The instructions that loops are made of stand in the turn itself, and what they do seldom, as a fault, stands
 //!   apart and tells it by an `Outcome`, so that the turn keeps nothing in memory between two instructions. A
 //!   variable whose address is pushed and then loaded is pushed at once (`proceed`).
+//! - A fork that asks for many variables notes once where all stand that the process sees (`src/seen.rt`), so that it
+//!   takes no time for each pair of one that is asked for and one of a frame. For a few, each frame is searched.
 //! - After want of memory nothing is said of a process but that it keeps its number and its input.
 //!
 //! To change:
@@ -43,6 +45,7 @@ mod frames;
 mod io;
 mod layouts;
 mod proc;
+mod seen;
 mod send;
 mod stack;
 mod state;
