@@ -20,8 +20,8 @@ fn note(
 ) -> Result<Option<u32>, Memory>
     ensures { IfOk result (λ now. NotesVariable seen.old seen.new first now variable entry) }
 {
-    let late = variable < 2 || seen.contains(&variable);
-    have!(seen.insert(variable));
+    let new = have!(seen.insert(variable));
+    let late = variable < 2 || !new;
     Ok(least(first, place_if(late, entry)))
 }
 

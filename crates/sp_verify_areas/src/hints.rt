@@ -17,18 +17,37 @@ pub(crate) struct Hint {
     pub before: Option<usize>,
 }
 
-/// How deep each node of a tree lies, and where variables are declared: the last hint of each.
+// Variables below this number have their last hint in a list, at their place.
+const FEW: u32 = 8_388_608;
+// There is no hint of this number.
+const NONE: u32 = 4_294_967_295;
+
+/// How deep each node of a tree lies, and where variables are declared: the last hint of each, in a list, or in a map
+/// for variables of great numbers.
 #[derive(Drop)]
 pub(crate) struct Hints {
     pub depths: List<usize>,
     hints: Writer<Hint>,
+    near: Writer<u32>,
     last: BTreeMap<u32, usize>,
 }
 
 impl Hints {
     /// The last hint of a variable.
     pub(crate) fn last(&self, x: u32) -> Option<usize> {
-        self.last.get(&x).copied()
+        if x >= FEW {
+            return self.last.get(&x).copied();
+        }
+        match self.near.items.get(x as usize) {
+            None => None,
+            Some(number) => {
+                if *number == NONE {
+                    None
+                } else {
+                    Some(*number as usize)
+                }
+            }
+        }
     }
 
     pub(crate) fn hint(&self, number: usize) -> Option<Hint> {
@@ -43,8 +62,23 @@ impl Hints {
             place,
             before,
         });
-        if self.last.insert(x, number).is_err() {
-            self.hints.is_lost = true;
+        self.keep(x, number);
+    }
+
+    // Keeps the number of the last hint of a variable.
+    fn keep(&mut self, x: u32, number: usize) {
+        if x >= FEW || number >= 4_000_000_000 {
+            if self.last.insert(x, number).is_err() {
+                self.hints.is_lost = true;
+            }
+            return;
+        }
+        let at = x as usize;
+        for _place in self.near.items.len()..at + 1 {
+            self.near.put(NONE);
+        }
+        if at < self.near.items.len() {
+            self.near.items[at] = number as u32;
         }
     }
 }
@@ -116,13 +150,14 @@ pub(crate) fn find_hints(code: &Code, nodes: &List<Node>) -> Result<Hints, Memor
     let mut hints = Hints {
         depths,
         hints: Writer::new(alloc),
+        near: Writer::new(alloc),
         last: BTreeMap::new(alloc),
     };
     for (k, n) in nodes.items().iter().enumerate() {
         let depth = depth_of(&hints.depths, k);
         note_frame(layouts, &mut seen, &mut hints, n.frame, depth);
     }
-    if hints.hints.is_lost {
+    if hints.hints.is_lost || hints.near.is_lost {
         return Err(Memory);
     }
     Ok(hints)

@@ -37,9 +37,9 @@ use Rattle.sp_verify_effects.specs.Facts.{has_fact, fact, Tells}
 use Rattle.sp_verify_effects.specs.Own.{DoesAt, OwnBefore}
 use Rattle.sp_verify_effects.specs.Edges.{EdgeAt, AreEdges}
 use Rattle.sp_verify_effects.specs.Effects.{ComesToStop}
-use Rattle.sp_verify_effects.specs.Asked.{FollowsEdges, is_asked, target}
-use Rattle.sp_verify_effects.specs.Closing.{is_own, is_index, fact_along, FactLeads, FollowsBy, Closes, IsEffectOf}
-use Rattle.sp_verify_effects.specs.Closing.{AreFacts}
+use Rattle.sp_verify_effects.specs.Asked.{is_asked}
+use Rattle.sp_verify_effects.specs.Closing.{is_own, is_index, fact_along, FactLeads, FollowsBy, FollowsEdges}
+use Rattle.sp_verify_effects.specs.Closing.{Closes, IsEffectOf, AreFacts}
 use Rattle.sp_verify_effects.specs.Variables.{AreOwn, owns}
 use Rattle.sp_verify_effects.proofs.Linking.{entry_within}
 use Rattle.sp_verify_effects.proofs.Owned.{begins, in_own, own_in}
@@ -207,9 +207,9 @@ module _ (c : Parts) (kept : (p : ℕ) → BreaksV1 c p → ⊥) (os : List Owne
         effect_by Loaded x = effect.Loads x
 
         abbrev HasFactOf : Area → Effect → Type 0
-        HasFactOf a d = IsArea c a → is_asked k (entry c a) ≡ true → has_fact new (fact (entry c a) d) ≡ true
+        HasFactOf a d = IsArea c a → is_asked k (entry c a) d ≡ true → has_fact new (fact (entry c a) d) ≡ true
 
-        own_there : (a : Area) (p : ℕ) (d : Effect) → IsArea c a → is_asked k (entry c a) ≡ true → IsInCodeOf c a p
+        own_there : (a : Area) (p : ℕ) (d : Effect) → IsArea c a → is_asked k (entry c a) d ≡ true → IsInCodeOf c a p
             → p < length c.instrs → DoesAt c a p d → has_fact new (fact (entry c a) d) ≡ true
         own_there a p d ia q w l h = closes.kept (fact (entry c a) d)
             (start.has (fact (entry c a) d) (p, l, ((a, (ia, w), refl, h), q)))
@@ -265,15 +265,15 @@ module _ (c : Parts) (kept : (p : ℕ) → BreaksV1 c p → ⊥) (os : List Owne
             (inl (ss, r, h))
 
         -- along an edge
-        goes : (p m n : ℕ) (e : Edge) (d x : Effect) → p < length c.instrs → EdgeAt c p m e → is_asked k n ≡ true
+        goes : (p m n : ℕ) (e : Edge) (d x : Effect) → p < length c.instrs → EdgeAt c p m e → is_asked k n x ≡ true
             → has_fact new (fact m d) ≡ true
             → fact_along e (is_own ks m d) d ≡ Some (fact n x) → has_fact new (fact n x) ≡ true
         goes p m n e d x l w q h s = closes.closed (fact m d) (fact n x) h (e, edges.has p m e l w, (s, q))
 
         -- what leads to what is asked about is asked about
-        followed : (p m n : ℕ) (e : Edge) → p < length c.instrs → EdgeAt c p m e → target e ≡ n → is_asked k n ≡ true
-            → is_asked k m ≡ true
-        followed p m n e l w t q = follows m e (edges.has p m e l w) (ap (is_asked k) t ∙ q)
+        followed : (p m n : ℕ) (e : Edge) (own : Bool) (d x : Effect) → p < length c.instrs → EdgeAt c p m e
+            → fact_along e own d ≡ Some (fact n x) → is_asked k n x ≡ true → is_asked k m d ≡ true
+        followed p m n e own d x l w s q = follows m e (edges.has p m e l w) own d (fact n x) s q
 
         from_child : (a : Area) (p j : ℕ) (t : ChildTable) (d : Effect) → IsStarted c a p j t
             → ((own : Bool) → fact_along (edge.Started (entry c a) t.index) own d ≡ Some (fact (entry c a) d))
@@ -282,8 +282,8 @@ module _ (c : Parts) (kept : (p : ℕ) → BreaksV1 c p → ⊥) (os : List Owne
             let e : Edge = edge.Started (entry c a) t.index in
             let l = table_within p j t s.1 in
             let w : EdgeAt c p t.entry e = inr (a, j, t, ia, s, (refl, refl)) in
-            let asks = subst (λ n. is_asked k n ≡ true) (sym (ap entry_of_child s.1))
-            (followed p t.entry (entry c a) e l w refl q) in
+            let asks = subst (λ n. is_asked k n d ≡ true) (sym (ap entry_of_child s.1))
+            (followed p t.entry (entry c a) e true d d l w (z true) q) in
             goes p t.entry (entry c a) e d d l w q
             (subst (λ n. has_fact new (fact n d) ≡ true) (ap entry_of_child s.1) (h (ia, s.0, (t, s.1)) asks))
             (z (is_own ks t.entry d))
@@ -305,10 +305,10 @@ module _ (c : Parts) (kept : (p : ℕ) → BreaksV1 c p → ⊥) (os : List Owne
             (no_index t.index x z)) h
 
         module _ (a : Area) (p f up : ℕ) (ss : List Shape) (l : Layout) (call : IsCalled c a p f up ss l) where
-          at_entry : (d : Effect) → HasFactOf (Body f) d → is_asked k l.entry ≡ true
+          at_entry : (d : Effect) → HasFactOf (Body f) d → is_asked k l.entry d ≡ true
               → has_fact new (fact l.entry d) ≡ true
           at_entry d h q = subst (λ n. has_fact new (fact n d) ≡ true) (ap entry_of_layout call.layout)
-              (h (l, call.layout) (subst (λ n. is_asked k n ≡ true) (sym (ap entry_of_layout call.layout)) q))
+              (h (l, call.layout) (subst (λ n. is_asked k n d ≡ true) (sym (ap entry_of_layout call.layout)) q))
 
           outer : (x : ℕ) → (IsMember x l.variables → ⊥) → owns ks l.entry x ≡ false
           outer x never = go (owns ks l.entry x) refl
@@ -325,7 +325,8 @@ module _ (c : Parts) (kept : (p : ℕ) → BreaksV1 c p → ⊥) (os : List Owne
               let e : Edge = edge.Called (entry c a) in
               let b = call_within p f up call.call in
               let w : EdgeAt c p l.entry e = inl (a, f, up, ss, l, ia, call, (refl, inl refl)) in
-              goes p l.entry (entry c a) e d d b w q (at_entry d h (followed p l.entry (entry c a) e b w refl q)) z
+              let asks = followed p l.entry (entry c a) e (is_own ks l.entry d) d d b w z q in
+              goes p l.entry (entry c a) e d d b w q (at_entry d h asks) z
 
           from_passed : (j y x : ℕ) (d o : Effect) → IsNumber l j y → IsActual l ss j x
               → ((own : Bool) → fact_along (edge.Passed (entry c a) y x) own d ≡ Some (fact (entry c a) o))
@@ -334,8 +335,8 @@ module _ (c : Parts) (kept : (p : ℕ) → BreaksV1 c p → ⊥) (os : List Owne
               let e : Edge = edge.Passed (entry c a) y x in
               let b = call_within p f up call.call in
               let w : EdgeAt c p l.entry e = inl (a, f, up, ss, l, ia, call, (refl, inr (j, y, x, num, act, refl))) in
-              goes p l.entry (entry c a) e d o b w q (at_entry d h (followed p l.entry (entry c a) e b w refl q))
-              (z (is_own ks l.entry d))
+              let asks = followed p l.entry (entry c a) e true d o b w (z true) q in
+              goes p l.entry (entry c a) e d o b w q (at_entry d h asks) (z (is_own ks l.entry d))
 
           if_same : (y : ℕ) (g : Fact) → ◌≡◌ {A = Option Fact} (if y == y then Some g else None) (Some g)
           if_same y g = ap (λ (b : Bool). if b then Some g else None) (eq-eqb y y refl)
@@ -366,7 +367,7 @@ module _ (c : Parts) (kept : (p : ℕ) → BreaksV1 c p → ⊥) (os : List Owne
             (λ b p j t s z. from_child b p j t effect.Stops s (λ own. refl) z)
             (λ b p f up ss l call z. from_called b p f up ss l call effect.Stops refl z) bs a h
 
-        complete : (a : Area) (d : Effect) → IsArea c a → is_asked k (entry c a) ≡ true → IsEffectOf c a d
+        complete : (a : Area) (d : Effect) → IsArea c a → is_asked k (entry c a) d ≡ true → IsEffectOf c a d
             → has_fact new (fact (entry c a) d) ≡ true
         complete a (effect.Stores x) ia q h = effect_has Stored a x h ia q
         complete a (effect.Loads x) ia q h = effect_has Loaded a x h ia q

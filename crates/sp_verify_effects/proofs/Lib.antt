@@ -5,6 +5,7 @@ mod Lying
 mod Again
 mod Linking
 mod Spreading
+mod Allowing
 mod Asking
 mod Exact
 mod Rows

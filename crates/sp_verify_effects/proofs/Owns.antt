@@ -27,10 +27,11 @@ use Rattle.sp_verify_effects.specs.declared.facts.Fact.{Fact}
 use Rattle.sp_verify_effects.specs.declared.facts.Effect.{Effect}
 use Rattle.sp_verify_effects.specs.declared.facts.Effect.TheVariants as effect
 use Rattle.sp_verify_effects.specs.Facts.{fact, with_fact, Tells}
-use Rattle.sp_verify_effects.specs.Asked.{is_asked}
+use Rattle.sp_verify_effects.specs.Asked.{is_asked, is_marked}
 use Rattle.sp_verify_effects.specs.Own.{IsOf, IsEffectAmong, IsStop, IsHanded, OneIsHanded, ForkedAt, ReachedAt, OwnAt}
-use Rattle.sp_verify_effects.specs.Own.{AskedAt, OwnBefore}
+use Rattle.sp_verify_effects.specs.Own.{AskedAt, OwnBefore, TellsAsked}
 use Rattle.sp_verify_effects.specs.Own.{DoesBy, effect_of}
+use Rattle.sp_verify_effects.proofs.Asking.{marked}
 use Rattle.sp_verify_effects.proofs.Telling.{tells_none, tells_as, tells_then, tells_one}
 
 -- ---- lists
@@ -70,20 +71,60 @@ taken_in xs i x y e h = subst (λ n. IsIn x (take n xs)) (sym (add-one i)) (firs
 pub fact_is : (n : ℕ) (e : Effect) (f : Fact) → f.area ≡ n → f.effect ≡ e → f ≡ fact n e
 fact_is n e f p q = λ i. record { area = p i; effect = q i }
 
+-- ---- what is asked about
+
+module _ (k : Asked) where
+  abbrev pub IsWanted : Fact → Type 0
+  IsWanted f = is_asked k f.area f.effect ≡ true
+
+  pub asked_as : (a b : List Fact) (W V : Fact → Type 0) → ((f : Fact) → W f → V f) → ((f : Fact) → V f → W f)
+      → TellsAsked k a b W → TellsAsked k a b V
+  asked_as a b W V to from t = tells_as a b (λ f. W f × IsWanted f) (λ f. V f × IsWanted f)
+      (λ f w. (to f w.0, w.1)) (λ f w. (from f w.0, w.1)) t
+
+  pub asked_then : (a b d : List Fact) (W V : Fact → Type 0) → TellsAsked k a b W → TellsAsked k b d V
+      → TellsAsked k a d (λ f. W f ⊎ V f)
+  asked_then a b d W V s t = tells_as a d (λ f. (W f × IsWanted f) ⊎ (V f × IsWanted f))
+      (λ f. (W f ⊎ V f) × IsWanted f) to from (tells_then a b d (λ f. W f × IsWanted f) (λ f. V f × IsWanted f) s t)
+    where
+      to : (f : Fact) → (W f × IsWanted f) ⊎ (V f × IsWanted f) → (W f ⊎ V f) × IsWanted f
+      to f (inl w) = (inl w.0, w.1)
+      to f (inr w) = (inr w.0, w.1)
+
+      from : (f : Fact) → (W f ⊎ V f) × IsWanted f → (W f × IsWanted f) ⊎ (V f × IsWanted f)
+      from f (inl w, q) = inl (w, q)
+      from f (inr w, q) = inr (w, q)
+
+  pub asked_none : (a : List Fact) (W : Fact → Type 0) → ((f : Fact) → W f → ⊥) → TellsAsked k a a W
+  asked_none a W h = tells_none a (λ f. W f × IsWanted f) (λ f w. absurd (h f w.0))
+
+  same_wanted : (n : ℕ) (e : Effect) (f : Fact) → f ≡ fact n e
+      → is_asked k f.area f.effect ≡ is_asked k n e
+  same_wanted n e f s = ap (λ (z : Fact). is_asked k z.area z.effect) s
+
+  pub one_asked : (a : List Fact) (n : ℕ) (e : Effect) → is_asked k n e ≡ true
+      → TellsAsked k a (with_fact a (fact n e)) (λ f. f ≡ fact n e)
+  one_asked a n e h = tells_as a (with_fact a (fact n e)) (λ f. f ≡ fact n e) (λ f. (f ≡ fact n e) × IsWanted f)
+      (λ f s. (s, same_wanted n e f s ∙ h)) (λ f w. w.0) (tells_one a (fact n e))
+
+  pub one_unasked : (a : List Fact) (n : ℕ) (e : Effect) → is_asked k n e ≡ false
+      → TellsAsked k a a (λ f. f ≡ fact n e)
+  one_unasked a n e h = tells_none a (λ f. (f ≡ fact n e) × IsWanted f)
+      (λ f w. absurd (not_true_and_false (is_asked k n e) (sym (same_wanted n e f w.0) ∙ w.1) h))
+
 -- what an area does in one way more
 pub of_one : (n : ℕ) (e : Effect) (g : Fact) (D : Effect → Type 0) (f : Fact) → g ≡ fact n e → f ≡ g → D e → IsOf n D f
 of_one n e g D f s h d = let p = h
     ∙ s in record { area = ap (λ (x : Fact). x.area) p; does = subst D (sym (ap (λ (x : Fact). x.effect) p)) d }
 
-pub told_more : (a b : List Fact) (n i y : ℕ) (s : Bool) (xs : List ℕ) (e : Effect) → slice_get xs i ≡ Some y
-    → e ≡ effect_of s y
-    → Tells a b (IsOf n (IsEffectAmong s (take i xs)))
-    → Tells a (with_fact b (fact n e)) (IsOf n (IsEffectAmong s (take (i + 1) xs)))
-told_more a b n i y s xs e g h t =
-    tells_as a (with_fact b (fact n e)) (λ f. IsOf n (IsEffectAmong s (take i xs)) f
+pub told_more : (k : Asked) (a b d : List Fact) (n i y : ℕ) (s : Bool) (xs : List ℕ) (e : Effect)
+    → slice_get xs i ≡ Some y → e ≡ effect_of s y
+    → TellsAsked k a b (IsOf n (IsEffectAmong s (take i xs))) → TellsAsked k b d (λ f. f ≡ fact n e)
+    → TellsAsked k a d (IsOf n (IsEffectAmong s (take (i + 1) xs)))
+told_more k a b d n i y s xs e g h t u =
+    asked_as k a d (λ f. IsOf n (IsEffectAmong s (take i xs)) f
     ⊎ (f ≡ fact n e)) (IsOf n (IsEffectAmong s (take (i + 1) xs))) to from
-    (tells_then a b (with_fact b (fact n e)) (IsOf n (IsEffectAmong s (take i xs))) (λ f. f ≡ fact n e) t
-    (tells_one b (fact n e)))
+    (asked_then k a b d (IsOf n (IsEffectAmong s (take i xs))) (λ f. f ≡ fact n e) t u)
   where
     to : (f : Fact) → IsOf n (IsEffectAmong s (take i xs)) f ⊎ (f ≡ fact n e)
         → IsOf n (IsEffectAmong s (take (i + 1) xs)) f
@@ -96,26 +137,26 @@ told_more a b n i y s xs e g h t =
     from f o = ⊎_elim (λ m. inl (record { area = o.area; does = (o.does.0, m, o.does.2) }))
         (λ m. inr (fact_is n e f o.area (o.does.2 ∙ ap (effect_of s) m ∙ sym h))) (in_taken xs i o.does.0 y g o.does.1)
 
-pub stop_told : (a : List Fact) (n : ℕ) (o : Instr) → is_stop (Some o) ≡ true
-    → Tells a (with_fact a (fact n effect.Stops)) (IsOf n (IsStop (Some o)))
-stop_told a n o e =
-    tells_as a (with_fact a (fact n effect.Stops)) (λ f. f ≡ fact n effect.Stops) (IsOf n (IsStop (Some o)))
+pub stop_told : (k : Asked) (a b : List Fact) (n : ℕ) (o : Instr) → is_stop (Some o) ≡ true
+    → TellsAsked k a b (λ f. f ≡ fact n effect.Stops) → TellsAsked k a b (IsOf n (IsStop (Some o)))
+stop_told k a b n o e t =
+    asked_as k a b (λ f. f ≡ fact n effect.Stops) (IsOf n (IsStop (Some o)))
     (λ f p. of_one n effect.Stops (fact n effect.Stops) (IsStop (Some o)) f refl p (e, refl))
-    (λ f h. fact_is n effect.Stops f h.area h.does.1) (tells_one a (fact n effect.Stops))
+    (λ f h. fact_is n effect.Stops f h.area h.does.1) t
 
 -- ---- an instruction
 
-module _ (c : Parts) (a : Area) (p : ℕ) (ss : List Shape) where
+module _ (q : Asked) (c : Parts) (a : Area) (p : ℕ) (ss : List Shape) where
   pub shaped_told : (f g h k : List Fact) (n : ℕ) (o : Instr) (xs ys : List ℕ) → instr_at c p ≡ Some o
       → stored_by c a (Some o) ss ≡ xs → loaded_by c a (Some o) ss ≡ ys
-      → Tells f g (IsOf n (IsEffectAmong true xs)) → Tells g h (IsOf n (IsEffectAmong false ys))
-      → Tells h k (IsOf n (IsStop (Some o))) → Tells f k (IsOf n (DoesBy c a p ss))
+      → TellsAsked q f g (IsOf n (IsEffectAmong true xs)) → TellsAsked q g h (IsOf n (IsEffectAmong false ys))
+      → TellsAsked q h k (IsOf n (IsStop (Some o))) → TellsAsked q f k (IsOf n (DoesBy c a p ss))
   shaped_told f g h k n o xs ys ei ex ey t u v =
-      tells_as f k (λ z. (IsOf n (IsEffectAmong true xs) z ⊎ IsOf n (IsEffectAmong false ys) z)
+      asked_as q f k (λ z. (IsOf n (IsEffectAmong true xs) z ⊎ IsOf n (IsEffectAmong false ys) z)
       ⊎ IsOf n (IsStop (Some o)) z) (IsOf n (DoesBy c a p ss)) to from
-      (tells_then f h k (λ z. IsOf n (IsEffectAmong true xs) z
+      (asked_then q f h k (λ z. IsOf n (IsEffectAmong true xs) z
       ⊎ IsOf n (IsEffectAmong false ys) z) (IsOf n (IsStop (Some o)))
-      (tells_then f g h (IsOf n (IsEffectAmong true xs)) (IsOf n (IsEffectAmong false ys)) t u) v)
+      (asked_then q f g h (IsOf n (IsEffectAmong true xs)) (IsOf n (IsEffectAmong false ys)) t u) v)
     where
       es : stored_by c a (instr_at c p) ss ≡ xs
       es = ap (λ (z : Option Instr). stored_by c a z ss) ei ∙ ex
@@ -155,12 +196,13 @@ module _ (c : Parts) (a : Area) (p : ℕ) (ss : List Shape) where
 
 -- ---- children
 
-pub child_told : (f g h : List Fact) (n : ℕ) (t : ChildTable) (ms ss : List ℕ) → ms ≡ t.moved → ss ≡ t.shared
-    → Tells f g (IsOf n (IsEffectAmong true ms)) → Tells g h (IsOf n (IsEffectAmong false ss))
-    → Tells f h (IsOf n (IsHanded t))
-child_told f g h n t ms ss em es u v = tells_as f h (λ z. IsOf n (IsEffectAmong true ms) z
+pub child_told : (k : Asked) (f g h : List Fact) (n : ℕ) (t : ChildTable) (ms ss : List ℕ) → ms ≡ t.moved
+    → ss ≡ t.shared
+    → TellsAsked k f g (IsOf n (IsEffectAmong true ms)) → TellsAsked k g h (IsOf n (IsEffectAmong false ss))
+    → TellsAsked k f h (IsOf n (IsHanded t))
+child_told k f g h n t ms ss em es u v = asked_as k f h (λ z. IsOf n (IsEffectAmong true ms) z
     ⊎ IsOf n (IsEffectAmong false ss) z) (IsOf n (IsHanded t)) to from
-    (tells_then f g h (IsOf n (IsEffectAmong true ms)) (IsOf n (IsEffectAmong false ss)) u v)
+    (asked_then k f g h (IsOf n (IsEffectAmong true ms)) (IsOf n (IsEffectAmong false ss)) u v)
   where
     to : (z : Fact) → IsOf n (IsEffectAmong true ms) z ⊎ IsOf n (IsEffectAmong false ss) z → IsOf n (IsHanded t) z
     to z (inl w) = record {
@@ -183,12 +225,13 @@ child_told f g h n t ms ss em es u v = tells_as f h (λ z. IsOf n (IsEffectAmong
     from z w = ⊎_elim (λ q. inl (record { area = w.area; does = q })) (λ q. inr (record { area = w.area; does = q }))
         (split z.effect w.does)
 
-pub children_more : (f g h : List Fact) (n k : ℕ) (t : ChildTable) (ts : List ChildTable) → slice_get ts k ≡ Some t
-    → Tells f g (IsOf n (OneIsHanded ts k)) → Tells g h (IsOf n (IsHanded t))
-    → Tells f h (IsOf n (OneIsHanded ts (k + 1)))
-children_more f g h n k t ts e u v = tells_as f h (λ z. IsOf n (OneIsHanded ts k) z
+pub children_more : (q : Asked) (f g h : List Fact) (n k : ℕ) (t : ChildTable) (ts : List ChildTable)
+    → slice_get ts k ≡ Some t
+    → TellsAsked q f g (IsOf n (OneIsHanded ts k)) → TellsAsked q g h (IsOf n (IsHanded t))
+    → TellsAsked q f h (IsOf n (OneIsHanded ts (k + 1)))
+children_more q f g h n k t ts e u v = asked_as q f h (λ z. IsOf n (OneIsHanded ts k) z
     ⊎ IsOf n (IsHanded t) z) (IsOf n (OneIsHanded ts (k + 1))) to from
-    (tells_then f g h (IsOf n (OneIsHanded ts k)) (IsOf n (IsHanded t)) u v)
+    (asked_then q f g h (IsOf n (OneIsHanded ts k)) (IsOf n (IsHanded t)) u v)
   where
     to : (z : Fact) → IsOf n (OneIsHanded ts k) z ⊎ IsOf n (IsHanded t) z → IsOf n (OneIsHanded ts (k + 1)) z
     to z (inl w) = record {
@@ -209,18 +252,18 @@ children_more f g h n k t ts e u v = tells_as f h (λ z. IsOf n (OneIsHanded ts 
 
 -- ---- at an instruction
 
-module _ (c : Parts) (p : ℕ) where
+module _ (q : Asked) (c : Parts) (p : ℕ) where
   -- ---- where it is reached
 
   module _ (shapes : Shapes) (are : AreShapes c shapes) where
-    pub not_reached : (f : List Fact) → reached_at shapes p ≡ None → Tells f f (ReachedAt c p)
-    not_reached f e = tells_none f (ReachedAt c p) (λ z w. absurd (let k = are.all w.0 p w.1 w.2 in none-some k.0 (sym e
-        ∙ reached_there shapes p k.0 k.1)))
+    pub not_reached : (f : List Fact) → reached_at shapes p ≡ None → TellsAsked q f f (ReachedAt c p)
+    not_reached f e = asked_none q f (ReachedAt c p) (λ z w. let k = are.all w.0 p w.1 w.2 in none-some k.0 (sym e
+        ∙ reached_there shapes p k.0 k.1))
 
     pub reached_told : (f g : List Fact) (n s : ℕ) (a : Area) → reached_at shapes p ≡ Some s → LiesOnlyIn c p a
         → entry c a ≡ n
-        → Tells f g (IsOf n (DoesBy c a p (list_of shapes.stacks s))) → Tells f g (ReachedAt c p)
-    reached_told f g n s a e only at t = tells_as f g (IsOf n (DoesBy c a p (list_of shapes.stacks s)))
+        → TellsAsked q f g (IsOf n (DoesBy c a p (list_of shapes.stacks s))) → TellsAsked q f g (ReachedAt c p)
+    reached_told f g n s a e only at t = asked_as q f g (IsOf n (DoesBy c a p (list_of shapes.stacks s)))
         (ReachedAt c p) to from t
       where
         here : slice_get shapes.at p ≡ Some (Some s)
@@ -243,23 +286,23 @@ module _ (c : Parts) (p : ℕ) where
 
         from : (z : Fact) → ReachedAt c p z → IsOf n (DoesBy c a p (list_of shapes.stacks s)) z
         from z (b, ss, w, h, d) =
-            let q : b ≡ a = same_area b ss w in
+            let o : b ≡ a = same_area b ss w in
             let k = are.all b p ss w in
             let i : s ≡ k.0 = same_Some s k.0 (same_Some (Some s) (Some k.0) (sym here ∙ k.1)) in
             let l : ss ≡ list_of shapes.stacks s = sym k.2 ∙ ap (list_of shapes.stacks) (sym i) in
             record {
-              area = h ∙ ap (entry c) q
+              area = h ∙ ap (entry c) o
                   ∙ at;
               does = subst (λ (y : List Shape). DoesBy c a p y z.effect) l
-                  (subst (λ (y : Area). DoesBy c y p ss z.effect) q d);
+                  (subst (λ (y : Area). DoesBy c y p ss z.effect) o d);
             }
 
   -- ---- both
 
-  pub at_told : (f g h : List Fact) (n : ℕ) (a : Area) → LiesOnlyIn c p a → entry c a ≡ n → Tells f g (ReachedAt c p)
-      → Tells g h (IsOf n (ForkedAt c p)) → Tells f h (OwnAt c p)
-  at_told f g h n a only at u v = tells_as f h (λ z. ReachedAt c p z
-      ⊎ IsOf n (ForkedAt c p) z) (OwnAt c p) to from (tells_then f g h (ReachedAt c p) (IsOf n (ForkedAt c p)) u v)
+  pub at_told : (f g h : List Fact) (n : ℕ) (a : Area) → LiesOnlyIn c p a → entry c a ≡ n
+      → TellsAsked q f g (ReachedAt c p) → TellsAsked q g h (IsOf n (ForkedAt c p)) → Tells f h (AskedAt c q p)
+  at_told f g h n a only at u v = asked_as q f h (λ z. ReachedAt c p z
+      ⊎ IsOf n (ForkedAt c p) z) (OwnAt c p) to from (asked_then q f g h (ReachedAt c p) (IsOf n (ForkedAt c p)) u v)
     where
       to : (z : Fact) → ReachedAt c p z ⊎ IsOf n (ForkedAt c p) z → OwnAt c p z
       to z (inl (b, ss, w, e, d)) = (b, (w.0, passes c b p ss w.1), e, inl (ss, w.1, d))
@@ -283,14 +326,9 @@ module _ (c : Parts) (p : ℕ) (a : Area) (n : ℕ) (only : LiesOnlyIn c p a) (a
   own_area : (z : Fact) → OwnAt c p z → z.area ≡ n
   own_area z w = w.2 ∙ ap (entry c) (only.1 w.0 w.1) ∙ at
 
-  pub asked_told : (k : Asked) (f g : List Fact) → is_asked k n ≡ true → Tells f g (OwnAt c p)
-      → Tells f g (AskedAt c k p)
-  asked_told k f g h t = tells_as f g (OwnAt c p) (AskedAt c k p) (λ z w. (w, ap (is_asked k) (own_area z w) ∙ h))
-      (λ z w. w.0) t
-
-  pub none_asked : (k : Asked) (f : List Fact) → is_asked k n ≡ false → Tells f f (AskedAt c k p)
-  none_asked k f h = tells_none f (AskedAt c k p) (λ z w. absurd (not_true_and_false (is_asked k n)
-      (ap (is_asked k) (sym (own_area z w.0)) ∙ w.1) h))
+  pub none_asked : (k : Asked) (f : List Fact) → is_marked k n ≡ false → Tells f f (AskedAt c k p)
+  none_asked k f h = tells_none f (AskedAt c k p) (λ z w. absurd (not_true_and_false (is_marked k n)
+      (ap (is_marked k) (sym (own_area z w.0)) ∙ marked k z.area z.effect w.1) h))
 
 -- ---- at all
 

@@ -31,7 +31,7 @@ use Rattle.sp_verify_shapes.specs.Reached.{reached_at}
 use Rattle.sp_verify_shapes.specs.Stacks.{list_of}
 use Rattle.sp_verify_shapes.proofs.Reaching.{reached_there, stands}
 use Rattle.sp_verify_effects.specs.declared.effects.Effects.{Effects}
-use Rattle.sp_verify_effects.specs.Asked.{is_asked}
+use Rattle.sp_verify_effects.specs.Asked.{AsksAll, is_asked}
 use Rattle.sp_verify_effects.specs.Effects.{AreEffects, touches}
 use Rattle.sp_verify_effects.specs.Calls.{CallFails, actual_at, actual_of, actuals, call_clashes, is_outer}
 use Rattle.sp_verify_effects.specs.Calls.{list_of_option}
@@ -270,8 +270,8 @@ reference_there (formal.Value n ∷ fs) (suc k) cells e = reference_there fs k c
 
 module _ (c : Parts) (e : Effects) (are : AreEffects c e) (kept : (p : ℕ) → BreaksV1 c p → ⊥) (l : Layout) (b : ℕ)
     (at : layout_of c.layouts b ≡ Some l) (ss : List Shape) where
-  -- a block with an actual variable is asked about
-  asks : (k x : ℕ) → IsActual l ss k x → is_asked e.asked l.entry ≡ true
+  -- all is asked about a block with an actual variable
+  asks : (k x : ℕ) → IsActual l ss k x → AsksAll e.asked l.entry
   asks k x f =
       let r = place_there c.layouts b l at in
       are.asks.layouts r.0 l r.2
@@ -279,8 +279,8 @@ module _ (c : Parts) (e : Effects) (are : AreEffects c e) (kept : (p : ℕ) → 
 
   touched : (k x : ℕ) → IsActual l ss k x → (touches e l.entry x ≡ true) ↔ HasEffect c (Does c) (Body b) x
   touched k x f = subst (λ n. (touches e n x ≡ true) ↔ HasEffect c (Does c) (Body b) x) (ap entry_of_layout at)
-      (are.touched (Body b) x (l, at) (subst (λ m. is_asked e.asked m ≡ true) (sym (ap entry_of_layout at))
-      (asks k x f)))
+      (are.touched (Body b) x (l, at) (λ d. subst (λ m. is_asked e.asked m d ≡ true) (sym (ap entry_of_layout at))
+      (asks k x f d)))
 
   abbrev pub Xs : List ℕ
   Xs = actuals l.formals ss (length l.formals)

@@ -17,7 +17,7 @@ use Rattle.sp_verify_effects.specs.declared.effects.EffectRow.{EffectRow}
 use Rattle.sp_verify_effects.specs.declared.facts.Fact.{Fact}
 use Rattle.sp_verify_effects.specs.declared.facts.Effect.{Effect}
 use Rattle.sp_verify_effects.specs.declared.facts.Effect.TheVariants as effect
-use Rattle.sp_verify_effects.specs.Asked.{Asks, is_asked}
+use Rattle.sp_verify_effects.specs.Asked.{Asks, AsksAll, is_asked}
 use Rattle.sp_verify_effects.specs.Facts.{has_fact, fact}
 use Rattle.sp_verify_effects.specs.Effects.{InRow, RowsHave, AddsEffect, WritesFact, AreRows, IsRowOf, AreEffects}
 use Rattle.sp_verify_effects.specs.Effects.{touches}
@@ -198,7 +198,7 @@ row_at (r ∷ rows) (suc m) l = row_at rows m (omega (arith, l))
 module _ (c : Parts) (kept : (p : ℕ) → BreaksV1 c p
     → ⊥) (k : Asked) (asks : Asks c k) (fs : List Fact) (facts : AreFacts c k fs) (rows : List EffectRow)
     (are : AreRows fs (length fs) (length c.instrs) rows) (own : BTreeSet (ℕ × ℕ)) (are_own : AreOwn c own.keys) where
-  row_is : (a : Area) (r : EffectRow) (d : Effect) → IsArea c a → is_asked k (entry c a) ≡ true
+  row_is : (a : Area) (r : EffectRow) (d : Effect) → IsArea c a → is_asked k (entry c a) d ≡ true
       → slice_get rows (entry c a) ≡ Some r → InRow r d ↔ IsEffectOf c a d
   row_is a r d ia q e = (λ i. (facts a d ia q).0 (are.only (entry c a) d (r, e, i)), back)
     where
@@ -212,28 +212,28 @@ module _ (c : Parts) (kept : (p : ℕ) → BreaksV1 c p
   pub are_effects : AreEffects c (record { rows = rows; facts = fs; own = own; asked = k })
   are_effects = record { asks = asks; rows = there; touched = touched; own = are_own }
     where
-      there : (a : Area) → IsArea c a → is_asked k (entry c a) ≡ true
-          → (r : EffectRow) × (slice_get rows (entry c a) ≡ Some r) × IsRowOf c a r
-      there a ia q =
+      there : (a : Area) → IsArea c a → (r : EffectRow) × (slice_get rows (entry c a) ≡ Some r) × IsRowOf c k a r
+      there a ia =
           let r = row_at rows (entry c a) (subst (λ n. entry c a < n) (sym are.size) (entry_within c kept a ia)) in (
             r.0,
             r.1,
             record {
-              stored = λ x. row_is a r.0 (effect.Stores x) ia q r.1;
-              loaded = λ x. row_is a r.0
+              stored = λ x q. row_is a r.0 (effect.Stores x) ia q r.1;
+              loaded = λ x q. row_is a r.0
                   (effect.Loads x) ia q r.1;
-              stops = row_is a r.0 effect.Stops ia q r.1;
+              stops = λ q. row_is a r.0 effect.Stops ia q r.1;
             },
           )
 
-      touched : (a : Area) (x : ℕ) → IsArea c a → is_asked k (entry c a) ≡ true
+      touched : (a : Area) (x : ℕ) → IsArea c a → AsksAll k (entry c a)
           → IsTrue (touches (record { rows = rows; facts = fs; own = own; asked = k }) (entry c a) x)
           ↔ HasEffect c (Does c) a x
       touched a x ia q = (
-        λ i. ⊎_elim (λ h. inl ((facts a (effect.Stores x) ia q).0 h)) (λ h. inr ((facts a (effect.Loads x) ia q).0 h))
+        λ i. ⊎_elim (λ h. inl ((facts a (effect.Stores x) ia (q (effect.Stores x))).0 h))
+            (λ h. inr ((facts a (effect.Loads x) ia (q (effect.Loads x))).0 h))
             (or_cases s l i),
-        λ w. ⊎_elim (λ h. or_left s l ((facts a (effect.Stores x) ia q).1 h))
-            (λ h. or_right s l ((facts a (effect.Loads x) ia q).1 h)) w,
+        λ w. ⊎_elim (λ h. or_left s l ((facts a (effect.Stores x) ia (q (effect.Stores x))).1 h))
+            (λ h. or_right s l ((facts a (effect.Loads x) ia (q (effect.Loads x))).1 h)) w,
       )
         where
           s : Bool

@@ -7,7 +7,7 @@ use Rattle.std.proofs.lemmas.Bool.{and_from, and_parts, or_cases, or_left, or_ri
 use Rattle.sp_code.specs.declared.code.Layout.{Layout}
 use Rattle.sp_code.specs.declared.code.Parts.{Parts}
 use Rattle.sp_code.specs.Machine.{layout_of}
-use Rattle.sp_verify_rules.specs.Areas.{Body, entry_of_layout}
+use Rattle.sp_verify_rules.specs.Areas.{Body, entry, entry_of_layout}
 use Rattle.sp_verify_rules.specs.Effects.{Does}
 use Rattle.sp_verify_rules.specs.Forks as fork
 use Rattle.sp_verify_rules.specs.Named.{BreaksV1}
@@ -17,7 +17,9 @@ use Rattle.sp_verify_areas.specs.LeastPlaces.{IsLeast, Upto}
 use Rattle.sp_verify_areas.proofs.Leasts.{all}
 use Rattle.sp_verify_effects.specs.declared.effects.EffectRow.{EffectRow}
 use Rattle.sp_verify_effects.specs.declared.effects.Effects.{Effects}
-use Rattle.sp_verify_effects.specs.Asked.{is_asked}
+use Rattle.sp_verify_effects.specs.declared.asked.Asked.{Asked}
+use Rattle.sp_verify_effects.specs.declared.facts.Effect.TheVariants as effect
+use Rattle.sp_verify_effects.specs.Asked.{AsksAll, is_asked}
 use Rattle.sp_verify_effects.specs.Effects.{AreEffects, IsRowOf}
 use Rattle.sp_verify_effects.specs.SideEffects.{HasSideEffects, LayoutHasSideEffects, has_side_effects}
 use Rattle.sp_verify_effects.specs.Variables.{AreOwn, goes_out}
@@ -59,29 +61,33 @@ module _ (c : Parts) (kept : (p : ℕ) → BreaksV1 c p → ⊥) (ks : List (ℕ
 -- ---- the row of a block
 
 pub body_row : (c : Parts) (e : Effects) (are : AreEffects c e) (l : Layout) → layout_of c.layouts l.block ≡ Some l
-    → is_asked e.asked l.entry ≡ true
-    → (d : EffectRow) × (slice_get e.rows l.entry ≡ Some d) × IsRowOf c (Body l.block) d
-body_row c e are l is asks =
-    let r = are.rows (Body l.block) (l, is)
-    (subst (λ m. is_asked e.asked m ≡ true) (sym (ap entry_of_layout is)) asks) in
+    → (d : EffectRow) × (slice_get e.rows l.entry ≡ Some d) × IsRowOf c e.asked (Body l.block) d
+body_row c e are l is =
+    let r = are.rows (Body l.block) (l, is) in
     (r.0, ap (slice_get e.rows) (sym (ap entry_of_layout is)) ∙ r.1, r.2)
+
+pub asked_body : (c : Parts) (k : Asked) (l : Layout) → layout_of c.layouts l.block ≡ Some l → AsksAll k l.entry
+    → AsksAll k (entry c (Body l.block))
+asked_body c k l is asks = λ d. subst (λ m. is_asked k m d ≡ true) (sym (ap entry_of_layout is)) (asks d)
 
 -- ---- V8
 
 module _ (c : Parts) (e : Effects) (are : AreEffects c e) (kept : (p : ℕ) → BreaksV1 c p → ⊥) where
-  to_rule : (l : Layout) (d : EffectRow) → IsRowOf c (Body l.block) d → HasSideEffects l (Some d)
-      → fork.BreaksV8 c (Does c) (HasStop c) l l.block
-  to_rule l d effects_of (a, inl (x, i, m)) = (a, inl (x, (effects_of.stored x).0 i, m))
-  to_rule l d effects_of (a, inr s) = (a, inr (effects_of.stops.0 s))
+  module _ (l : Layout) (q : AsksAll e.asked (entry c (Body l.block))) (d : EffectRow)
+      (effects_of : IsRowOf c e.asked (Body l.block) d) where
+    to_rule : HasSideEffects l (Some d) → fork.BreaksV8 c (Does c) (HasStop c) l l.block
+    to_rule (a, inl (x, i, m)) = (a, inl (x, (effects_of.stored x (q (effect.Stores x))).0 i, m))
+    to_rule (a, inr s) = (a, inr ((effects_of.stops (q effect.Stops)).0 s))
 
-  from_rule : (l : Layout) (d : EffectRow) → IsRowOf c (Body l.block) d → fork.BreaksV8 c (Does c) (HasStop c) l l.block
-      → HasSideEffects l (Some d)
-  from_rule l d effects_of (a, inl (x, i, m)) = (a, inl (x, (effects_of.stored x).1 i, m))
-  from_rule l d effects_of (a, inr s) = (a, inr (effects_of.stops.1 s))
+    from_rule : fork.BreaksV8 c (Does c) (HasStop c) l l.block → HasSideEffects l (Some d)
+    from_rule (a, inl (x, i, m)) = (a, inl (x, (effects_of.stored x (q (effect.Stores x))).1 i, m))
+    from_rule (a, inr s) = (a, inr ((effects_of.stops (q effect.Stops)).1 s))
 
-  -- a block that answers is asked about
-  asks : (j : ℕ) (l : Layout) → slice_get c.layouts j ≡ Some l → l.answer ≡ true → is_asked e.asked l.entry ≡ true
-  asks j l is a = are.asks.layouts j l is (or_left l.answer (some_reference l.formals) a)
+  -- all is asked about a block that answers
+  asks : (j : ℕ) (l : Layout) → slice_get c.layouts j ≡ Some l → l.answer ≡ true
+      → AsksAll e.asked (entry c (Body l.block))
+  asks j l is a = asked_body c e.asked l (layout_here c kept j l is)
+      (are.asks.layouts j l is (or_left l.answer (some_reference l.formals) a))
 
   answers : (l : Layout) (o : Option EffectRow) → HasSideEffects l o → l.answer ≡ true
   answers l None h = absurd h
@@ -89,17 +95,18 @@ module _ (c : Parts) (e : Effects) (are : AreEffects c e) (kept : (p : ℕ) → 
 
   found : (j p : ℕ) → LayoutHasSideEffects e c.layouts j p → BreaksV8 c p
   found j p (l, is, at, h) =
-      let r = body_row c e are l (layout_here c kept j l is) (asks j l is (answers l (slice_get e.rows l.entry) h)) in
-      (l, (j, is), at, to_rule l r.0 r.2 (subst (HasSideEffects l) r.1 h))
+      let r = body_row c e are l (layout_here c kept j l is) in
+      let q = asks j l is (answers l (slice_get e.rows l.entry) h) in
+      (l, (j, is), at, to_rule l q r.0 r.2 (subst (HasSideEffects l) r.1 h))
 
   finds : (p : ℕ) → BreaksV8 c p → Upto (LayoutHasSideEffects e c.layouts) (length c.layouts) p
   finds p (l, (j, is), at, h) =
-      let r = body_row c e are l (layout_here c kept j l is) (asks j l is h.0) in
+      let r = body_row c e are l (layout_here c kept j l is) in
       record {
         item = j;
         below = slice_get_within c.layouts j l is;
         holds =
-            (l, is, at, subst (HasSideEffects l) (sym r.1) (from_rule l r.0 r.2 h));
+            (l, is, at, subst (HasSideEffects l) (sym r.1) (from_rule l (asks j l is h.0) r.0 r.2 h));
       }
 
   pub v8_least : (o : Option ℕ) → IsLeast (Upto (LayoutHasSideEffects e c.layouts) (length c.layouts)) o

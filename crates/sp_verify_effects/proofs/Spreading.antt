@@ -84,15 +84,18 @@ first_all c ls n ks s e h = subst (λ (xs : List Layout). (q : ℕ × ℕ) → (
 
 -- ---- along edges
 
-pub carried_told : (fs : List Fact) (k : Asked) (o : Option Fact) (g : Fact) → o ≡ Some g → is_asked k g.area ≡ true
-    → Tells fs (with_fact fs g) (λ f. (o ≡ Some f) × (is_asked k f.area ≡ true))
-carried_told fs k o g e q = tells_as fs (with_fact fs g) (λ f. f ≡ g) (λ f. (o ≡ Some f) × (is_asked k f.area ≡ true))
-    (λ f s. (e ∙ ap Some (sym s), ap (λ (z : Fact). is_asked k z.area) s ∙ q)) (λ f s. same_Some f g (sym s.0 ∙ e))
+pub carried_told : (fs : List Fact) (k : Asked) (o : Option Fact) (g : Fact) → o ≡ Some g
+    → is_asked k g.area g.effect ≡ true
+    → Tells fs (with_fact fs g) (λ f. (o ≡ Some f) × (is_asked k f.area f.effect ≡ true))
+carried_told fs k o g e q = tells_as fs (with_fact fs g) (λ f. f ≡ g)
+    (λ f. (o ≡ Some f) × (is_asked k f.area f.effect ≡ true))
+    (λ f s. (e ∙ ap Some (sym s), ap (λ (z : Fact). is_asked k z.area z.effect) s ∙ q))
+    (λ f s. same_Some f g (sym s.0 ∙ e))
     (tells_one fs g)
 
 pub not_carried : (fs : List Fact) (k : Asked) (o : Option Fact)
-    → ((g : Fact) → o ≡ Some g → is_asked k g.area ≡ true → ⊥)
-    → Tells fs fs (λ f. (o ≡ Some f) × (is_asked k f.area ≡ true))
+    → ((g : Fact) → o ≡ Some g → is_asked k g.area g.effect ≡ true → ⊥)
+    → Tells fs fs (λ f. (o ≡ Some f) × (is_asked k f.area f.effect ≡ true))
 not_carried fs k o h = record {
   extends = λ i f e. e;
   has = λ f w. absurd (h f w.0 w.1);

@@ -1,7 +1,7 @@
 -- Rule V7: what the passes find is broken, and what is broken they find.
 use Rattle.std.proofs.Common.{◌≡◌, inl, inr, ⊎_elim, refl, sym, ap, subst, ◌∙◌, ℕ, ◌<◌, List, length, Option, Some}
 use Rattle.std.proofs.Common.{None, Bool, true, false, ◌||◌, if◌then◌else◌, ◌==◌, arith, eqb-true}
-use Rattle.std.specs.Prelude.{slice_get}
+use Rattle.std.specs.Prelude.{slice_get, ◌↔◌}
 use Rattle.std.specs.BTreeMap.{BTreeMap}
 use Rattle.std.proofs.lemmas.Bool.{eq-eqb, and_from, and_parts, or_cases, or_left, or_right}
 use Rattle.std.proofs.lemmas.Option.{slice_get_within, none-some}
@@ -13,11 +13,12 @@ use Rattle.sp_code.specs.declared.code.Parts.{Parts}
 use Rattle.sp_code.specs.Machine.{layout_of}
 use Rattle.sp_code.specs.Memory.{Home}
 use Rattle.sp_code.specs.Sizes.{KeepsSizes}
-use Rattle.sp_verify_rules.specs.Areas.{Area, Body, homes, instr_at}
-use Rattle.sp_verify_rules.specs.Effects.{Does, IsCalled}
+use Rattle.sp_verify_rules.specs.Areas.{Area, Body, entry, homes, instr_at}
+use Rattle.sp_verify_rules.specs.Effects.{Does, IsCalled, IsEffect, Loaded, Stored}
 use Rattle.sp_verify_rules.specs.Forks as fork
 use Rattle.sp_verify_rules.specs.KeepsCodeRules.{KeepsCodeRules}
 use Rattle.sp_verify_rules.specs.Named.{BreaksV1, BlocksApart, IsLayout, LiesIn}
+use Rattle.sp_verify_rules.specs.Reach.{IsIn}
 use Rattle.sp_verify_rules.specs.Rules.{BreaksV2, BreaksV3, BreaksV4, BreaksV5}
 use Rattle.sp_verify_rules.specs.Verdict.{BreaksV7, HasStop, Inside}
 use Rattle.sp_verify_rules.proofs.Assembly.{fits_types, have_children}
@@ -36,13 +37,14 @@ use Rattle.sp_verify_shapes.specs.Stacks.{list_of}
 use Rattle.sp_verify_shapes.proofs.Reaching.{reached_there, stands}
 use Rattle.sp_verify_effects.specs.declared.effects.EffectRow.{EffectRow}
 use Rattle.sp_verify_effects.specs.declared.effects.Effects.{Effects}
-use Rattle.sp_verify_effects.specs.Asked.{inside_entry, is_asked}
+use Rattle.sp_verify_effects.specs.Asked.{AsksAll, inside_entry}
+use Rattle.sp_verify_effects.specs.declared.facts.Effect.TheVariants as effect
 use Rattle.sp_verify_effects.specs.Calls.{CallFails}
 use Rattle.sp_verify_effects.specs.Effects.{AreEffects, IsRowOf}
 use Rattle.sp_verify_effects.specs.Turns.{AreInside, LayoutTurns, SomeCalls, Turns, inside_of, is_inside, turns}
 use Rattle.sp_verify_effects.specs.Variables.{AreOwn, goes_out}
 use Rattle.sp_verify_effects.proofs.Inward.{inside_is, is_inside_here}
-use Rattle.sp_verify_effects.proofs.SideEffectLaws.{body_row}
+use Rattle.sp_verify_effects.proofs.SideEffectLaws.{asked_body, body_row}
 use Rattle.sp_verify_effects.proofs.Owned.{layout_here, one_layout, out_from, out_is}
 use Rattle.sp_verify_effects.proofs.Passing.{CallBreaks, call_found, call_finds, place_there}
 
@@ -177,21 +179,27 @@ module _ (c : Parts) (k : KeepsCodeRules c) (kept : (p : ℕ) → BreaksV1 c p �
           };
         })
 
-    turn_rule : (d : EffectRow) → IsRowOf c (Body l.block) d → Turns (flag_at flags j) l (Some d)
-        → fork.BreaksV7Inside c (Does c) (HasStop c) (Inside c) l l.block
-    turn_rule d effects_of (f, (x, inl h, m, z)) = (called_is f, (x, (inl ((effects_of.stored x).0 h), m), z))
-    turn_rule d effects_of (f, (x, inr h, m, z)) = (called_is f, (x, (inr ((effects_of.loaded x).0 h), m), z))
+    module _ (q : AsksAll e.asked (entry c (Body l.block))) (d : EffectRow)
+        (effects_of : IsRowOf c e.asked (Body l.block) d) where
+      stores : (x : ℕ) → IsIn x d.stored ↔ IsEffect c (Does c) Stored (Body l.block) x
+      stores x = effects_of.stored x (q (effect.Stores x))
 
-    rule_turn : (d : EffectRow) → IsRowOf c (Body l.block) d
-        → fork.BreaksV7Inside c (Does c) (HasStop c) (Inside c) l l.block → Turns (flag_at flags j) l (Some d)
-    rule_turn d effects_of (f, (x, (inl h, m), z)) = (is_called f, (x, inl ((effects_of.stored x).1 h), m, z))
-    rule_turn d effects_of (f, (x, (inr h, m), z)) = (is_called f, (x, inr ((effects_of.loaded x).1 h), m, z))
+      loads : (x : ℕ) → IsIn x d.loaded ↔ IsEffect c (Does c) Loaded (Body l.block) x
+      loads x = effects_of.loaded x (q (effect.Loads x))
 
-    -- it is asked about
-    asks : flag_at flags j ≡ true → is_asked e.asked l.entry ≡ true
-    asks f = by_call ((inside.each j below).0 f)
+      turn_rule : Turns (flag_at flags j) l (Some d) → fork.BreaksV7Inside c (Does c) (HasStop c) (Inside c) l l.block
+      turn_rule (f, (x, inl h, m, z)) = (called_is f, (x, (inl ((stores x).0 h), m), z))
+      turn_rule (f, (x, inr h, m, z)) = (called_is f, (x, (inr ((loads x).0 h), m), z))
+
+      rule_turn : fork.BreaksV7Inside c (Does c) (HasStop c) (Inside c) l l.block → Turns (flag_at flags j) l (Some d)
+      rule_turn (f, (x, (inl h, m), z)) = (is_called f, (x, inl ((stores x).1 h), m, z))
+      rule_turn (f, (x, (inr h, m), z)) = (is_called f, (x, inr ((loads x).1 h), m, z))
+
+    -- all is asked about it
+    asks : flag_at flags j ≡ true → AsksAll e.asked (entry c (Body l.block))
+    asks f = asked_body c e.asked l at (by_call ((inside.each j below).0 f))
       where
-        by_call : SomeCalls c first s (length c.instrs) j → is_asked e.asked l.entry ≡ true
+        by_call : SomeCalls c first s (length c.instrs) j → AsksAll e.asked l.entry
         by_call h =
             let q = h.calls in
             let r = inside_call (homes c q.area) first (instr_at c h.position) j q.calls in
@@ -207,18 +215,23 @@ module _ (c : Parts) (k : KeepsCodeRules c) (kept : (p : ℕ) → BreaksV1 c p �
 
   turn_found : (j p : ℕ) → LayoutTurns e flags c.layouts j p → TurnBreaks c p
   turn_found j p (l, is, first, h) =
-      let r = body_row c e are l (at j l is)
-      (asks j l is (flagged (flag_at flags j) l (slice_get e.rows l.entry) h)) in
-      (l, (j, is), first, turn_rule j l is r.0 r.2 (subst (Turns (flag_at flags j) l) r.1 h))
+      let r = body_row c e are l (at j l is) in
+      let q = asks j l is (flagged (flag_at flags j) l (slice_get e.rows l.entry) h) in
+      (l, (j, is), first, turn_rule j l is q r.0 r.2 (subst (Turns (flag_at flags j) l) r.1 h))
 
   turn_finds : (p : ℕ) → TurnBreaks c p → Upto (LayoutTurns e flags c.layouts) (length c.layouts) p
   turn_finds p (l, (j, is), first, h) =
-      let r = body_row c e are l (at j l is) (asks j l is (is_called j l is h.0)) in
+      let r = body_row c e are l (at j l is) in
       record {
         item = j;
         below = slice_get_within c.layouts j l is;
-        holds =
-            (l, is, first, subst (Turns (flag_at flags j) l) (sym r.1) (rule_turn j l is r.0 r.2 h));
+        holds = (
+          l,
+          is,
+          first,
+          subst (Turns (flag_at flags j) l) (sym r.1)
+              (rule_turn j l is (asks j l is (is_called j l is h.0)) r.0 r.2 h),
+        );
       }
 
   pub v7_least : (a b : Option ℕ) → IsLeast (CallFails c e s) a

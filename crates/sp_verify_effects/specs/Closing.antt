@@ -6,15 +6,17 @@ use Rattle.sp_code.specs.declared.code.Parts.{Parts}
 use Rattle.sp_verify_rules.specs.Areas.{Area, entry}
 use Rattle.sp_verify_rules.specs.Reach.{IsArea}
 use Rattle.sp_verify_rules.specs.Effects.{Stored, Loaded, Does, IsEffect}
+use Rattle.sp_verify_effects.specs.declared.allowance.Allowance.{Allowance}
 use Rattle.sp_verify_effects.specs.declared.asked.Asked.{Asked}
 use Rattle.sp_verify_effects.specs.declared.edges.Edge.{Edge}
 use Rattle.sp_verify_effects.specs.declared.edges.Edge.TheVariants as edge
 use Rattle.sp_verify_effects.specs.declared.facts.Fact.{Fact}
 use Rattle.sp_verify_effects.specs.declared.facts.Effect.{Effect}
 use Rattle.sp_verify_effects.specs.declared.facts.Effect.TheVariants as effect
+use Rattle.sp_verify_effects.specs.Allowances.{allows_some}
 use Rattle.sp_verify_effects.specs.Asked.{is_asked}
 use Rattle.sp_verify_effects.specs.Facts.{fact, has_fact}
-use Rattle.sp_verify_effects.specs.Edges.{HasEdge}
+use Rattle.sp_verify_effects.specs.Edges.{HasEdge, InRow}
 use Rattle.sp_verify_effects.specs.Effects.{ComesToStop}
 use Rattle.sp_verify_effects.specs.Variables.{owns}
 
@@ -44,9 +46,26 @@ fact_along (edge.Passed to y x) own (effect.Stores z) = if z == y then Some (fac
 fact_along (edge.Passed to y x) own (effect.Loads z) = if z == y then Some (fact to (effect.Loads x)) else None
 fact_along (edge.Passed to y x) own effect.Stops = None
 
--- it does, to an area that is asked about
+-- it does, to an area that is asked about it
 abbrev pub GoesAlong : Asked → Edge → Bool → Effect → Fact → Type 0
-GoesAlong k e own d g = (fact_along e own d ≡ Some g) × (is_asked k g.area ≡ true)
+GoesAlong k e own d g = (fact_along e own d ≡ Some g) × (is_asked k g.area g.effect ≡ true)
+
+-- what the one allows, the other allows, as it goes along an edge
+abbrev pub Passes : Option Allowance → Option Allowance → Edge → Type 0
+Passes o u e = (own : Bool) (d : Effect) (g : Fact) → fact_along e own d ≡ Some g → allows_some o d ≡ true
+    → allows_some u g.effect ≡ true
+
+-- what becomes on an edge from an area something that is asked about is asked about
+abbrev pub IsFollowed : Asked → ℕ → Edge → Type 0
+IsFollowed k m e = (own : Bool) (d : Effect) (g : Fact) → fact_along e own d ≡ Some g
+    → is_asked k g.area g.effect ≡ true → is_asked k m d ≡ true
+
+-- so for each edge of a row, and of all rows
+abbrev pub FollowsRow : Asked → ℕ → List Edge → Type 0
+FollowsRow k m r = (e : Edge) → InRow r e → IsFollowed k m e
+
+abbrev pub FollowsEdges : List (List Edge) → Asked → Type 0
+FollowsEdges rows k = (m : ℕ) (e : Edge) → HasEdge rows m e → IsFollowed k m e
 
 -- along one of these edges
 abbrev pub AlongOne : Asked → List Edge → Bool → Effect → ℕ → Fact → Type 0
@@ -88,5 +107,5 @@ module _ (c : Parts) where
 
   -- the facts are those of the areas that are there and asked about
   abbrev pub AreFacts : Asked → List Fact → Type 0
-  AreFacts k fs = (a : Area) (d : Effect) → IsArea c a → is_asked k (entry c a) ≡ true
+  AreFacts k fs = (a : Area) (d : Effect) → IsArea c a → is_asked k (entry c a) d ≡ true
       → (has_fact fs (fact (entry c a) d) ≡ true) ↔ IsEffectOf a d

@@ -7,12 +7,13 @@ use Rattle.sp_verify_rules.specs.Areas.{Area, entry}
 use Rattle.sp_verify_rules.specs.Reach.{IsIn, IsArea}
 use Rattle.sp_verify_rules.specs.Effects.{Stored, Loaded, Does, IsEffect, HasEffect, StopsBy}
 use Rattle.sp_verify_rules.specs.Verdict.{HasStop}
+use Rattle.sp_verify_effects.specs.declared.asked.Asked.{Asked}
 use Rattle.sp_verify_effects.specs.declared.effects.EffectRow.{EffectRow}
 use Rattle.sp_verify_effects.specs.declared.effects.Effects.{Effects}
 use Rattle.sp_verify_effects.specs.declared.facts.Fact.{Fact}
 use Rattle.sp_verify_effects.specs.declared.facts.Effect.{Effect}
 use Rattle.sp_verify_effects.specs.declared.facts.Effect.TheVariants as effect
-use Rattle.sp_verify_effects.specs.Asked.{Asks, is_asked}
+use Rattle.sp_verify_effects.specs.Asked.{Asks, AsksAll, is_asked}
 use Rattle.sp_verify_effects.specs.Facts.{has_fact, fact}
 use Rattle.sp_verify_effects.specs.Variables.{AreOwn}
 
@@ -51,18 +52,20 @@ module _ (c : Parts) where
   abbrev pub ComesToStop : Area → Type 0
   ComesToStop a = (bs : List Area) × StopsBy c (Does c) (HasStop c) bs a
 
-  -- these are the effects of an area, and whether it comes to a stop
-  pub record IsRowOf (a : Area) (d : EffectRow) : Type 0 where
-    pub stored : (x : ℕ) → IsIn x d.stored ↔ IsEffect c (Does c) Stored a x
-    pub loaded : (x : ℕ) → IsIn x d.loaded ↔ IsEffect c (Does c) Loaded a x
-    pub stops : IsTrue d.stops ↔ ComesToStop a
+  -- these are the effects of an area that are asked about, and whether it comes to a stop
+  pub record IsRowOf (k : Asked) (a : Area) (d : EffectRow) : Type 0 where
+    pub stored : (x : ℕ) → is_asked k (entry c a) (effect.Stores x) ≡ true
+        → IsIn x d.stored ↔ IsEffect c (Does c) Stored a x
+    pub loaded : (x : ℕ) → is_asked k (entry c a) (effect.Loads x) ≡ true
+        → IsIn x d.loaded ↔ IsEffect c (Does c) Loaded a x
+    pub stops : is_asked k (entry c a) effect.Stops ≡ true → IsTrue d.stops ↔ ComesToStop a
 
-  -- all areas are asked about that the rules ask about; each one that is, stands under its first instruction, and the
-  -- touched variables are those of its effects; the own ones are those of the blocks
+  -- all that the rules ask about is asked about; each area stands under its first instruction, and the touched
+  -- variables are those of its effects if all is asked about it; the own ones are those of the blocks
   pub record AreEffects (e : Effects) : Type 0 where
     pub asks : Asks c e.asked
-    pub rows : (a : Area) → IsArea c a → is_asked e.asked (entry c a) ≡ true
-        → (d : EffectRow) × (slice_get e.rows (entry c a) ≡ Some d) × IsRowOf a d
-    pub touched : (a : Area) (x : ℕ) → IsArea c a → is_asked e.asked (entry c a) ≡ true
+    pub rows : (a : Area) → IsArea c a
+        → (d : EffectRow) × (slice_get e.rows (entry c a) ≡ Some d) × IsRowOf e.asked a d
+    pub touched : (a : Area) (x : ℕ) → IsArea c a → AsksAll e.asked (entry c a)
         → IsTrue (touches e (entry c a) x) ↔ HasEffect c (Does c) a x
     pub own : AreOwn c e.own.keys

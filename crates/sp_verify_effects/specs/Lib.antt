@@ -11,4 +11,5 @@ pub mod SideEffects
 pub mod Calls
 pub mod Turns
 pub mod PassContexts
+pub mod Allowances
 pub mod Asked

@@ -25,6 +25,7 @@ use Rattle.sp_verify_effects.specs.declared.facts.Effect.TheVariants as effect
 use Rattle.sp_verify_effects.specs.declared.places.Place.{Place}
 use Rattle.sp_verify_effects.specs.declared.places.Place.TheVariants as place
 use Rattle.sp_verify_effects.specs.Asked.{is_asked}
+use Rattle.sp_verify_effects.specs.Facts.{Tells}
 
 -- where a child begins, if there is one
 abbrev pub child_entry : Option ChildTable → Option ℕ
@@ -69,6 +70,10 @@ IsHanded t effect.Stops = ⊥
 abbrev pub OneIsHanded : List ChildTable → ℕ → Effect → Type 0
 OneIsHanded ts n d = (k : ℕ) × (t : ChildTable) × (k < n) × (slice_get ts k ≡ Some t) × IsHanded t d
 
+-- these facts are added where they are asked about, and no others
+abbrev pub TellsAsked : Asked → (old new : List Fact) → (Fact → Type 0) → Type 0
+TellsAsked k old new W = Tells old new (λ f. W f × (is_asked k f.area f.effect ≡ true))
+
 -- a variable is stored, or loaded
 abbrev pub effect_of : Bool → ℕ → Effect
 effect_of true x = effect.Stores x
@@ -105,9 +110,9 @@ module _ (c : Parts) where
   abbrev pub OwnAt : ℕ → Fact → Type 0
   OwnAt p f = (a : Area) × LiesIn c p a × (f.area ≡ entry c a) × DoesAt a p f.effect
 
-  -- an area that is asked about does
+  -- an area that is asked about it does
   abbrev pub AskedAt : Asked → ℕ → Fact → Type 0
-  AskedAt k p f = OwnAt p f × (is_asked k f.area ≡ true)
+  AskedAt k p f = OwnAt p f × (is_asked k f.area f.effect ≡ true)
 
   -- at one of the first instructions
   abbrev pub OwnBefore : Asked → ℕ → Fact → Type 0

@@ -1,15 +1,21 @@
-//! The areas that rules V6 to V8 ask about. What the others do is not followed: where the rules ask about little, code
-//! of many blocks and variables takes no time and no memory for each pair of them.
+//! The areas that rules V6 to V8 ask about, and what they ask about each. Nothing else is followed: where the rules ask
+//! about little, code of many blocks and variables takes no time and no memory for each pair of them.
 
 ghost use Rattle.std.specs.Prelude.{◌≡◌, ◌<◌, ℕ, IfOk, Some, length, true};
+ghost use Rattle.std.specs.Option.{option_copied};
 ghost use Rattle.sp_verify_areas.specs.Only.{LiesOnlyIn};
-ghost use Rattle.sp_verify_effects.specs.Asked.{Asks, AsksChildren, AsksInsideAt, AsksLayouts, AsksTables};
-ghost use Rattle.sp_verify_effects.specs.Asked.{FollowsEdges};
-ghost use Rattle.sp_verify_effects.specs.Asked.{FollowsRow, LeadsToNone, inside_entry, is_asked, is_of_rules, target};
+ghost use Rattle.sp_verify_effects.specs.Allowances.{Fits, allows_some};
+ghost use Rattle.sp_verify_effects.specs.Asked.{Asks, AsksAll, AsksChild, AsksChildren, AsksInsideAt, AsksLayouts};
+ghost use Rattle.sp_verify_effects.specs.Asked.{AsksTables, allowance_at, inside_entry, is_asked, is_marked};
+ghost use Rattle.sp_verify_effects.specs.Asked.{is_of_rules, target};
+ghost use Rattle.sp_verify_effects.specs.Closing.{FollowsEdges, FollowsRow, IsFollowed, Passes};
 ghost use Rattle.sp_verify_effects.specs.PassContexts.{IsPassContext};
 ghost use Rattle.sp_verify_rules.specs.Areas.{Area, homes as homes_of, instr_at};
 
+use crate::allowance::{Allowance, allows, fits, passes_within};
+use crate::common::{Common, common_of};
 use crate::edges::{Edge, edge_at};
+use crate::facts::Effect;
 use crate::have;
 use crate::inside::is_inside;
 use crate::pass_context::PassContext;
@@ -18,34 +24,98 @@ use sp_code::{ChildTable, ForkTable, Instr, Layout};
 use sp_verify_areas::flags::{flag_at, mark, no_flags};
 use sp_verify_shapes::calls::some_reference;
 
-/// Areas by their first instructions.
+/// Areas by their first instructions, and what of each is asked about.
 #[derive(Drop)]
 pub struct Asked {
-    /// Every area is among them.
+    /// Every area is among them, with all that it does.
     pub all: bool,
     /// Of each instruction, whether the area that begins there is.
     pub flags: List<bool>,
+    /// Of each instruction, the number of the allowance of the area that begins there, if it has one: what an area may
+    /// do is not asked about.
+    pub numbers: List<u32>,
+    pub allowances: List<Allowance>,
 }
 
 impl Asked {
     /// Whether the area with this first instruction is among them.
     pub fn has(&self, entry: usize) -> bool
-        ensures { result ≡ is_asked self.now entry }
+        ensures { result ≡ is_marked self.now entry }
     {
         self.all || flag_at(&self.flags, entry)
+    }
+
+    // Its allowance.
+    fn allowance(&self, entry: usize) -> Option<&Allowance>
+        ensures { option_copied result ≡ allowance_at self.now entry }
+    {
+        match self.numbers.get(entry) {
+            None => None,
+            Some(number) => self.allowances.get(*number as usize),
+        }
+    }
+
+    // Whether it may do this.
+    fn allows(&self, entry: usize, effect: Effect) -> bool
+        ensures { result ≡ allows_some (allowance_at self.now entry) effect }
+    {
+        match self.allowance(entry) {
+            None => false,
+            Some(allowance) => allows(allowance, effect),
+        }
+    }
+
+    /// Whether this is asked about it.
+    pub fn asks(&self, entry: usize, effect: Effect) -> bool
+        ensures { result ≡ is_asked self.now entry effect }
+    {
+        self.all || (flag_at(&self.flags, entry) && !self.allows(entry, effect))
+    }
+
+    // Whether all is.
+    fn asks_all(&self, entry: usize) -> bool
+        ensures { result ≡ true → AsksAll self.now entry }
+    {
+        match self.allowance(entry) {
+            None => self.has(entry),
+            Some(_) => self.all,
+        }
+    }
+
+    // Whether two areas have allowances of one number.
+    fn have_one(&self, entry: usize, other: usize) -> bool
+        ensures { result ≡ true → allowance_at self.now entry ≡ allowance_at self.now other }
+    {
+        match self.numbers.get(entry) {
+            None => false,
+            Some(n) => match self.numbers.get(other) {
+                None => false,
+                Some(m) => *n == *m,
+            },
+        }
     }
 }
 
 // All areas.
 fn every_area(asked: Asked) -> Asked
-    ensures { (m : ℕ) → is_asked result m ≡ true }
+    ensures { (m : ℕ) → AsksAll result m }
 {
-    let Asked { all: _, flags } = asked;
-    Asked { all: true, flags }
+    let Asked {
+        all: _,
+        flags,
+        numbers,
+        allowances,
+    } = asked;
+    Asked {
+        all: true,
+        flags,
+        numbers,
+        allowances,
+    }
 }
 
-// Where an edge leads.
-fn target(edge: Edge) -> u32
+/// Where an edge leads.
+pub(crate) fn target(edge: Edge) -> u32
     ensures { result ≡ target edge }
 {
     match edge {
@@ -105,14 +175,18 @@ fn mark_children(flags: &mut List<bool>, children: &[ChildTable]) {
     }
 }
 
-// Sets those of what the rules ask about.
-fn mark_all(g: &PassContext, flags: &mut List<bool>)
+// Sets those of all children.
+fn mark_tables(flags: &mut List<bool>, tables: &[ForkTable]) {
+    for table in tables {
+        mark_children(flags, table.children.items());
+    }
+}
+
+// Sets those of blocks of which the rules ask about all.
+fn mark_blocks(g: &PassContext, flags: &mut List<bool>)
     requires known { IsPassContext g.now }
 {
     let parts = g.code.parts();
-    for table in parts.forks.items() {
-        mark_children(flags, table.children.items());
-    }
     for l in parts.layouts.items() {
         if is_of_rules(l) {
             mark(flags, l.entry as usize);
@@ -176,36 +250,59 @@ fn follow(rows: &List<List<Edge>>, flags: &mut List<bool>) {
     }
 }
 
-// Whether all children of a table are asked about.
-fn asks_children(asked: &Asked, children: &[ChildTable]) -> bool
-    ensures { result ≡ true → AsksChildren asked.now children.now }
+// Whether a child is handed all that its area may do.
+fn fits_some(asked: &Asked, child: &ChildTable) -> Result<bool, Memory>
+    ensures { IfOk result (λ b. b ≡ true → Fits (allowance_at asked.now child.now.entry) child.now) }
+{
+    match asked.allowance(child.entry as usize) {
+        None => Ok(true),
+        Some(allowance) => fits(asked.flags.alloc(), allowance, child),
+    }
+}
+
+// Whether all that a child may not do is asked about.
+fn asks_child(asked: &Asked, child: &ChildTable) -> Result<bool, Memory>
+    ensures { IfOk result (λ b. b ≡ true → AsksChild asked.now child.now) }
+{
+    if asked.has(child.entry as usize) {
+        fits_some(asked, child)
+    } else {
+        Ok(false)
+    }
+}
+
+// The same for the children of a table.
+fn asks_children(asked: &Asked, children: &[ChildTable]) -> Result<bool, Memory>
+    ensures { IfOk result (λ b. b ≡ true → AsksChildren asked.now children.now) }
 {
     for child in children {
-        if !asked.has(child.entry as usize) {
-            return false;
+        let asks = have!(asks_child(asked, child));
+        if !asks {
+            return Ok(false);
         }
     }
-    true
+    Ok(true)
 }
 
 // Those of all tables.
-fn asks_tables(asked: &Asked, tables: &[ForkTable]) -> bool
-    ensures { result ≡ true → AsksTables asked.now tables.now }
+fn asks_tables(asked: &Asked, tables: &[ForkTable]) -> Result<bool, Memory>
+    ensures { IfOk result (λ b. b ≡ true → AsksTables asked.now tables.now) }
 {
     for table in tables {
-        if !asks_children(asked, table.children.items()) {
-            return false;
+        let asks = have!(asks_children(asked, table.children.items()));
+        if !asks {
+            return Ok(false);
         }
     }
-    true
+    Ok(true)
 }
 
 // Whether a block is, if it answers or takes a variable by reference.
 fn asks_layout(asked: &Asked, l: &Layout) -> bool
-    ensures { result ≡ true → is_of_rules l.now ≡ true → is_asked asked.now l.now.entry ≡ true }
+    ensures { result ≡ true → is_of_rules l.now ≡ true → AsksAll asked.now l.now.entry }
 {
     if is_of_rules(l) {
-        asked.has(l.entry as usize)
+        asked.asks_all(l.entry as usize)
     } else {
         true
     }
@@ -231,7 +328,7 @@ fn asks_inside_at(g: &PassContext, asked: &Asked, p: u32) -> bool
 {
     match inside_entry_at(g, p) {
         None => true,
-        Some(entry) => asked.has(entry as usize),
+        Some(entry) => asked.asks_all(entry as usize),
     }
 }
 
@@ -248,28 +345,45 @@ fn asks_inside(g: &PassContext, asked: &Asked) -> bool
     true
 }
 
-// Whether no edge of a row leads to an area that is asked about.
-fn leads_to_none(asked: &Asked, row: &[Edge]) -> bool
-    ensures { result ≡ true → LeadsToNone asked.now row.now }
+// Whether what an area may do, the area to which an edge leads may do, as it goes along the edge.
+fn may_pass(asked: &Asked, m: usize, edge: Edge) -> bool
+    ensures { result ≡ true → Passes (allowance_at asked.now m) (allowance_at asked.now (target edge)) edge }
+{
+    let to = target(edge) as usize;
+    match asked.allowance(m) {
+        None => true,
+        Some(one) => match asked.allowance(to) {
+            None => false,
+            Some(other) => passes_within(one, other, asked.have_one(m, to), edge),
+        },
+    }
+}
+
+// Whether what goes along an edge to what is asked about is asked about.
+fn follows_edge(asked: &Asked, m: usize, edge: Edge) -> bool
+    ensures { result ≡ true → IsFollowed asked.now m edge }
+{
+    if !asked.has(target(edge) as usize) {
+        return true;
+    }
+    if asked.has(m) {
+        may_pass(asked, m, edge)
+    } else {
+        false
+    }
+}
+
+// The same for all edges of an area.
+fn follows_row(asked: &Asked, m: usize, row: &[Edge]) -> bool
+    ensures { result ≡ true → FollowsRow asked.now m row.now }
 {
     for k in 0..row.len() {
         let edge = edge_at(row, k);
-        if asked.has(target(edge) as usize) {
+        if !follows_edge(asked, m, edge) {
             return false;
         }
     }
     true
-}
-
-// Whether an area is asked about if one of its edges leads to one that is.
-fn follows_row(asked: &Asked, m: usize, row: &[Edge]) -> bool
-    ensures { result ≡ true → FollowsRow asked.now m row.now }
-{
-    if asked.has(m) {
-        true
-    } else {
-        leads_to_none(asked, row)
-    }
 }
 
 // The same for all areas.
@@ -284,41 +398,55 @@ fn follows_edges(asked: &Asked, rows: &[List<Edge>]) -> bool
     true
 }
 
-// Whether all that rules ask about is among them.
-fn asks(g: &PassContext, asked: &Asked) -> bool
+// Whether all that rules ask about is asked about.
+fn asks(g: &PassContext, asked: &Asked) -> Result<bool, Memory>
     requires known { IsPassContext g.now }
-    ensures { result ≡ true → Asks g.now.code.now asked.now }
+    ensures { IfOk result (λ b. b ≡ true → Asks g.now.code.now asked.now) }
 {
     let parts = g.code.parts();
-    if asks_tables(asked, parts.forks.items()) {
+    let tables = have!(asks_tables(asked, parts.forks.items()));
+    if tables {
         if asks_layouts(asked, parts.layouts.items()) {
-            return asks_inside(g, asked);
+            return Ok(asks_inside(g, asked));
         }
     }
-    false
+    Ok(false)
 }
 
-// Flags of what rules ask about, and of what leads to it along the edges, as far as some rounds go.
-fn flags_of(g: &PassContext, rows: &List<List<Edge>>) -> Result<List<bool>, Memory>
+// Flags of what rules ask about, and of what leads to it along the edges, as far as some rounds go; and the allowances
+// of these areas.
+fn find_asked(g: &PassContext, rows: &List<List<Edge>>) -> Result<Asked, Memory>
     requires known { IsPassContext g.now }
 {
-    let instrs = &g.code.parts().instrs;
-    let mut flags = have!(no_flags(instrs.alloc(), instrs.len()));
-    mark_all(g, &mut flags);
+    let parts = g.code.parts();
+    let alloc = parts.instrs.alloc();
+    let mut whole = have!(no_flags(alloc, parts.instrs.len()));
+    mark_blocks(g, &mut whole);
+    let mut flags = have!(no_flags(alloc, parts.instrs.len()));
+    mark_blocks(g, &mut flags);
+    mark_tables(&mut flags, parts.forks.items());
     follow(rows, &mut flags);
-    Ok(flags)
+    let Common {
+        numbers,
+        allowances,
+    } = have!(common_of(&parts.forks, rows, &flags, &whole));
+    Ok(Asked {
+        all: false,
+        flags,
+        numbers,
+        allowances,
+    })
 }
 
-/// The areas that rules ask about, and those from which effects go to them along these edges; all areas, where they are
-/// not found in some rounds.
+/// What rules ask about, and what leads to it along these edges; all, if it is not found in some rounds.
 pub(crate) fn asked_of(g: &PassContext, rows: &List<List<Edge>>) -> Result<Asked, Memory>
     requires known { IsPassContext g.now }
     ensures asks { IfOk result (Asks g.now.code.now) }
     ensures follows { IfOk result (FollowsEdges rows.now) }
 {
-    let flags = have!(flags_of(g, rows));
-    let some = Asked { all: false, flags };
-    if asks(g, &some) {
+    let some = have!(find_asked(g, rows));
+    let asks = have!(asks(g, &some));
+    if asks {
         if follows_edges(&some, rows.items()) {
             return Ok(some);
         }

@@ -2,10 +2,8 @@
 
 ghost use Rattle.std.specs.Prelude.{◌≡◌, ◌<◌, OnOk, IfOk, Some, Bool, length};
 ghost use Rattle.sp_verify_effects.specs.PassContexts.{IsPassContext};
-ghost use Rattle.sp_verify_effects.specs.Asked.{FollowsEdges};
-ghost use Rattle.sp_verify_effects.specs.Closing.{AlongOne, AreFacts, Closes, FactLeads, GoesAlong, fact_along};
-ghost use Rattle.sp_verify_effects.specs.Closing.{is_index};
-ghost use Rattle.sp_verify_effects.specs.Closing.{is_own};
+ghost use Rattle.sp_verify_effects.specs.Closing.{AlongOne, AreFacts, Closes, FactLeads, FollowsEdges, GoesAlong};
+ghost use Rattle.sp_verify_effects.specs.Closing.{fact_along, is_index, is_own};
 ghost use Rattle.sp_verify_effects.specs.declared.edges.Edge.TheVariants as edge;
 ghost use Rattle.sp_verify_effects.specs.Edges.{AreEdges};
 ghost use Rattle.sp_verify_effects.specs.Facts.{Tells, fact};
@@ -121,7 +119,7 @@ fn spread_one(
     match fact_along(edge, own, effect) {
         None => Ok(()),
         Some(fact) => {
-            if asked.has(fact.area as usize) {
+            if asked.asks(fact.area as usize, fact.effect) {
                 facts.add(fact)
             } else {
                 Ok(())

@@ -31,18 +31,18 @@ pub struct EffectRow {
 /// What the code of each block and child does, by its first instruction.
 #[derive(Drop)]
 pub struct Effects {
-    /// By the number of the first instruction. Where no code begins that is asked about, a row says nothing.
+    /// By the number of the first instruction. If no code begins there that is asked about, a row says nothing.
     pub rows: List<EffectRow>,
     /// The same as facts.
     pub facts: Facts,
     /// The variables of each block, each under the first instruction of its block.
     pub own: BTreeSet<(u32, u32)>,
-    /// The areas that a rule asks about, and those that these start or call: rows and facts are of no other.
+    /// What the rules ask about areas, and those that these start or call: rows and facts say nothing else.
     pub asked: Asked,
 }
 
 impl Effects {
-    /// What the block or child with this first instruction does, if it is asked about.
+    /// What the block or child with this first instruction does, as far as it is asked about.
     pub fn of(&self, entry: u32) -> Option<&EffectRow>
         ensures { option_copied result ≡ slice_get self.now.rows entry }
     {

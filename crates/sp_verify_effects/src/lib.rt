@@ -9,7 +9,8 @@
 //! - `first_clash` (`clash`): the same for V7, of code that keeps V2 to V5 too. `first_side_effect` (`side_effects`):
 //!   the same for V8.
 //! - `tell_own` (`own`), `edges_of` (`edges`): what areas do themselves, the ways on which this goes from area to area.
-//!   `Asked::has` (`asked`): whether a rule asks about an area, or it is started or called by one of these.
+//!   `Asked::has` (`asked`): whether a rule asks about an area, or it is started or called by one of these; `asks`:
+//!   whether it asks whether the area does one thing.
 //! - `Facts::new`, `len`, `at`, `has`, `add` (`facts`): a list of facts, each once. `table_of`, `area_at` (`areas`),
 //!   `stored_place`, `loaded_place`, `is_stop` (`places`): what is looked up of an instruction.
 //!
@@ -19,6 +20,8 @@
 //! - The rules ask about children, about blocks that answer or take a variable by reference, and about blocks that are
 //!   called inside themselves (`specs/Asked.antt`). What no such area comes to is not followed. `asked.rt` marks them
 //!   with no contract, and looks whether the marks are right; else all areas are followed.
+//! - What all children are handed that come to an area is not asked about it (`allowance.rt`, `specs/Allowances.antt`):
+//!   the rule lets them do it. `common.rt` finds that with no contract, and `asked.rt` looks whether it is right.
 //! - `facts.rt` is a set of facts about areas (`specs/Facts.antt`), `places.rt` and `own.rt` are what instructions do
 //!   themselves, `edges.rt` and `closing.rt` how facts go from area to area until nothing is new, `effects.rt` makes a
 //!   table of them, with the variables of blocks (`variables.rt`).
@@ -26,11 +29,13 @@
 //!   itself); `side_effects.rt` is V8. `sets.rt` serves them.
 #![tactic(auto)]
 
+pub mod allowance;
 pub mod areas;
 pub mod asked;
 pub mod calls;
 pub mod clash;
 pub mod closing;
+pub mod common;
 pub mod edges;
 pub mod effects;
 pub mod facts;

@@ -7,10 +7,10 @@ ghost use Rattle.sp_verify_areas.specs.Only.{LiesOnlyIn};
 ghost use Rattle.sp_code.specs.Machine.{layout_of};
 ghost use Rattle.sp_verify_effects.specs.PassContexts.{IsPassContext};
 ghost use Rattle.sp_verify_effects.specs.declared.facts.Fact.{Fact as FactOf};
-ghost use Rattle.sp_verify_effects.specs.Facts.{Tells};
+ghost use Rattle.sp_verify_effects.specs.Facts.{Tells, fact};
 ghost use Rattle.sp_verify_effects.specs.Own.{AskedAt, DoesBy, ForkedAt, IsEffectAmong, IsHanded, IsOf, IsStop};
-ghost use Rattle.sp_verify_effects.specs.Own.{OneIsHanded};
-ghost use Rattle.sp_verify_effects.specs.Own.{OwnAt, OwnBefore, ReachedAt, effect_of, operand_variables, variables_at};
+ghost use Rattle.sp_verify_effects.specs.Own.{OneIsHanded, OwnBefore, ReachedAt, TellsAsked, effect_of};
+ghost use Rattle.sp_verify_effects.specs.Own.{operand_variables, variables_at};
 ghost use Rattle.sp_verify_rules.specs.Areas.{Area, entry, instr_at};
 ghost use Rattle.sp_verify_rules.specs.Touched.{topmost_variable, addresses, number_list};
 ghost use Rattle.sp_verify_rules.specs.Shapes.{below_topmost};
@@ -171,26 +171,41 @@ fn effect_of(stores: bool, x: u32) -> Effect
     }
 }
 
+// Tells that an area does something, if that is asked about.
+fn tell_one(asked: &Asked, facts: &mut Facts, area: u32, effect: Effect) -> Result<(), Memory>
+    ensures { OnOk result (TellsAsked asked.now facts.old facts.new (λ f. f ≡ fact area effect)) }
+{
+    if asked.asks(area as usize, effect) {
+        facts.add(Fact { area, effect })
+    } else {
+        Ok(())
+    }
+}
+
 // Tells that an area stores these variables, or that it loads them.
-fn tell(facts: &mut Facts, area: u32, stores: bool, variables: &[u32]) -> Result<(), Memory>
-    ensures { OnOk result (Tells facts.old facts.new (IsOf area (IsEffectAmong stores variables.now))) }
+fn tell(
+    asked: &Asked,
+    facts: &mut Facts,
+    area: u32,
+    stores: bool,
+    variables: &[u32],
+) -> Result<(), Memory>
+    ensures { OnOk result (TellsAsked asked.now facts.old facts.new
+        (IsOf area (IsEffectAmong stores variables.now))) }
 {
     for i in 0..variables.len() {
         let effect = effect_of(stores, variables[i]);
-        have!(facts.add(Fact { area, effect }));
+        have!(tell_one(asked, facts, area, effect));
     }
     Ok(())
 }
 
 // Tells that an area comes to a stop, if the instruction is one.
-fn tell_stop(facts: &mut Facts, area: u32, instr: Instr) -> Result<(), Memory>
-    ensures { OnOk result (Tells facts.old facts.new (IsOf area (IsStop (Some instr)))) }
+fn tell_stop(asked: &Asked, facts: &mut Facts, area: u32, instr: Instr) -> Result<(), Memory>
+    ensures { OnOk result (TellsAsked asked.now facts.old facts.new (IsOf area (IsStop (Some instr)))) }
 {
     if is_stop(instr) {
-        have!(facts.add(Fact {
-            area,
-            effect: Effect::Stops,
-        }));
+        have!(tell_one(asked, facts, area, Effect::Stops));
     }
     Ok(())
 }
@@ -198,6 +213,7 @@ fn tell_stop(facts: &mut Facts, area: u32, instr: Instr) -> Result<(), Memory>
 // Tells what an instruction does itself, with these shapes.
 fn tell_shaped(
     g: &PassContext,
+    asked: &Asked,
     facts: &mut Facts,
     area: u32,
     p: u32,
@@ -209,49 +225,68 @@ fn tell_shaped(
     requires instr { instr_at g.now.code.now p ≡ Some instr }
     requires within { p < length g.now.code.now.instrs }
     ensures { OnOk result ((a : Area) → LiesOnlyIn g.now.code.now p a
-        → Tells facts.old facts.new (IsOf area (DoesBy g.now.code.now a p (list_of g.now.shapes.now.stacks stack)))) }
+        → TellsAsked asked.now facts.old facts.new
+        (IsOf area (DoesBy g.now.code.now a p (list_of g.now.shapes.now.stacks stack)))) }
 {
     let stored = have!(variables_at(g, p, stored_place(instr), stack));
-    have!(tell(facts, area, true, stored.items()));
+    have!(tell(asked, facts, area, true, stored.items()));
     let loaded = have!(variables_at(g, p, loaded_place(instr), stack));
-    have!(tell(facts, area, false, loaded.items()));
-    tell_stop(facts, area, instr)
+    have!(tell(asked, facts, area, false, loaded.items()));
+    tell_stop(asked, facts, area, instr)
 }
 
 // Tells what an area hands to one child.
-fn tell_child(facts: &mut Facts, area: u32, child: &ChildTable) -> Result<(), Memory>
-    ensures { OnOk result (Tells facts.old facts.new (IsOf area (IsHanded child.now))) }
+fn tell_child(asked: &Asked, facts: &mut Facts, area: u32, child: &ChildTable) -> Result<(), Memory>
+    ensures { OnOk result (TellsAsked asked.now facts.old facts.new (IsOf area (IsHanded child.now))) }
 {
-    have!(tell(facts, area, true, child.moved.items()));
-    tell(facts, area, false, child.shared.items())
+    have!(tell(asked, facts, area, true, child.moved.items()));
+    tell(asked, facts, area, false, child.shared.items())
 }
 
 // Tells what it hands to these.
-fn tell_children(facts: &mut Facts, area: u32, children: &[ChildTable]) -> Result<(), Memory>
-    ensures { OnOk result (Tells facts.old facts.new (IsOf area (OneIsHanded children.now (length children.now)))) }
+fn tell_children(
+    asked: &Asked,
+    facts: &mut Facts,
+    area: u32,
+    children: &[ChildTable],
+) -> Result<(), Memory>
+    ensures { OnOk result (TellsAsked asked.now facts.old facts.new
+        (IsOf area (OneIsHanded children.now (length children.now)))) }
 {
     for k in 0..children.len() {
-        have!(tell_child(facts, area, &children[k]));
+        have!(tell_child(asked, facts, area, &children[k]));
     }
     Ok(())
 }
 
 // Tells what the fork or forall at p hands on, if there is one.
-fn tell_forked(code: &Code, facts: &mut Facts, area: u32, p: u32) -> Result<(), Memory>
-    ensures { OnOk result (Tells facts.old facts.new (IsOf area (ForkedAt code.now p))) }
+fn tell_forked(
+    code: &Code,
+    asked: &Asked,
+    facts: &mut Facts,
+    area: u32,
+    p: u32,
+) -> Result<(), Memory>
+    ensures { OnOk result (TellsAsked asked.now facts.old facts.new (IsOf area (ForkedAt code.now p))) }
 {
     match table_of(code, p) {
         None => Ok(()),
-        Some(table) => tell_children(facts, area, table.children.items()),
+        Some(table) => tell_children(asked, facts, area, table.children.items()),
     }
 }
 
 // Tells what the instruction at p does itself, if it is reached.
-fn tell_reached(g: &PassContext, facts: &mut Facts, area: u32, p: u32) -> Result<(), Memory>
+fn tell_reached(
+    g: &PassContext,
+    asked: &Asked,
+    facts: &mut Facts,
+    area: u32,
+    p: u32,
+) -> Result<(), Memory>
     requires known { IsPassContext g.now }
     requires lies { (a : Area) × LiesOnlyIn g.now.code.now p a × (entry g.now.code.now a ≡ area) }
     requires within { p < length g.now.code.now.instrs }
-    ensures { OnOk result (Tells facts.old facts.new (ReachedAt g.now.code.now p)) }
+    ensures { OnOk result (TellsAsked asked.now facts.old facts.new (ReachedAt g.now.code.now p)) }
 {
     let stack = match reached(g.shapes, p) {
         None => return Ok(()),
@@ -261,18 +296,24 @@ fn tell_reached(g: &PassContext, facts: &mut Facts, area: u32, p: u32) -> Result
         None => return Ok(()),
         Some(instr) => instr,
     };
-    tell_shaped(g, facts, area, p, instr, stack)
+    tell_shaped(g, asked, facts, area, p, instr, stack)
 }
 
 // Tells what the instruction at p does, in this area.
-fn tell_in(g: &PassContext, facts: &mut Facts, area: u32, p: u32) -> Result<(), Memory>
+fn tell_in(
+    g: &PassContext,
+    asked: &Asked,
+    facts: &mut Facts,
+    area: u32,
+    p: u32,
+) -> Result<(), Memory>
     requires known { IsPassContext g.now }
     requires lies { (a : Area) × LiesOnlyIn g.now.code.now p a × (entry g.now.code.now a ≡ area) }
     requires there { p < length g.now.code.now.instrs }
-    ensures { OnOk result (Tells facts.old facts.new (OwnAt g.now.code.now p)) }
+    ensures { OnOk result (Tells facts.old facts.new (AskedAt g.now.code.now asked.now p)) }
 {
-    have!(tell_reached(g, facts, area, p));
-    tell_forked(g.code, facts, area, p)
+    have!(tell_reached(g, asked, facts, area, p));
+    tell_forked(g.code, asked, facts, area, p)
 }
 
 // The same, if the area is asked about.
@@ -289,7 +330,7 @@ fn tell_asked(
     ensures { OnOk result (Tells facts.old facts.new (AskedAt g.now.code.now asked.now p)) }
 {
     if asked.has(area as usize) {
-        tell_in(g, facts, area, p)
+        tell_in(g, asked, facts, area, p)
     } else {
         Ok(())
     }

@@ -1,10 +1,10 @@
-use Rattle.std.proofs.Common.{◌≡◌, true, ℕ}
+use Rattle.std.proofs.Common.{ℕ}
 use Rattle.sp_code.specs.declared.code.ChildTable.{ChildTable}
-use Rattle.sp_verify_effects.specs.Asked.{is_asked}
+use Rattle.sp_verify_effects.specs.Asked.{AsksChild}
 use Rattle.sp_verify_effects.proofs.Asking.{HoldsBefore}
 use Rattle.sp_verify_effects.proofs.asked.asks_children.Given as goal
 
 -- those so far are
 abbrev pub invariant-loop-child : goal.invariant-loop-child
 invariant-loop-child l =
-    HoldsBefore (λ (j : ℕ) (t : ChildTable). is_asked l.asked t.entry ≡ true) l.children l.child-index
+    HoldsBefore (λ (j : ℕ) (t : ChildTable). AsksChild l.asked t) l.children l.child-index

@@ -4,7 +4,7 @@ use Rattle.sp_verify_effects.specs.Asked.{is_of_rules}
 use Rattle.sp_verify_effects.proofs.asked.asks_layout.Goals as goal
 
 pub returns-then-is_of_rules : goal.returns-then-is_of_rules
-returns-then-is_of_rules c = λ t r. sym c.has.ensures ∙ t
+returns-then-is_of_rules c = λ t r. c.asks_all.ensures t
 
 pub returns-else-is_of_rules : goal.returns-else-is_of_rules
 returns-else-is_of_rules c = λ t r. absurd (not_true_and_false (is_of_rules c.args.l.now) r (sym c.is_of_rules.ensures

@@ -17,10 +17,10 @@ loop-table-preserved c =
     let e = slice_get_read ts (length ts) k t refl c.loop-table-test.true c.table-item.is in
     before_more (λ (j : ℕ) (t : ForkTable). AsksChildren c.args.asked.now t.children) ts k t e
     (subst (λ (z : List ChildTable). AsksChildren c.args.asked.now z) c.items.ensures
-    (c.asks_children.ensures c.if-not-asks_children.false)) c.loop-table.invariant
+    (c.in-Ok.ensures c.if-not-asks.false)) c.loop-table.invariant
 
-pub returns-then-not-asks_children : goal.returns-then-not-asks_children
-returns-then-not-asks_children c = λ t. absurd (cc t)
+pub returns-then-not-asks : goal.returns-then-not-asks
+returns-then-not-asks c = λ t. absurd (cc t)
 
 pub returns : goal.returns
 returns c = λ t.

@@ -1,7 +1,7 @@
 use Rattle.std.proofs.Common.{◌≡◌, ℕ, List, length, refl, subst, arith}
 use Rattle.std.proofs.lemmas.Option.{slice_get_read}
 use Rattle.sp_verify_effects.specs.declared.edges.Edge.{Edge}
-use Rattle.sp_verify_effects.specs.Asked.{FollowsRow}
+use Rattle.sp_verify_effects.specs.Closing.{FollowsRow}
 use Rattle.sp_verify_effects.proofs.Asking.{before_none, before_more, before_all}
 use Rattle.sp_verify_effects.proofs.asked.follows_edges.Goals as goal
 

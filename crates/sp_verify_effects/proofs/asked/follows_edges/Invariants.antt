@@ -1,6 +1,6 @@
 use Rattle.std.proofs.Common.{ℕ, List}
 use Rattle.sp_verify_effects.specs.declared.edges.Edge.{Edge}
-use Rattle.sp_verify_effects.specs.Asked.{FollowsRow}
+use Rattle.sp_verify_effects.specs.Closing.{FollowsRow}
 use Rattle.sp_verify_effects.proofs.Asking.{HoldsBefore}
 use Rattle.sp_verify_effects.proofs.asked.follows_edges.Given as goal
 

@@ -9,8 +9,8 @@ use Rattle.sp_verify_effects.specs.Closing.{GoesAlong, fact_along}
 use Rattle.sp_verify_effects.proofs.Spreading.{carried_told, not_carried}
 use Rattle.sp_verify_effects.proofs.closing.spread_one.Goals as goal
 
-pub returns-then-has : goal.returns-then-has
-returns-then-has c =
+pub returns-then-asks : goal.returns-then-asks
+returns-then-asks c =
     let fs = c.args.facts.now in
     let k = c.args.asked.now in
     let g = c.in-Some.fact in
@@ -18,15 +18,15 @@ returns-then-has c =
     ok_on c.add.result (c.add.new.self ≡ with_fact fs g) (Tells fs c.add.new.self
     (GoesAlong k c.args.edge c.args.own c.args.effect))
     (λ v. subst (λ (x : List Fact). Tells fs x (GoesAlong k c.args.edge c.args.own c.args.effect)) (sym v)
-    (carried_told fs k o g (sym c.fact_along.ensures ∙ c.in-Some.is) (sym c.has.ensures ∙ c.if-has.true)))
+    (carried_told fs k o g (sym c.fact_along.ensures ∙ c.in-Some.is) (sym c.asks.ensures ∙ c.if-asks.true)))
     c.add.ensures
 
-pub returns-else-has : goal.returns-else-has
-returns-else-has c =
+pub returns-else-asks : goal.returns-else-asks
+returns-else-asks c =
     let k = c.args.asked.now in
     let o = fact_along c.args.edge c.args.own c.args.effect in
     not_carried c.args.facts.now k o
-    (λ g e h. not_true_and_false (is_asked k g.area) h
-    (ap (λ (z : Fact). is_asked k z.area)
+    (λ g e h. not_true_and_false (is_asked k g.area g.effect) h
+    (ap (λ (z : Fact). is_asked k z.area z.effect)
     (same_Some g c.in-Some.fact (sym e ∙ (sym c.fact_along.ensures ∙ c.in-Some.is)))
-    ∙ (sym c.has.ensures ∙ c.if-has.false)))
+    ∙ (sym c.asks.ensures ∙ c.if-asks.false)))

@@ -7,6 +7,7 @@ pub loop-k-preserved : goal.loop-k-preserved
 loop-k-preserved c =
     let ts = c.args.children.now in
     let k = c.loop-k.k in
-    children_more c.args.facts.now c.loop-k.facts c.tell_child.new.facts c.args.area k c.index-children-k.result ts
+    children_more c.args.asked.now c.args.facts.now c.loop-k.facts c.tell_child.new.facts c.args.area k
+    c.index-children-k.result ts
     (slice_get_read ts (length ts) k c.index-children-k.result refl c.loop-k-test.true c.index-children-k.is)
     c.loop-k.invariant c.in-Ok.ensures

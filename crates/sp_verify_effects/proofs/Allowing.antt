@@ -1,0 +1,108 @@
+-- Allowances: what is within another one, what a child is handed, and what goes along an edge.
+use Rattle.std.proofs.Common.{◌≡◌, ◌⊎◌, inl, inr, ⊎_elim, refl, ap, sym, subst, ℕ, ◌==◌, [], Option, Some, None}
+use Rattle.std.proofs.Common.{Bool, true, false, if◌then◌else◌, eqb-true}
+use Rattle.std.specs.Prelude.{not}
+use Rattle.std.specs.BTreeSet.{BTreeSet, IsSubset}
+use Rattle.std.specs.Ordering.{nat_cmp}
+use Rattle.std.proofs.lemmas.Bool.{not-true, or_cases}
+use Rattle.std.proofs.lemmas.Option.{none-some, same_Some}
+use Rattle.sp_base.proofs.Facts.{not_true_and_false}
+use Rattle.sp_tree.specs.Interference.{IsMember}
+use Rattle.sp_tree.proofs.Members.{member_front, member_back}
+use Rattle.sp_code.specs.declared.code.ChildTable.{ChildTable}
+use Rattle.sp_verify_effects.specs.declared.allowance.Allowance.{Allowance}
+use Rattle.sp_verify_effects.specs.declared.edges.Edge.{Edge}
+use Rattle.sp_verify_effects.specs.declared.edges.Edge.TheVariants as edge
+use Rattle.sp_verify_effects.specs.declared.facts.Fact.{Fact}
+use Rattle.sp_verify_effects.specs.declared.facts.Effect.{Effect}
+use Rattle.sp_verify_effects.specs.declared.facts.Effect.TheVariants as effect
+use Rattle.sp_verify_effects.specs.Allowances.{Fits, IsWithin, allows, loads_within, stores_within}
+use Rattle.sp_verify_effects.specs.Closing.{Passes, fact_along, is_index}
+use Rattle.sp_verify_effects.specs.Facts.{fact}
+use Rattle.sp_verify_effects.specs.Sets.{has, with_all}
+use Rattle.sp_verify_effects.proofs.Members.{all_in}
+
+pub within_subsets : (w v : Allowance) → IsSubset nat_cmp w.stored v.stored → IsSubset nat_cmp w.loaded v.loaded
+    → IsWithin w v
+within_subsets w v s l (effect.Stores x) h = s x h
+within_subsets w v s l (effect.Loads x) h = l x h
+within_subsets w v s l effect.Stops h = refl
+
+-- ---- a child
+
+module _ (w : Allowance) (t : ChildTable) (m b : BTreeSet ℕ) (em : m.keys ≡ with_all [] t.moved)
+    (eb : b.keys ≡ with_all m.keys t.shared) (stores : IsSubset nat_cmp w.stored m)
+    (loads : IsSubset nat_cmp w.loaded b) where
+  moved : (x : ℕ) → has m.keys x ≡ true → IsMember x t.moved
+  moved x h = ⊎_elim (λ z. absurd (cc z)) (λ z. z) (all_in [] t.moved x (subst (λ ks. has ks x ≡ true) em h))
+
+  pub fits_handed : Fits (Some w) t
+  fits_handed (effect.Stores x) h = moved x (stores x h)
+  fits_handed (effect.Loads x) h =
+      ⊎_elim (λ z. member_front x t.moved t.shared (moved x z)) (λ z. member_back x t.moved t.shared z)
+      (all_in m.keys t.shared x (subst (λ ks. has ks x ≡ true) eb (loads x h)))
+  fits_handed effect.Stops h = tt
+
+-- ---- an edge
+
+-- what is done stays the same from a child to the area that starts it, and from a block to one that calls it
+started_same : (n : ℕ) (index : Option ℕ) (own : Bool) (d : Effect) (g : Fact)
+    → fact_along (edge.Started n index) own d ≡ Some g → g.effect ≡ d
+started_same n index own (effect.Stores x) g h = ap (λ (z : Fact). z.effect) (sym
+    (same_Some (fact n (effect.Stores x)) g h))
+started_same n index own (effect.Loads x) g h = go (is_index index x) h
+  where
+    go : (b : Bool) → (if b then None else Some (fact n (effect.Loads x))) ≡ Some g → g.effect ≡ effect.Loads x
+    go true z = absurd (none-some g z)
+    go false z = ap (λ (y : Fact). y.effect) (sym (same_Some (fact n (effect.Loads x)) g z))
+started_same n index own effect.Stops g h = ap (λ (z : Fact). z.effect) (sym (same_Some (fact n effect.Stops) g h))
+
+called_same : (n : ℕ) (own : Bool) (d : Effect) (g : Fact) → fact_along (edge.Called n) own d ≡ Some g → g.effect ≡ d
+called_same n true (effect.Stores x) g h = absurd (none-some g h)
+called_same n false (effect.Stores x) g h = ap (λ (z : Fact). z.effect) (sym
+    (same_Some (fact n (effect.Stores x)) g h))
+called_same n true (effect.Loads x) g h = absurd (none-some g h)
+called_same n false (effect.Loads x) g h = ap (λ (z : Fact). z.effect) (sym
+    (same_Some (fact n (effect.Loads x)) g h))
+called_same n own effect.Stops g h = ap (λ (z : Fact). z.effect) (sym (same_Some (fact n effect.Stops) g h))
+
+module _ (w v : Allowance) where
+  pub passes_started : {n : ℕ} {index : Option ℕ} (e : Edge) → e ≡ edge.Started n index → IsWithin w v
+      → Passes (Some w) (Some v) e
+  passes_started {n} {index} e is i = subst (Passes (Some w) (Some v)) (sym is)
+      (λ own d g s h. subst (λ x. allows v x ≡ true) (sym (started_same n index own d g s)) (i d h))
+
+  pub passes_called : {n : ℕ} (e : Edge) → e ≡ edge.Called n → IsWithin w v → Passes (Some w) (Some v) e
+  passes_called {n} e is i = subst (Passes (Some w) (Some v)) (sym is)
+      (λ own d g s h. subst (λ x. allows v x ≡ true) (sym (called_same n own d g s)) (i d h))
+
+  -- one key is in the one set, so another key is in the other one
+  implied : (a b : Bool) → (not a ≡ true) ⊎ (b ≡ true) → a ≡ true → b ≡ true
+  implied a b (inl h) e = absurd (not_true_and_false a e (not-true a h))
+  implied a b (inr h) e = h
+
+  passed : (n y x : ℕ) → stores_within w v y x ≡ true → loads_within w v y x ≡ true
+      → Passes (Some w) (Some v) (edge.Passed n y x)
+  passed n y x s l own (effect.Stores z) g e h = go (z == y) refl e
+    where
+      go : (b : Bool) → (z == y) ≡ b → (if b then Some (fact n (effect.Stores x)) else None) ≡ Some g
+          → allows v g.effect ≡ true
+      go true q e = subst (λ (f : Fact). allows v f.effect ≡ true) (same_Some (fact n (effect.Stores x)) g e)
+          (implied (has w.stored.keys y) (has v.stored.keys x)
+          (or_cases (not (has w.stored.keys y)) (has v.stored.keys x) s)
+          (subst (λ k. has w.stored.keys k ≡ true) (eqb-true z y q) h))
+      go false q e = absurd (none-some g e)
+  passed n y x s l own (effect.Loads z) g e h = go (z == y) refl e
+    where
+      go : (b : Bool) → (z == y) ≡ b → (if b then Some (fact n (effect.Loads x)) else None) ≡ Some g
+          → allows v g.effect ≡ true
+      go true q e = subst (λ (f : Fact). allows v f.effect ≡ true) (same_Some (fact n (effect.Loads x)) g e)
+          (implied (has w.loaded.keys y) (has v.loaded.keys x)
+          (or_cases (not (has w.loaded.keys y)) (has v.loaded.keys x) l)
+          (subst (λ k. has w.loaded.keys k ≡ true) (eqb-true z y q) h))
+      go false q e = absurd (none-some g e)
+  passed n y x s l own effect.Stops g e h = absurd (none-some g e)
+
+  pub passes_passed : {n y x : ℕ} (e : Edge) → e ≡ edge.Passed n y x → stores_within w v y x ≡ true
+      → loads_within w v y x ≡ true → Passes (Some w) (Some v) e
+  passes_passed {n} {y} {x} e is s l = subst (Passes (Some w) (Some v)) (sym is) (passed n y x s l)
