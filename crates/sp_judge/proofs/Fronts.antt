@@ -134,11 +134,10 @@ module _ (t : Births) (lawful : Lawful t) where
       → (p : ℕ) → p < t.processes → (knowledge_from j n (entries_by_names t es)).forks (t.name p)
       ≡ (births_from s es).forks p
   forks_from [] j n s f fits h = h
-  forks_from (e ∷ es) j n s f fits h =
+  forks_from (e ∷ es) j n s ((room, _), others) fits h =
       let a = (stays s (e ∷ es)).processes in
-      let b = f.0.0 in
       forks_from es (knowledge_after j n (t.name e.process) (happening t e.event)) (suc n) (births_after_entry s e)
-      f.1 fits
+      others fits
       (forks_by j n s e (fits e.process (omega arith)) h)
 
 -- one entry of a nameable journal in which no process makes an entry while its own offer waits
@@ -164,7 +163,7 @@ module _ (all : List Entry) (nameable : NameableFrom first_births all)
   front = nameable_front first_births before (e ∷ rest) (subst (NameableFrom first_births) whole nameable)
 
   pub follows : CanFollow (births before) e
-  follows = front.1.0
+  follows = let (can_follow, _) = front.1 in can_follow
 
   pub front_nameable : NameableFrom first_births before
   front_nameable = front.0
@@ -197,7 +196,7 @@ module _ (all : List Entry) (nameable : NameableFrom first_births all)
       (subst WaitersAreSilent (ap (entries_by_names (births all)) whole ∙ named_more (births all) before e rest) silent)
 
   pub waits_not : WaitsForNone (knowledge_of past) next.who
-  waits_not = silent_parts.1.0
+  waits_not = let (waits, _) = silent_parts.1 in waits
 
   pub stands : Standing (knowledge_of past) past (clocks_of past)
   stands = standing_from no_knowledge [] (λ p q. 0) past nothing_standing silent_parts.0

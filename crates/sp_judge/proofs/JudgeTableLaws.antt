@@ -63,13 +63,13 @@ module _ (s : Births) (os : List Occurrence) (e : Occurrence) (w : Way) (d : Cha
   pub last_stays : (e.what ≡ Offered w d → ⊥) → (o : Option Offer) → IsLast s os w d o → IsLast s (os ++ e ∷ []) w d o
   last_stays off None h = λ i z a. ⊎_elim (λ (x : (i < length os) × OfferIn os i z w d). h i z x.1)
       (λ (x : (i ≡ length os) × (e.what ≡ Offered w d)). off x.1) (old_or_last i z a)
-  last_stays off (Some o) h =
-      let l = get_within os h.0 _ h.2 in (
-        h.0,
-        h.1,
-        get_before_last os e h.0 l ∙ h.2,
-        h.3 ∙ ap (λ xs. count_of_entries xs (s.name o.process)) (sym (take_low os e h.0 (omega arith))),
-        λ k y a. ⊎_elim (λ (x : (k < length os) × OfferIn os k y w d). h.4 k y x.1)
+  last_stays off (Some o) (last, there, offered, place_is, none_later) =
+      let l = get_within os last _ offered in (
+        last,
+        there,
+        get_before_last os e last l ∙ offered,
+        place_is ∙ ap (λ xs. count_of_entries xs (s.name o.process)) (sym (take_low os e last (omega arith))),
+        λ k y a. ⊎_elim (λ (x : (k < length os) × OfferIn os k y w d). none_later k y x.1)
             (λ (x : (k ≡ length os) × (e.what ≡ Offered w d)). absurd (off x.1)) (old_or_last k y a),
       )
 

@@ -222,33 +222,40 @@ module _ (all : List Entry) (nameable : NameableFrom first_births all)
 
   -- an offer waits: they meet
   module _ (z : Offer) (waiting : l.waiting ≡ Some z) where
-    pub its_pending : (y : Name × ℕ) × ((knowledge_of os).pending d ≡ Some y) × (z.process < s.processes)
-        × (s.name z.process ≡ y.0) × (z.place ≡ count_of_entries (take y.1 os) y.0)
-    its_pending = by ((knowledge_of os).pending d)
+    -- the offer that waits there, by the name of its process and its index
+    pub record PendingOffer : Type 0 where
+      pub offer : Name × ℕ
+      pub pending_is : (knowledge_of os).pending d ≡ Some offer
+      pub there : z.process < s.processes
+      pub name_is : s.name z.process ≡ offer.0
+      pub place_is : z.place ≡ count_of_entries (take offer.1 os) offer.0
+
+    pub its_pending : PendingOffer
+    its_pending = by ((knowledge_of os).pending d) refl
         (subst (λ x. IsWaitingOffer s os x ((knowledge_of os).pending d)) waiting its_line.waiting)
       where
-        by : (x : Option (Name × ℕ)) → IsWaitingOffer s os (Some z) x → (y : Name × ℕ) × (x ≡ Some y)
-            × (z.process < s.processes)
-            × (s.name z.process ≡ y.0) × (z.place ≡ count_of_entries (take y.1 os) y.0)
-        by None f = absurd f
-        by (Some y) f = (y, refl, f.0, f.1, f.2)
+        by : (x : Option (Name × ℕ)) → (knowledge_of os).pending d ≡ x → IsWaitingOffer s os (Some z) x → PendingOffer
+        by None e f = absurd f
+        by (Some y) e f = record { offer = y; pending_is = e; there = f.0; name_is = f.1; place_is = f.2 }
 
     abbrev y : Name × ℕ
-    y = its_pending.0
+    y = its_pending.offer
 
     pub z_there : z.process < s.processes
-    z_there = its_pending.2
+    z_there = its_pending.there
 
     pub apart : p ≢ z.process
     apart f = front.waits_not all nameable silent lawful at e inside d y.1
-        (its_pending.1 ∙ (λ i. Some ((sym its_pending.3 ∙ ap s.name (sym f)) i, y.1)))
+        (its_pending.pending_is ∙ (λ i. Some ((sym its_pending.name_is ∙ ap s.name (sym f)) i, y.1)))
 
     pub waits_no_more : IsWaitingOffer s (os ++ occurrence s e ∷ []) None
         ((knowledge_after (knowledge_of os) (length os) (s.name p) (Offered w d)).pending d)
     waits_no_more = subst (IsWaitingOffer s (os ++ occurrence s e ∷ []) None) (sym pending) tt
       where
         pending : (knowledge_after (knowledge_of os) (length os) (s.name p) (Offered w d)).pending d ≡ None
-        pending = ap (λ x. (knowledge_after_offer (knowledge_of os) (s.name p) (length os) d x).pending d) its_pending.1
+        pending =
+            ap (λ x. (knowledge_after_offer (knowledge_of os) (s.name p) (length os) d x).pending d)
+            its_pending.pending_is
             ∙ ap (λ x. cond x None ((knowledge_of os).pending d)) (channel_itself d)
 
     pub clocks_met : (c' : ℕ → ℕ → ℕ) → ((r q : ℕ) → IsAsked until (at + 1) q
@@ -263,10 +270,10 @@ module _ (all : List Entry) (nameable : NameableFrom first_births all)
         ∙ (λ i. cond (tz i) (max (cond (tp i) (max (x i) (whole i)) (x i)) (whole i))
         (cond (tp i) (max (x i) (whole i)) (x i)))
         ∙ sym (ap (λ f. f (s.name r) (s.name q)) (counted_is ∙ ap (clocks_after_offer (clocks_of os) os (s.name p))
-        its_pending.1))
+        its_pending.pending_is))
       where
         tz : z.process == r ≡ same_name y.0 (s.name r)
-        tz = same_process s lawful z.process r z_there a ∙ ap (λ n. same_name n (s.name r)) its_pending.3
+        tz = same_process s lawful z.process r z_there a ∙ ap (λ n. same_name n (s.name r)) its_pending.name_is
 
         tp : p == r ≡ same_name (s.name p) (s.name r)
         tp = same_process s lawful p r this_there a
@@ -278,11 +285,12 @@ module _ (all : List Entry) (nameable : NameableFrom first_births all)
             ≡ clock_of_waiter (clocks_of os) os y.0 y.1 (s.name q)
         theirs_is =
             let t : z.process == q ≡ same_name y.0 (s.name q) = same_process s lawful z.process q z_there k.0
-            ∙ ap (λ n. same_name n (s.name q)) its_pending.3 in
+            ∙ ap (λ n. same_name n (s.name q)) its_pending.name_is in
             let u : clock_at b.clocks.items z.process q ≡ clocks_of os y.0 (s.name q) =
             clock_is all nameable silent lawful at e inside until b h z.process q z_there k
-            ∙ ap (λ n. clocks_of os n (s.name q)) its_pending.3 in
-            let v : z.place + 1 ≡ suc (count_of_entries (take y.1 os) y.0) = next_is_suc z.place _ its_pending.4 in
+            ∙ ap (λ n. clocks_of os n (s.name q)) its_pending.name_is in
+            let v : z.place + 1 ≡ suc (count_of_entries (take y.1 os) y.0) = next_is_suc z.place _ its_pending.place_is
+            in
             λ i. cond (t i) (max (u i) (v i)) (u i)
 
         whole : max (with_own (clock_at b.clocks.items) p (number_at b.made.items p + 1) q)

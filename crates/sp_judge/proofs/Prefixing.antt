@@ -109,8 +109,8 @@ module _ (es : List Occurrence) (e : Occurrence) where
   fine_more : (f : ℕ → Bool) → IsPrefixClosed es f → IsPrefixClosed more f
   fine_more f a = record {
     closed = λ q i k h c d l.
-        let b = a.counted i h in
-        let m = slice_get_within es i _ b.1.1 in
+        let (_, (_, is_there, _)) = a.counted i h in
+        let m = slice_get_within es i _ is_there in
         a.closed q i k h (counts_low q i m c) (counts_low q k (omega arith) d) l;
     counted = λ i h. let b = a.counted i h in (b.0, counts_more b.0 i b.1);
   }

@@ -119,12 +119,14 @@ module _ (g : RunInput) where
       → (turn since : ℕ) (q : Name) (k : ℕ) (s m : StateOf g) (paused : Bool) → Turn g turn since q k s m paused → P s
       → P m
   turn_keeps P step turn since q zero s m paused h p = subst P (sym h.0) p
-  turn_keeps P step turn since q (suc k) s m paused h p =
-      let one = step s q h.0 h.3 p h.1 h.2 h.4 in
-      rest (is_due_after g turn since s h.0 q h.3) h.5 one (λ y. turn_keeps P step turn since q k h.3 m paused y one)
+  turn_keeps P step turn since q (suc k) s m paused (own, runs, silent, next, goes, onward) p =
+      let one = step s q own next p runs silent goes in
+      rest (is_due_after g turn since s own q next) onward one
+      (λ y. turn_keeps P step turn since q k next m paused y one)
     where
-      rest : (b : Bool) → Either b ((k ≡ 0) × (m ≡ h.3) × (paused ≡ true)) (Turn g turn since q k h.3 m paused) → P h.3
-          → (Turn g turn since q k h.3 m paused → P m) → P m
+      rest : (b : Bool) → Either b ((k ≡ 0) × (m ≡ next) × (paused ≡ true)) (Turn g turn since q k next m paused) → P
+          next
+          → (Turn g turn since q k next m paused → P m) → P m
       rest true y one later = subst P (sym y.1) one
       rest false y one later = later y
 
@@ -143,11 +145,11 @@ module _ (g : RunInput) where
   along_broken : (turn : ℕ) (es : List Occurrence) (c : Course) (s : StateOf g) (r : ℕ) (t : StateOf g)
       → c.faulted ≡ true → Along g turn c s es r t → Broken s → Broken t
   along_broken turn [] c s r t f a b = subst (λ (z : StateOf g). Broken z) (sym a.1) b
-  along_broken turn (e ∷ es) c s r t f a b =
-      laid_on (λ c1 u d. Along g turn c1 u es d t) c a.3 a.4 e.who e.what a.2 (Broken t) f a.7 (λ more.
-      along_broken turn es (with_fault e.who c) a.3 a.2 t refl more
+  along_broken turn (e ∷ es) c s r t f (_, steps, rest, between, paused, _, locals, enters) b =
+      laid_on (λ c1 u d. Along g turn c1 u es d t) c between paused e.who e.what rest (Broken t) f enters (λ more.
+      along_broken turn es (with_fault e.who c) between rest t refl more
       (turn_keeps Broken (λ s q own m b run says_none st. stays_broken s q b own m run says_none st) turn
-      (c.since e.who) e.who a.1 s a.3 a.4 a.6 b))
+      (c.since e.who) e.who steps s between paused locals b))
 
   -- an entry before a fault, by what comes of the rest
   module _ (left : Course → StateOf g → ℕ → Type 0) (c : Course) (m : StateOf g) (paused : Bool) (q : Name)
@@ -167,28 +169,28 @@ module _ (g : RunInput) where
 
     entered_clean : (w : Happening) (r : ℕ) → c.faulted ≡ false → EntryStep g left c m paused q w r → Rest → Laid_rest
         → Clean_or w
-    entered_clean Opened r f h go laid = with_first Opened tt
-        (go _ h.2 h.3 f (step_sound (total_limits g) m q h.2 sound h.5.3) h.6)
-    entered_clean (Forked i) r f h go laid =
-        with_first (Forked i) tt (go _ h.2 h.3 f (step_sound (total_limits g) m q h.2 sound h.5.3) h.6)
-    entered_clean (Offered w d) r f h go laid =
-        with_first (Offered w d) tt (go _ h.2 h.3 f (step_sound (total_limits g) m q h.2 sound h.5.3) h.6)
-    entered_clean happenings.Ended r f h go laid =
-        with_first happenings.Ended tt (go _ h.2 h.3 f (step_sound (total_limits g) m q h.2 sound h.5.3) h.6)
-    entered_clean (Faulted x) r f h go laid =
-        inr (laid _ h.2 h.3 refl (failed m q h.5.0 sound h.5.1 x h.2 h.5.2 h.5.3) h.6)
+    entered_clean Opened r f (_, _, u, rest, _, (_, _, _, goes), after) go laid = with_first Opened tt
+        (go _ u rest f (step_sound (total_limits g) m q u sound goes) after)
+    entered_clean (Forked i) r f (_, _, u, rest, _, (_, _, _, goes), after) go laid =
+        with_first (Forked i) tt (go _ u rest f (step_sound (total_limits g) m q u sound goes) after)
+    entered_clean (Offered w d) r f (_, _, u, rest, _, (_, _, _, goes), after) go laid =
+        with_first (Offered w d) tt (go _ u rest f (step_sound (total_limits g) m q u sound goes) after)
+    entered_clean happenings.Ended r f (_, _, u, rest, _, (_, _, _, goes), after) go laid =
+        with_first happenings.Ended tt (go _ u rest f (step_sound (total_limits g) m q u sound goes) after)
+    entered_clean (Faulted x) r f (_, _, u, rest, _, (own, runs, says, goes), after) go laid =
+        inr (laid _ u rest refl (failed m q own sound runs x u says goes) after)
     entered_clean Laid r f h go laid = absurd (not_true_and_false c.faulted h.0 f)
     entered_clean Paused r f h go laid = with_first Paused tt (go _ m r f sound h.2)
 
   along_clean : (turn : ℕ) (es : List Occurrence) (c : Course) (s : StateOf g) (r : ℕ) (t : StateOf g)
       → c.faulted ≡ false → Along g turn c s es r t → Sound s → IsClean es ⊎ Broken t
   along_clean turn [] c s r t f a sound = inl tt
-  along_clean turn (e ∷ es) c s r t f a sound =
-      let there : Sound a.3 = turn_keeps (λ (z : StateOf g). Sound z)
-      (λ s q own m b run says_none st. step_sound (total_limits g) s q m b st) turn (c.since e.who) e.who a.1 s a.3
-      a.4 a.6
+  along_clean turn (e ∷ es) c s r t f (_, steps, rest, between, paused, _, locals, enters) sound =
+      let there : Sound between = turn_keeps (λ (z : StateOf g). Sound z)
+      (λ s q own m b run says_none st. step_sound (total_limits g) s q m b st) turn (c.since e.who) e.who steps s
+      between paused locals
       sound in
-      entered_clean (λ c1 u d. Along g turn c1 u es d t) c a.3 a.4 e.who es t there e.what a.2 f a.7
+      entered_clean (λ c1 u d. Along g turn c1 u es d t) c between paused e.who es t there e.what rest f enters
       (λ c1 u d f1 sound1 more. along_clean turn es c1 u d t f1 more sound1)
       (λ c1 u d f1 broken more. along_broken turn es c1 u d t f1 more broken)
 
@@ -251,9 +253,9 @@ one_verdict es e (verdict.Race w c i k) verdict.Ordered a b = absurd ((a.1).0 b.
 one_verdict es e (verdict.Race w c i k) (verdict.Race v d x y) a b =
     let p = (a.1).1 in
     let q = (b.1).1 in
-    let s = same_race es w v p.0 q.0 i k x y p.2 q.2 in
-    let channels : c ≡ d = p.1 ∙ ap chan_name s.1 ∙ sym q.1 in
-    race_is w v c d i k x y s.0 channels s.2 s.3
+    let (ways, channel_is, earlier, later) = same_race es w v p.0 q.0 i k x y p.2 q.2 in
+    let channels : c ≡ d = p.1 ∙ ap chan_name channel_is ∙ sym q.1 in
+    race_is w v c d i k x y ways channels earlier later
   where
     race_is : (w v : Way) (c d : ChanName) (i k x y : ℕ) → w ≡ v → c ≡ d → i ≡ x → k ≡ y
         → verdict.Race w c i k ≡ verdict.Race v d x y

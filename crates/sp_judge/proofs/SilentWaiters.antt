@@ -137,20 +137,20 @@ module _ (g : RunInput) where
   turned : (turn since : ℕ) (q : Name) (k : ℕ) (s m : StateOf g) (paused : Bool) (j : Knowledge)
       → Turn g turn since q k s m paused → Matches s j → Matches m j
   turned turn since q zero s m paused j h match = subst (λ z. Matches z j) (sym h.0) match
-  turned turn since q (suc k) s m paused j h match =
-      let one = stepped s j q 0 match h.0 h.3 None h.1 h.2 h.4 in
-      rest (is_due_after g turn since s h.0 q h.3) h.5 one (λ y. turned turn since q k h.3 m paused j y one)
+  turned turn since q (suc k) s m paused j (own, runs, silent, next, goes, onward) match =
+      let one = stepped s j q 0 match own next None runs silent goes in
+      rest (is_due_after g turn since s own q next) onward one (λ y. turned turn since q k next m paused j y one)
     where
-      rest : (b : Bool) → Either b ((k ≡ 0) × (m ≡ h.3) × (paused ≡ true)) (Turn g turn since q k h.3 m paused)
-          → Matches h.3 j → (Turn g turn since q k h.3 m paused → Matches m j) → Matches m j
+      rest : (b : Bool) → Either b ((k ≡ 0) × (m ≡ next) × (paused ≡ true)) (Turn g turn since q k next m paused)
+          → Matches next j → (Turn g turn since q k next m paused → Matches m j) → Matches m j
       rest true y one later = subst (λ z. Matches z j) (sym y.1) one
       rest false y one later = later y
 
   -- who makes the local steps of an entry is running
   turn_runs : (turn since : ℕ) (q : Name) (k : ℕ) (s m : StateOf g) (paused : Bool) → Turn g turn since q k s m paused
       → (own : Process) × (running_process g s q ≡ Some own)
-  turn_runs turn since q zero s m paused h = (h.2, h.3)
-  turn_runs turn since q (suc k) s m paused h = (h.0, h.1)
+  turn_runs turn since q zero s m paused (_, _, own, runs, _, _) = (own, runs)
+  turn_runs turn since q (suc k) s m paused (own, runs, _, _, _, _) = (own, runs)
 
   abbrev Goes_on : (Course → StateOf g → ℕ → Type 0) → Knowledge → Type 0 → Type 0
   Goes_on left j A = (c : Course) (u : StateOf g) (r : ℕ) → left c u r → Matches u j → A
@@ -158,8 +158,8 @@ module _ (g : RunInput) where
   kernel_on : (left : Course → StateOf g → ℕ → Type 0) (c : Course) (m : StateOf g) (paused : Bool) (q : Name)
       (w : Happening) (r : ℕ) (j : Knowledge) (n : ℕ) (A : Type 0) → KernelStep g left c m paused q w r → Matches m j
       → Goes_on left (knowledge_after j n q w) A → A
-  kernel_on left c m paused q w r j n A h match go =
-      go _ h.2 h.3 h.6 (stepped m j q n match h.5.0 h.2 (Some w) h.5.1 h.5.2 h.5.3)
+  kernel_on left c m paused q w r j n A (_, _, u, rest, _, (own, runs, says, goes), after) match go =
+      go _ u rest after (stepped m j q n match own u (Some w) runs says goes)
 
   entered_on : (left : Course → StateOf g → ℕ → Type 0) (c : Course) (m : StateOf g) (paused : Bool) (q : Name)
       (w : Happening) (r : ℕ) (j : Knowledge) (n : ℕ) (A : Type 0) → EntryStep g left c m paused q w r → Matches m j
@@ -178,12 +178,13 @@ module _ (g : RunInput) where
   along_silent : (turn : ℕ) (es : List Occurrence) (c : Course) (s : StateOf g) (r : ℕ) (t : StateOf g) (j : Knowledge)
       (n : ℕ) → Along g turn c s es r t → Matches s j → WaitersSilentFrom j n es
   along_silent turn [] c s r t j n a match = tt
-  along_silent turn (e ∷ es) c s r t j n a match =
-      let run = turn_runs turn (c.since e.who) e.who a.1 s a.3 a.4 a.6 in (
+  along_silent turn (e ∷ es) c s r t j n (_, steps, rest, between, paused, _, locals, enters) match =
+      let run = turn_runs turn (c.since e.who) e.who steps s between paused locals in (
         waits_for_none s j e.who run.0 match run.1,
-        entered_on _ c a.3 a.4 e.who e.what a.2 j n (WaitersSilentFrom (knowledge_after j n e.who e.what) (suc n)
-            es) a.7
-            (turned turn (c.since e.who) e.who a.1 s a.3 a.4 j a.6 match)
+        entered_on _ c between paused e.who e.what rest j n
+            (WaitersSilentFrom (knowledge_after j n e.who e.what) (suc n)
+            es) enters
+            (turned turn (c.since e.who) e.who steps s between paused j locals match)
             (λ c1 u d b more. along_silent turn es c1 u d t (knowledge_after j n e.who e.what) (suc n) b more),
       )
 

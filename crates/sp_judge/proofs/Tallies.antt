@@ -70,18 +70,18 @@ made_grows es e q = subst (λ x. count_of_entries es q ≤ x) (sym (made_last es
 
 -- an entry of a process has fewer before it than all
 pub place_few : (es : List Occurrence) (q : Name) (i k : ℕ) → PlaceOf es q i k → k < count_of_entries es q
-place_few [] q i k p = absurd (let l = slice_get_within [] i _ p.1 in omega arith)
-place_few (x ∷ es) q zero k p =
-    let e : x ≡ record { who = q; what = p.0 } = same_Some x _ p.1 in
+place_few [] q i k (_, at_is, _, _) = absurd (let l = slice_get_within [] i _ at_is in omega arith)
+place_few (x ∷ es) q zero k (what, at_is, counted, place_is) =
+    let e : x ≡ record { who = q; what = what } = same_Some x _ at_is in
     let t : same_name x.who q && is_counted x.what ≡ true =
     ap (λ (y : Occurrence). same_name y.who q && is_counted y.what) e
-    ∙ and_from (same_name q q) (is_counted p.0) (name_itself q) p.2 in
+    ∙ and_from (same_name q q) (is_counted what) (name_itself q) counted in
     let m : count_of_entries (x ∷ es) q ≡ suc (count_of_entries es q) =
     ap (λ b. cond b (suc (count_of_entries es q)) (count_of_entries es q)) t in
-    let z = p.3 in
     omega arith
-place_few (x ∷ es) q (suc i) k p = by (place_few es q i (count_of_entries (take i es) q) (p.0, p.1, p.2, refl))
-    (same_name x.who q && is_counted x.what) p.3
+place_few (x ∷ es) q (suc i) k (what, at_is, counted, place_is) =
+    by (place_few es q i (count_of_entries (take i es) q) (what, at_is, counted, refl))
+    (same_name x.who q && is_counted x.what) place_is
   where
     by : count_of_entries (take i es) q < count_of_entries es q → (b : Bool)
         → k ≡ cond b (suc (count_of_entries (take i es) q)) (count_of_entries (take i es) q)
@@ -94,24 +94,25 @@ module _ (es : List Occurrence) (e : Occurrence) where
   more = es ++ e ∷ []
 
   pub place_inside : (q : Name) (i k : ℕ) → PlaceOf more q i k → i < suc (length es)
-  place_inside q i k p = let l = slice_get_within more i _ p.1 in let a = length-append es (e ∷ []) in omega arith
+  place_inside q i k (_, at_is, _, _) =
+      let l = slice_get_within more i _ at_is in let a = length-append es (e ∷ []) in omega arith
 
   pub place_low : (q : Name) (i k : ℕ) → i < length es → PlaceOf more q i k → PlaceOf es q i k
-  place_low q i k l p = (
-    p.0,
-    sym (get_low es e i l) ∙ p.1,
-    p.2,
-    p.3
+  place_low q i k l (what, at_is, counted, place_is) = (
+    what,
+    sym (get_low es e i l) ∙ at_is,
+    counted,
+    place_is
         ∙ ap (λ xs. count_of_entries xs q) (take_low es e i (omega arith)),
   )
 
   pub place_last : (q : Name) (k : ℕ) → PlaceOf more q (length es) k → (e.who ≡ q) × (is_counted e.what ≡ true)
       × (k ≡ count_of_entries es q)
-  place_last q k p =
-      let f : e ≡ record { who = q; what = p.0 } = same_Some e _ (sym (get_last es e) ∙ p.1) in (
+  place_last q k (what, at_is, counted, place_is) =
+      let f : e ≡ record { who = q; what = what } = same_Some e _ (sym (get_last es e) ∙ at_is) in (
         ap (λ (x : Occurrence). x.who) f,
-        ap (λ (x : Occurrence). is_counted x.what) f ∙ p.2,
-        p.3
+        ap (λ (x : Occurrence). is_counted x.what) f ∙ counted,
+        place_is
             ∙ ap (λ xs. count_of_entries xs q) (take_low es e (length es) (omega arith) ∙ take_all es),
       )
 
@@ -213,9 +214,9 @@ module _ (j : Knowledge) (es : List Occurrence) (count : Name → Name → ℕ) 
         (kept.own z i (counts_of z i k p))
 
     same_place : (q : Name) (k : ℕ) → PlaceOf es q x k → (z ≡ q) × (k ≡ count_of_entries (take x es) z)
-    same_place q k p =
-        let e : z ≡ q = who _ _ (sym its_place.1 ∙ p.1) in
-        (e, p.3 ∙ ap (λ r. count_of_entries (take x es) r) (sym e))
+    same_place q k (_, at_is, _, place_is) =
+        let e : z ≡ q = who _ _ (sym its_place.1 ∙ at_is) in
+        (e, place_is ∙ ap (λ r. count_of_entries (take x es) r) (sym e))
       where
         who : (a b : Occurrence) → ◌≡◌ {A = Option Occurrence} (Some a) (Some b) → a.who ≡ b.who
         who a b e = ap (λ (o : Occurrence). o.who) (same_Some a b e)

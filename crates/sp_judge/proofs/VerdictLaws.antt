@@ -178,39 +178,42 @@ module _ (all : List Entry) (nameable : NameableFrom first_births all)
       pub last_known : (w : Way) (d : Channel) (o : Offer) → IsAsked until at o.process → IsLast s os w d (Some o)
           → AreKnown os → (o.place < clock_at b.clocks.items e.process o.process)
           ↔ KnowsOffers (knowledge_of os) os (s.name e.process) (Offered w d)
-      last_known w d o asked l known = (
-        λ x. knows_by_last (knowledge_of os) os (chains_of os known) (s.name e.process) w d l.0 (s.name o.process)
-            l.2 l.4
-            (known_is o.process l.0 o.place w d l.1 asked l.2 l.3
+      last_known w d o asked (i, there_too, offered, place_is, none_later) known = (
+        λ x. knows_by_last (knowledge_of os) os (chains_of os known) (s.name e.process) w d i (s.name o.process)
+            offered none_later
+            (known_is o.process i o.place w d there_too asked offered place_is
             ∙ lt-ltb o.place (clock_at b.clocks.items e.process o.process) x),
         λ x. ltb-true o.place (clock_at b.clocks.items e.process o.process)
-            (sym (known_is o.process l.0 o.place w d l.1 asked l.2 l.3) ∙ x l.0 (s.name o.process) l.2),
+            (sym (known_is o.process i o.place w d there_too asked offered place_is) ∙ x i (s.name o.process) offered),
       )
 
     -- the same by the counts
     pub last_counted : (w : Way) (d : Channel) (o : Offer) → IsLast s os w d (Some o) → AreKnown os
         → (o.place < clocks_of os (s.name e.process) (s.name o.process))
         ↔ KnowsOffers (knowledge_of os) os (s.name e.process) (Offered w d)
-    last_counted w d o l known = (
-      λ x. knows_by_last (knowledge_of os) os (chains_of os known) (s.name e.process) w d l.0 (s.name o.process) l.2 l.4
-          (counts_say (s.name e.process) o.process l.0 o.place w d l.2 l.3
+    last_counted w d o (i, _, offered, place_is, none_later) known = (
+      λ x. knows_by_last (knowledge_of os) os (chains_of os known) (s.name e.process) w d i (s.name o.process) offered
+          none_later
+          (counts_say (s.name e.process) o.process i o.place w d offered place_is
           ∙ lt-ltb o.place (clocks_of os (s.name e.process) (s.name o.process)) x),
       λ x. ltb-true o.place (clocks_of os (s.name e.process) (s.name o.process))
-          (sym (counts_say (s.name e.process) o.process l.0 o.place w d l.2 l.3) ∙ x l.0 (s.name o.process) l.2),
+          (sym (counts_say (s.name e.process) o.process i o.place w d offered place_is) ∙ x i (s.name o.process)
+          offered),
     )
 
     -- an offer of its own is known to a process that makes an entry
     pub own_known : (w : Way) (d : Channel) (o : Offer) → o.process ≡ e.process → IsLast s os w d (Some o) → AreKnown os
         → KnowsOffers (knowledge_of os) os (s.name e.process) (Offered w d)
-    own_known w d o same l known = knows_by_last (knowledge_of os) os (chains_of os known) (s.name e.process) w d l.0
-        (s.name o.process) l.2 l.4
+    own_known w d o same (i, _, offered, _, none_later) known =
+        knows_by_last (knowledge_of os) os (chains_of os known) (s.name e.process) w d i
+        (s.name o.process) offered none_later
         (⊎_elim
-        (λ (k : (knowledge_of os).past (s.name o.process) l.0 ≡ true). subst
-        (λ (x : ℕ). (knowledge_of os).past (s.name x) l.0 ≡ true) same k)
-        (λ (k : (c : Channel) × ((knowledge_of os).pending c ≡ Some (s.name o.process, l.0))).
-        absurd (front.waits_not all nameable silent lawful at e inside k.0 l.0
-        (k.1 ∙ ap (λ (x : ℕ). Some (s.name x, l.0)) same)))
-        (stands.kept.own (s.name o.process) l.0 (Offered w d, l.2, refl)))
+        (λ (k : (knowledge_of os).past (s.name o.process) i ≡ true). subst
+        (λ (x : ℕ). (knowledge_of os).past (s.name x) i ≡ true) same k)
+        (λ (k : (c : Channel) × ((knowledge_of os).pending c ≡ Some (s.name o.process, i))).
+        absurd (front.waits_not all nameable silent lawful at e inside k.0 i
+        (k.1 ∙ ap (λ (x : ℕ). Some (s.name x, i)) same)))
+        (stands.kept.own (s.name o.process) i (Offered w d, offered, refl)))
 
     pub none_known : (w : Way) (d : Channel) → IsLast s os w d None
         → KnowsOffers (knowledge_of os) os (s.name e.process) (Offered w d)
@@ -285,14 +288,17 @@ module _ (all : List Entry) (nameable : NameableFrom first_births all)
       pub all_below : AreKnown os → (middle i : ℕ) → middle ≤ at → IsLastOffer all middle w c i
           → (knowledge_of os).past (s.name e.process) i ≡ true → (k : ℕ) → k < middle
           → IsUnknown s os all e.process w c k → ⊥
-      all_below known middle i m last k_i k l u =
-          u.3 ((chains_of os known).past (s.name e.process) i k w (channel s c) (s.name last.1.0.process)
-          (s.name u.0.process)
-          (offer_in w c i last.1.0 (let a = last.0 in omega arith) last.1.1 last.1.2)
-          (offer_in w c k u.0 (omega arith) u.1 u.2) no_later k_i)
+      all_below known middle i m (below, (last_offer, last_at, last_is), none_later) k_i k l
+          (offer, offer_at, offer_is, unknown) =
+          unknown ((chains_of os known).past (s.name e.process) i k w (channel s c) (s.name last_offer.process)
+          (s.name offer.process)
+          (offer_in w c i last_offer (omega arith) last_at last_is)
+          (offer_in w c k offer (omega arith) offer_at offer_is) no_later k_i)
         where
           no_later : k ≤ i
-          no_later = ⊎_elim (λ (a : i < k). absurd (last.2 k a l (u.0, u.1, u.2))) (λ (a : k ≤ i). a) (cases_lt i k)
+          no_later =
+              ⊎_elim (λ (a : i < k). absurd (none_later k a l (offer, offer_at, offer_is))) (λ (a : k ≤ i). a)
+              (cases_lt i k)
 
       -- what the counts say of an offer
       pub counted_offer : (i place : ℕ) (x : Entry) → i < at → slice_get all i ≡ Some x → x.event ≡ offer_event w c
@@ -307,23 +313,20 @@ module _ (all : List Entry) (nameable : NameableFrom first_births all)
       -- the first unknown offer and this one are the least race
       pub first_race : (i : ℕ) → IsFirstUnknown s os all at e.process w c i → AreKnown os
           → IsLeastRace (entries_by_names s all) w (channel s c) i at
-      first_race i f known = (race, least)
+      first_race i (before_it, (x, x_at, x_is, not_known), none_before) known = (race, least)
         where
-          x : Entry
-          x = f.1.0
-
           race : Race (entries_by_names s all) w (channel s c) i at
           race = record {
-            before = f.0;
+            before = before_it;
             first = s.name x.process;
-            offered_first = named_get s all i x f.1.1
+            offered_first = named_get s all i x x_at
                 ∙ (λ j. Some (record {
                   who = s.name x.process;
-                  what = (ap (happening s) f.1.2 ∙ offer_happens s w c) j;
+                  what = (ap (happening s) x_is ∙ offer_happens s w c) j;
                 }));
             second = s.name e.process;
             offered_second = later_offer;
-            unknown = λ k. f.1.3 (knows_offer (s.name e.process) i
+            unknown = λ k. not_known (knows_offer (s.name e.process) i
                 (subst (λ (xs : List Occurrence). KnowsCompletion (knowledge_of xs) (s.name e.process) i) front_is k));
           }
 
@@ -382,7 +385,7 @@ module _ (all : List Entry) (nameable : NameableFrom first_births all)
 
               -- of those that end here, this one begins first
               here : at ≡ n → i ≤ m
-              here y = ⊎_elim (λ (l : m < i). absurd (f.2 m l unknown)) (λ (l : i ≤ m). l) (cases_lt m i)
+              here y = ⊎_elim (λ (l : m < i). absurd (none_before m l unknown)) (λ (l : i ≤ m). l) (cases_lt m i)
                 where
                   this : ◌≡◌ {A = Occurrence} (record { who = s.name e.process; what = Offered w (channel s c) })
                       (record { who = r.second; what = Offered v d })

@@ -121,9 +121,9 @@ module _ (G : RunContext) (lf : BirthRights) (kids : ℕ → ℕ → BirthRights
         by : MovedStands G.g G.code w (Named G) (Called G) Wr Rd lf.J lf.low (length lf.below) lf.born since G.pause
             lf.moved G.formed G.laid G.free f.reads G.moves G.shares G.sets t st sound unread child new_name table refl
             refl value j a → ⊥
-        by (inl b) = no_target b.1.0 b.1.1
-        by (inr (inl b)) = no_target b.1.0 b.1.1
-        by (inr (inr b)) = no_target b.4.0 b.4.1
+        by (inl (_, (variable, target, _))) = no_target variable target
+        by (inr (inl (_, (variable, target, _)))) = no_target variable target
+        by (inr (inr (_, _, _, _, (number, target, _), _, _))) = no_target number target
 
     -- an index that it uses, other than its own, is in scope around the forall
     in_scope : (y : ℕ) → IsUsed G.g.program (In_stmt st) y → (Some x ≡ Some y → ⊥) → (v : Variable)

@@ -80,7 +80,7 @@ module _ (g : RunInput) (moves shares : Stmt → List ℕ) (pause : ℕ) (ready 
   -- one stands in the machine where it stands in the program
   fault_both : (b : Bool) → t.faulted ≡ b → s.fault ≡ None → b ≡ false
   fault_both false e q = refl
-  fault_both true e q = let w = program_faulted e in absurd (none-some _ (sym q ∙ w.3))
+  fault_both true e q = let (_, _, _, faulted) = program_faulted e in absurd (none-some _ (sym q ∙ faulted))
 
   -- ---- nobody can go on
 

@@ -139,7 +139,9 @@ module _ (g : RunInput) where
       process_is = ap (λ (y : Entry). y.process) x
 
       name_is : b.name e.process ≡ (births_from b (e ∷ es)).name p
-      name_is = (grows_from (e ∷ es) b w m).names e.process m.0.0 ∙ ap (λ y. (births_from b (e ∷ es)).name y) process_is
+      name_is =
+          let ((room, _), _) = m in (grows_from (e ∷ es) b w m).names e.process room ∙ ap
+          (λ y. (births_from b (e ∷ es)).name y) process_is
 
       by : EntryStep g (λ c1 u r. Along g pause c1 u (occurrences_from (births_after_event b e.process e.event) es) r
           t) c mid

@@ -229,22 +229,26 @@ module _ (k : Control) (t : System Plain) (a : AgreesWithSystem k t) where
     where
       by : ((k.doing h.0 ≡ Sending h.1) × (w ≡ Sends_at k.births h.0 h.1))
           ⊎ ((k.doing h.0 ≡ Receiving h.1) × (w ≡ Receives_at k.births h.0 h.1)) → WaitsAs t w
-      by (inl x) = let z = to_send t.births h.0 h.1 (t.condition h.0) (sym (ap phase x.0) ∙ a.each h.0) in (
-        h.0,
-        z.0,
-        z.1,
-        z.2,
-        z.3 ∙ ap (λ (y : Births). Some (Sends_at y h.0 h.1)) (sym a.births)
-            ∙ ap (λ y. Some y) (sym x.1),
-      )
-      by (inr x) = let z = to_receive t.births h.0 h.1 (t.condition h.0) (sym (ap phase x.0) ∙ a.each h.0) in (
-        h.0,
-        z.0,
-        z.1,
-        z.2,
-        z.3 ∙ ap (λ (y : Births). Some (Receives_at y h.0 h.1)) (sym a.births)
-            ∙ ap (λ y. Some y) (sym x.1),
-      )
+      by (inl x) =
+          let (stop, configuration, waits, waiting) = to_send t.births h.0 h.1 (t.condition h.0)
+          (sym (ap phase x.0) ∙ a.each h.0) in (
+            h.0,
+            stop,
+            configuration,
+            waits,
+            waiting ∙ ap (λ (y : Births). Some (Sends_at y h.0 h.1)) (sym a.births)
+                ∙ ap (λ y. Some y) (sym x.1),
+          )
+      by (inr x) =
+          let (stop, configuration, waits, waiting) = to_receive t.births h.0 h.1 (t.condition h.0)
+          (sym (ap phase x.0) ∙ a.each h.0) in (
+            h.0,
+            stop,
+            configuration,
+            waits,
+            waiting ∙ ap (λ (y : Births). Some (Receives_at y h.0 h.1)) (sym a.births)
+                ∙ ap (λ y. Some y) (sym x.1),
+          )
 
   system_waits : (w : Waiting) → WaitsAs t w → IsWaiting k w
   system_waits w (i, stop, d, at, told) = by stop at told
@@ -310,12 +314,13 @@ module _ (g : RunInput) (moves shares : Stmt → List ℕ) (pause : ℕ) (ready 
           → plain.output m ≡ Some bs → bs ≡ output_of g s
       history_held q m bs at out =
           let one = one_holder run t ns (λ es u l. program_well g moves shares pause ready es u l) r in
-          let mine = history_output in
-          let holder : q ≡ mine.0 = one.2.only q m bs at out
-          ∙ sym (one.2.only mine.0 mine.1 (output_of g s) mine.2 mine.3) in
-          let store : Some m ≡ Some mine.1 = sym at ∙ ap (λ y. store_in (t.condition y)) holder ∙ mine.2 in
-          let outputs : Some bs ≡ Some (output_of g s) = sym out ∙ ap (λ y. plain.output y) (same_Some m mine.1 store)
-          ∙ mine.3 in
+          let (holder_number, store_there, held_there, output_there) = history_output in
+          let holder : q ≡ holder_number = one.2.only q m bs at out
+          ∙ sym (one.2.only holder_number store_there (output_of g s) held_there output_there) in
+          let store : Some m ≡ Some store_there = sym at ∙ ap (λ y. store_in (t.condition y)) holder ∙ held_there in
+          let outputs : Some bs ≡ Some (output_of g s) = sym out ∙ ap (λ y. plain.output y)
+          (same_Some m store_there store)
+          ∙ output_there in
           same_Some bs (output_of g s) outputs
 
       -- the first process has ended
@@ -341,15 +346,17 @@ module _ (g : RunInput) (moves shares : Stmt → List ℕ) (pause : ℕ) (ready 
       pub history_deadlock : (ws : List Waiting) → standing (control ns) ≡ ctrl.IsDeadlock
           → AreAllWaiting (control ns) ws → IsDeadlock g s ws
       history_deadlock ws e q =
-          let w = stands_deadlock (nat_lt 0 (control ns).abandons) (control ns).faulted
+          let (none_abandon, no_fault, root_goes, none_ready) = stands_deadlock (nat_lt 0 (control ns).abandons)
+          (control ns).faulted
           (has_ended ((control ns).doing 0)) (is_ready (control ns).ready || nat_lt 0 (control ns).out) e in
-          let v = or_parts (is_ready (control ns).ready) (nat_lt 0 (control ns).out) w.3 in
+          let v = or_parts (is_ready (control ns).ready) (nat_lt 0 (control ns).out) none_ready in
           let still = nobody_runs (control ns) t alike.0 alike.1 outs (no_queue (control ns).ready v.0)
-          (none_if_not_above (control ns).out v.1) (none_gone ns (none_if_not_above (control ns).abandons w.0)) in
+          (none_if_not_above (control ns).out v.1) (none_gone ns
+          (none_if_not_above (control ns).abandons none_abandon)) in
           program_stuck g moves shares pause ready (entries_of ns) t journal n s k ws (record {
-            no_fault = sym alike.1.faulted ∙ w.1;
+            no_fault = sym alike.1.faulted ∙ no_fault;
             idle = λ i d x. still i (ap (λ y. phase_in y) x);
-            goes_on = λ d x. live_phase ((control ns).doing 0) w.2 (alike.1.each 0 ∙ ap (λ y. phase_in y) x);
+            goes_on = λ d x. live_phase ((control ns).doing 0) root_goes (alike.1.each 0 ∙ ap (λ y. phase_in y) x);
             sorted = q.sorted;
             only = λ x i. control_waits (control ns) t alike.1 x (q.only x i);
             whole = λ x i. q.whole x (system_waits (control ns) t alike.1 x i);
@@ -360,9 +367,9 @@ module _ (g : RunInput) (moves shares : Stmt → List ℕ) (pause : ℕ) (ready 
       history_ends end.Done h = history_done h
       history_ends (end.Deadlock ws) h = let z = all_waiting (control ns) lawful alike.0.unborn ws h.1.all h.1.sorted in
           (z.0, history_deadlock z.0 h.0 z.1, z.2)
-      history_ends (end.Fault name f) h = (
-        (births_from first_births (entries_of ns)).name h.1.0,
-        program_fault g moves shares pause ready (entries_of ns) t journal n s k h.1.0 f h.1.1,
-        h.1.2,
+      history_ends (end.Fault name f) (_, (number, fault_entry, name_is)) = (
+        (births_from first_births (entries_of ns)).name number,
+        program_fault g moves shares pause ready (entries_of ns) t journal n s k number f fault_entry,
+        name_is,
       )
       history_ends end.Memory h = absurd h

@@ -59,18 +59,18 @@ module _ (G : RunContext) (lf : BirthRights) (kids : ℕ → ℕ → BirthRights
       → (v : Value) (ds : List OneCell) → Flat G.g.program (Named G) k v ds
       → ProcessMatches G lf kids q since pr (at_key same_loc a.spot (content_with a (s a.spot) (Tree v)) s)
       (on_store (put_cells plain x.1 ds) c)
-  receiver_stands {since} {pr} {s} {c} t ch k a stop x v ds f = record {
+  receiver_stands {since} {pr} {s} {c} t ch k a stop (_, place, _, _, kind_is, points, may) v ds f = record {
     fresh = t.fresh;
     named = t.named;
     js = t.js;
     pc = t.pc;
     stack = t.stack;
-    memory = record (t.memory) { store = put_cells plain x.1 ds t.memory.store };
-    configuration_is = ap (λ y. on_store (put_cells plain x.1 ds) y) t.configuration_is;
+    memory = record (t.memory) { store = put_cells plain place ds t.memory.store };
+    configuration_is = ap (λ y. on_store (put_cells plain place ds) y) t.configuration_is;
     stand = put_cells_law G.g G.code pr.who (Named G) (Called G) (λ l. OwnLocation q l ⊎ lf.W l)
         (λ l. OwnLocation q l ⊎ lf.R l) lf.J
-        lf.low (length lf.below) lf.born since G.pause lf.moved G.formed t.stand a x.1 x.5 x.6 v ds
-        (subst (λ y. Flat G.g.program (Named G) y v ds) (sym x.4) f);
+        lf.low (length lf.below) lf.born since G.pause lf.moved G.formed t.stand a place points may v ds
+        (subst (λ y. Flat G.g.program (Named G) y v ds) (sym kind_is) f);
     follows = t.follows;
   }
 

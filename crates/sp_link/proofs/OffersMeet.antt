@@ -444,10 +444,11 @@ module _ (at_stop : AtStop) (z : MatchesNow at_stop)
       cs = cells_in gives.1
 
       flat : Rattle.sp_codegen.specs.Shapes.Flat G.g.program (Named G) off2.kind value (cells_in gives.1)
-      flat = subst (λ k. Rattle.sp_codegen.specs.Shapes.Flat G.g.program (Named G) k value (cells_in gives.1))
+      flat = let (_, entry, _, _, fits) = gives in
+          subst (λ k. Rattle.sp_codegen.specs.Shapes.Flat G.g.program (Named G) k value (cells_in entry))
           (eqb-true kd off2.kind same_kind)
           (sent_flat G (lv v) (λ a b. lv ((a, b) ∷ v)) v x.left.who (c1s.since v) kd (sort G.g.program kd) refl value
-          gives.1 gives.4)
+          entry fits)
 
       sender : ProcessMatches G (lv v) (λ a b. lv ((a, b) ∷ v)) v (c1s.since v) off.next t1s.store
           (ao.there at_stop z ch kd cg todo o m x t y)
@@ -469,7 +470,8 @@ module _ (at_stop : AtStop) (z : MatchesNow at_stop)
       kinds_back = eq-eqb off2.kind kd (sym (eqb-true kd off2.kind same_kind))
 
       jj : gives.0 ≡ j
-      jj = G.one_channel gives.0 j gives.3.1 named.1 (gives.3.2 ∙ sym named.2)
+      jj = let (number, _, _, (_, below, channel_is), _) = gives in
+          G.one_channel number j below named.1 (channel_is ∙ sym named.2)
 
       stop_is : t.stop ≡ Sends j kd (cells_in gives.1)
       stop_is = gives.2 ∙ ap (λ k. Sends k kd (cells_in gives.1)) jj
@@ -567,10 +569,11 @@ module _ (at_stop : AtStop) (z : MatchesNow at_stop)
           off2.channel off2.kind b st2) payload2 ca2
 
       flat_r : Rattle.sp_codegen.specs.Shapes.Flat G.g.program (Named G) kd value (cells_in gives_z.1)
-      flat_r = subst (λ k. Rattle.sp_codegen.specs.Shapes.Flat G.g.program (Named G) k value (cells_in gives_z.1))
+      flat_r = let (_, entry, _, _, fits) = gives_z in
+          subst (λ k. Rattle.sp_codegen.specs.Shapes.Flat G.g.program (Named G) k value (cells_in entry))
           (sym (eqb-true kd off2.kind same_kind))
           (sent_flat G (lv zn) (λ a b. lv ((a, b) ∷ zn)) zn off2.next.who (c.since zn) off2.kind
-          (sort G.g.program off2.kind) refl value gives_z.1 gives_z.4)
+          (sort G.g.program off2.kind) refl value entry fits)
 
       sender_z : ProcessMatches G (lv zn) (λ a b. lv ((a, b) ∷ zn)) zn (c.since zn) off2.next t1r.store d2
       sender_z = stands_stay G lv x.state (with_message a (Tree value) same_kind msg_r v alone_v (inl refl) may_v)
@@ -587,7 +590,8 @@ module _ (at_stop : AtStop) (z : MatchesNow at_stop)
           (cells_in gives_z.1) flat_r
 
       jj_r : takes_v.0 ≡ j
-      jj_r = G.one_channel takes_v.0 j takes_v.3.1 named.1 (takes_v.3.2 ∙ sym named.2)
+      jj_r = let (number, _, _, (_, below, channel_is), _, _, _) = takes_v in
+          G.one_channel number j below named.1 (channel_is ∙ sym named.2)
 
       stop_is_r : t.stop ≡ Receives j kd takes_v.1
       stop_is_r = takes_v.2 ∙ ap (λ k. Receives k kd takes_v.1) jj_r

@@ -90,10 +90,10 @@ module _ (at_stop : AtStop) where
 
   -- how many opens it has made, and that it is not laid down
   pub opens_are : pr.who.opens ≡ u.births.opens i
-  opens_are = its.3
+  opens_are = let (_, _, _, counted, _) = its in counted
 
   pub unlaid : c.laid q ≡ false
-  unlaid = its.4
+  unlaid = let (_, _, _, _, not_laid) = its in not_laid
 
   pub alone : IsAlone s q
   alone = inl (pr, runs_as_pr)

@@ -342,9 +342,9 @@ module _ (at_stop : AtStop) (z : MatchesNow at_stop)
           go : (a : Option Name) → s.pending (channel G.births k) ≡ a → a ≡ None
           go None e = refl
           go (Some zn) e =
-              let w = pending_open G lv c s u l (channel G.births k) zn e in
-              let same : w.0 ≡ k = G.one_channel w.0 k w.1.1 below w.1.2 in
-              let lt = w.1.0 in let op = l.open_is in
+              let (number, (lt, below_all, same_channel)) = pending_open G lv c s u l (channel G.births k) zn e in
+              let same : number ≡ k = G.one_channel number k below_all below same_channel in
+              let op = l.open_is in
               absurd (omega (arith, same, lt, op))
 
       -- before the channel stands in its target

@@ -108,13 +108,14 @@ module _ (G : RunContext) (lv : RightsOfAll G) (c : Course) (s : StateOf G.g) (u
           holds_it i (sys.Waits a d) (At z.pc z.stack z.memory) e
           (ap (λ y. store_in (sys.Waits a y)) z.configuration_is) y.0 y.1
           (ap output_of y.2)
-      by (sys.Joins left d) e h next = let z = h.4 in ⊎_elim
-          (λ a. to_child h.0 a.0 a.1.1 (z.there a.0 a.1.0) ((z.children a.0 a.1).output may a.2) next)
+      by (sys.Joins left d) e (fork, count, own, joining, z, opens_are, not_laid) next = ⊎_elim
+          (λ a. (let (child, (below, lives), moved) = a in
+          to_child fork child lives (z.there child below) ((z.children child (below, lives)).output may moved) next))
           (λ y. holds_it i (sys.Joins left d)
           (At z.pc z.stack (record (z.memory) { store = Rattle.sp_cell.specs.Map.with_map z.memory.store z.held }))
           e (ap (λ y. store_in (sys.Joins left y)) z.configuration_is) y.0 y.1 (ap output_of y.2))
           (z.joining.output may)
-      by (sys.Laid d) e h next = told_it (G.births.name i) i (sys.Laid d) d e (at_laid d) h.3 may
+      by (sys.Laid d) e (_, _, _, output) next = told_it (G.births.name i) i (sys.Laid d) d e (at_laid d) output may
       by sys.Gone e h next = ⊎_elim (λ a. absurd (h.1 a))
           (λ a. absurd (some_live (s.condition (G.births.name i)) a h.0)) living
       by (sys.Over d) e h next = told_it (G.births.name i) i (sys.Over d) d e (at_over d) h.2 may
@@ -146,7 +147,7 @@ module _ (G : RunContext) (lv : RightsOfAll G) (c : Course) (s : StateOf G.g) (u
       by sys.Absent f h = absurd h
       by (sys.Working d) f h = absurd (none h.0 h.1)
       by (sys.Waits a d) f h = absurd (live (Waits h.0) h.1 tt)
-      by (sys.Joins left d) f h = absurd (live (Joins h.0 h.1 h.2) h.3 tt)
-      by (sys.Laid d) f h = absurd (none h.2.0 h.2.1)
+      by (sys.Joins left d) f (fork, count, own, joining, _, _, _) = absurd (live (Joins fork count own) joining tt)
+      by (sys.Laid d) f (_, _, (own, running), _) = absurd (none own running)
       by sys.Gone f h = absurd (h.1 refl)
       by (sys.Over d) f h = (d, f)

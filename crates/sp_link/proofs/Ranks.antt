@@ -323,7 +323,7 @@ module _ (all : List Instr) where
           let gv = value sc q (b + 1 + 1) e front ju in
           let jj = step j (i.Jump q) (b + 1 + 1 + le) bs.0 (λ k. (gv q (omega arith) (omega (arith, rv)) k, tt)) in
           let gs = stmt sc t n (u + 1 + 1) (b + 1 + 1 + le + 1) s
-          (has_front all (u + 1 + 1) (code p sc t n (u + 1 + 1) s) (i.Jump q ∷ []) back.1.1) jj in
+          (has_front all (u + 1 + 1) (code p sc t n (u + 1 + 1) s) (i.Jump q ∷ []) body_has.1) jj in
           loop q u j (b + 1 + 1 + le) (b + 1 + 1 + le + 1 + ls) b (b + (le + ls + 3)) (omega arith) (omega arith)
           (omega arith) (omega arith) gv tick gs d
       stmt sc t n q b (Repeat s e) h d =

@@ -172,8 +172,9 @@ module _ (G : RunContext) (lv : RightsOfAll G) (P : Name) (since k n left i : �
         (⊎_elim
         (λ x. (let y = child.output (inr x.0) in
         subst (λ v. IsSome (fin.get nc.store.map v)) (sym x.1) (known_as _ _ y.2)))
-        (λ x. (let y = child.held x.0 x.1 x.2 x.3 x.4 in
-        subst (λ v. IsSome (fin.get nc.store.map v)) (sym x.5) (known_piece _ _ y.piece))))
+        (λ x. (let (owner, height, variable, live, may, spot_is) = x in
+        let y = child.held owner height variable live may in
+        subst (λ v. IsSome (fin.get nc.store.map v)) (sym spot_is) (known_piece _ _ y.piece))))
         (hd.kept a (in_moved a h))
 
     joining_now : Jo G (lv P) kids P pr.who since (λ a. Away_yet G (lv P) kids P at k n a × NotIn a nc.store.moved) z.js
@@ -193,7 +194,9 @@ module _ (G : RunContext) (lv : RightsOfAll G) (P : Name) (since k n left i : �
 
     pub joining_after : Jo G (lv P) kids P pr.who since (Away_yet G (lv P) kids P t1 k n) z.js pr.own t1.store z.memory
         (map_after_join z.held nc.store)
-    joining_after = joining_more G (lv P) kids P (λ a h. by a h.0.0 h.0.1 h.0.2 h.1 (h.0.0 == i) refl) joining_now
+    joining_after =
+        joining_more G (lv P) kids P (λ a h. (let ((j, yet_lives, moved), out) = h in by a j yet_lives moved out
+        (j == i) refl)) joining_now
       where
         by : (a : Spot) (j : ℕ) → Lives_yet G (lv P) kids P at k n j → In a (kids k j).moved → NotIn a nc.store.moved
             → (b : Bool) → j == i ≡ b → Away_yet G (lv P) kids P t1 k n a
@@ -244,6 +247,6 @@ module _ (G : RunContext) (lv : RightsOfAll G) (P : Name) (since k n left i : �
       stand = all_joined G.g G.code pr.who (Named G) (Called G) (λ l. OwnLocation P l ⊎ (lv P).W l)
           (λ l. OwnLocation P l ⊎ (lv P).R l) (lv P).J (lv P).low (length (lv P).below) (lv P).born since G.pause
           (lv P).moved
-          (λ a h. none_lives t1.condition n none h.0 h.1.0 h.1.1) joining_after;
+          (λ a h. (let (j, (below, lives), _) = h in none_lives t1.condition n none j below lives)) joining_after;
       follows = z.follows;
     }

@@ -240,7 +240,7 @@ module _ (G : RunContext) where
       w = G.births.name e.process
 
       lt : e.process < u.births.processes
-      lt = y.0.0
+      lt = let ((room, _), _) = y in room
 
       name_is : u.births.name e.process ≡ G.births.name e.process
       name_is = l.began.names e.process lt
@@ -303,8 +303,9 @@ module _ (G : RunContext) where
           → Along G.g G.pause c1 s1 (occurrences_from u1.births es) r t → (v : System Plain)
           × EntriesLead plain (run_is G) u1 es v) → (v : System Plain) × EntriesLead plain (run_is G) u (e ∷ es) v
       on ih =
+          let (steps_left, goes_on) = one.1 in
           let z = ih en.lives en.way.course en.way.state u1 (en.linked (subst (λ a. Began G a) (sym births_are) b.0))
           (subst (λ a. AllBegan G a es) (sym births_are) b.1) (subst (λ a. NameableFrom a es) (sym births_are) y.1)
-          one.1.0 (subst (λ a. Along G.g G.pause en.way.course en.way.state (occurrences_from a es) one.1.0 t)
-          (sym births_are) one.1.1) in
+          steps_left (subst (λ a. Along G.g G.pause en.way.course en.way.state (occurrences_from a es) steps_left t)
+          (sym births_are) goes_on) in
           (z.0, (u1, (at.0, at.1, en.turn, en.is_turn, event_is, refl), z.1))

@@ -306,7 +306,8 @@ module _ (G : RunContext) (lv : RightsOfAll G) (c : Course) (s : StateOf G.g) (u
           (working_lives s.condition v (s.condition v) (pr at_stop) (runs_as_pr at_stop))
 
       joins_at : JoinsAt {O = Process} {V = LocationContent} {T = Address} b.fork b.child (Joins does.0 does.1 does.2)
-      joins_at = subst (λ y. JoinsAt {O = Process} {V = LocationContent} {T = Address} b.fork b.child y) does.3
+      joins_at = let (_, _, _, joining, _, _, _) = does in
+          subst (λ y. JoinsAt {O = Process} {V = LocationContent} {T = Address} b.fork b.child y) joining
           (l.known.sound.joined parent b.fork b.child live)
 
       name_now : v ≡ (does.0, b.child) ∷ parent
@@ -318,7 +319,7 @@ module _ (G : RunContext) (lv : RightsOfAll G) (c : Course) (s : StateOf G.g) (u
 
       abbrev zj : Joined G (lv parent) (λ a1 b1. lv ((a1, b1) ∷ parent)) parent (c.since parent) does.0 does.1 left
           does.2 s dd
-      zj = does.4
+      zj = let (_, _, _, _, joined, _, _) = does in joined
 
       ended : Left_by e
       ended = left_by e is
@@ -342,8 +343,9 @@ module _ (G : RunContext) (lv : RightsOfAll G) (c : Course) (s : StateOf G.g) (u
           (⊎_elim
           (λ x. (let y = stood.output (inr x.0) in
           subst (λ k. IsHeld (fin.get (ended.memory).store.map k)) (sym x.1) (bytes_held _ _ y.2)))
-          (λ x. (let y = stood.held x.0 x.1 x.2 x.3 x.4 in
-          subst (λ k. IsHeld (fin.get (ended.memory).store.map k)) (sym x.5) (held_of_cells _ _ y.piece))))
+          (λ x. (let (owner, height, variable, own_or_given, may, spot_is) = x in
+          let y = stood.held owner height variable own_or_given may in
+          subst (λ k. IsHeld (fin.get (ended.memory).store.map k)) (sym spot_is) (held_of_cells _ _ y.piece))))
           ((zj.children b.child (joins_at.1, yet)).kept a h)
 
       parent_map : (store_of dd).map ≡ zj.held

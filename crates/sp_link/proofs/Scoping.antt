@@ -82,12 +82,11 @@ module _ (p : Program) (free : IsFreeOfInterference p) (moves shares : Stmt → 
     variable : (v : Var) (k : ℕ) (sc : List Scope) (q : ℕ)
         → PlaceAt p moves shares Is HasTable HasText callable sc q v k
         → (u : Use) → In_read v u → D sc u
-    variable (Entire x ss) k sc q h u (inl a) =
+    variable (Entire x ss) k sc q (_, (info, known, _, in_role), _) u (inl a) =
         at sc u (Seen x) a (
-          h.1.0,
-          h.1.1,
-          λ iv.
-              (let r = subst (λ r. VarRole p moves shares Is HasTable HasText callable sc q x h.1.0 r) iv h.1.3 in
+          info,
+          known,
+          λ iv. (let r = subst (λ r. VarRole p moves shares Is HasTable HasText callable sc q x info r) iv in_role in
               (r.0, r.1)),
         )
     variable (Entire x ss) k sc q h u (inr a) = selectors ss h.0 k sc (q + 1) h.2 u a
@@ -100,9 +99,11 @@ module _ (p : Program) (free : IsFreeOfInterference p) (moves shares : Stmt → 
     selectors : (ss : Selectors) (k k2 : ℕ) (sc : List Scope) (q : ℕ)
         → SelectedAt p moves shares Is HasTable HasText callable sc q ss k k2 → (u : Use) → In_selectors ss u → D sc u
     selectors Whole k k2 sc q h u a = absurd a
-    selectors (Select (Index e) rest) k k2 sc q h u (inl a) = expr e sc q h.5 u a
-    selectors (Select (Index e) rest) k k2 sc q h u (inr a) = selectors rest h.3 k2 sc (after_value q e + 1) h.8 u a
-    selectors (Select (Field f) rest) k k2 sc q h u a = selectors rest h.2 k2 sc (q + 1) h.6 u a
+    selectors (Select (Index e) rest) k k2 sc q (_, _, _, _, _, value, _, _, _) u (inl a) = expr e sc q value u a
+    selectors (Select (Index e) rest) k k2 sc q (_, _, _, element, _, _, _, _, more) u (inr a) =
+        selectors rest element k2 sc (after_value q e + 1) more u a
+    selectors (Select (Field f) rest) k k2 sc q (_, _, kind, _, _, _, more) u a =
+        selectors rest kind k2 sc (q + 1) more u a
 
     actuals : (args : Actuals) (xs : List ℕ) (sc : List Scope) (q : ℕ)
         → ActualsAt p moves shares Is HasTable HasText callable sc q args xs → (u : Use) → In_actuals args u → D sc u
@@ -111,7 +112,8 @@ module _ (p : Program) (free : IsFreeOfInterference p) (moves shares : Stmt → 
     actuals (Pass (ByValue e) rest) (x ∷ xs) sc q h u (inl a) = expr e sc q h.0 u a
     actuals (Pass (ByValue e) rest) (x ∷ xs) sc q h u (inr a) = actuals rest xs sc (after_value q e) h.2 u a
     actuals (Pass (ByReference v) rest) (x ∷ xs) sc q h u (inl a) = target v h.0 sc q h.1 u a
-    actuals (Pass (ByReference v) rest) (x ∷ xs) sc q h u (inr a) = actuals rest xs sc (after_var q v) h.4 u a
+    actuals (Pass (ByReference v) rest) (x ∷ xs) sc q (_, _, _, _, more) u (inr a) =
+        actuals rest xs sc (after_var q v) more u a
 
   width : (w : Option Expr) (sc : List Scope) (q : ℕ) → WidthAt p moves shares Is HasTable HasText callable sc q w
       → (u : Use) → In_width w u → D sc u
@@ -149,41 +151,48 @@ module _ (p : Program) (free : IsFreeOfInterference p) (moves shares : Stmt → 
     stmt (Call f args) fr sc q h u (inl a) = at sc u (CallOf f args) a tt
     stmt (Call f args) fr sc q h u (inr a) = actuals args h.0.formals sc q h.1 u a
     stmt (Sequence ss) fr sc q h u a = all ss fr sc q h u a
-    stmt (If e s) fr sc q h u (inl a) = expr e sc q h.0.0 u a
+    stmt (If e s) fr sc q ((condition, _), _, _) u (inl a) = expr e sc q condition u a
     stmt (If e s) fr sc q h u (inr a) = stmt s fr sc (after_value q e + 1) h.2 u a
-    stmt (IfElse e s t) fr sc q h u (inl a) = expr e sc q h.0.0 u a
+    stmt (IfElse e s t) fr sc q ((condition, _), _, _, _, _) u (inl a) = expr e sc q condition u a
     stmt (IfElse e s t) fr sc q h u (inr (inl a)) = stmt s fr sc (after_value q e + 1) h.2 u a
-    stmt (IfElse e s t) fr sc q h u (inr (inr a)) = stmt t fr sc (after_statement p (after_value q e + 1) s + 1) h.4 u a
-    stmt (While e s) fr sc q h u (inl a) = expr e sc q h.0.0 u a
-    stmt (While e s) fr sc q h u (inr a) = stmt s fr sc (after_value q e + 1 + 1) h.3 u a
-    stmt (Repeat s e) fr sc q h u (inl a) = expr e sc (after_statement p (q + 1) s) h.2.0 u a
+    stmt (IfElse e s t) fr sc q ((_, _), _, _, _, second_body) u (inr (inr a)) =
+        stmt t fr sc (after_statement p (after_value q e + 1) s + 1) second_body u a
+    stmt (While e s) fr sc q ((condition, _), _, _, _, _) u (inl a) = expr e sc q condition u a
+    stmt (While e s) fr sc q ((_, _), _, _, body, _) u (inr a) = stmt s fr sc (after_value q e + 1 + 1) body u a
+    stmt (Repeat s e) fr sc q (_, _, (condition, _), _) u (inl a) =
+        expr e sc (after_statement p (q + 1) s) condition u a
     stmt (Repeat s e) fr sc q h u (inr a) = stmt s fr sc (q + 1) h.1 u a
     stmt (For x from down to s) fr sc q h u (inl a) = at sc u (Target x) a tt
-    stmt (For x from down to s) fr sc q h u (inr (inl a)) = expr from sc q h.0.0 u a
-    stmt (For x from down to s) fr sc q h u (inr (inr (inl a))) = expr to sc (after_value q from) h.1.0 u a
-    stmt (For x from down to s) fr sc q h u (inr (inr (inr a))) =
-        stmt s fr sc (after_value (after_value q from) to + 1 + 1) h.2.3 u a
-    stmt (Case e arms) fr sc q h u (inl a) = expr e sc q h.0.0 u a
-    stmt (Case e arms) fr sc q h u (inr a) = let b = after_tests (after_value q e) arms in
-        each arms fr sc (b + 1) (after_arms p (b + 1) arms) h.3 u a
+    stmt (For x from down to s) fr sc q ((start, _), _, _) u (inr (inl a)) = expr from sc q start u a
+    stmt (For x from down to s) fr sc q (_, (limit, _), _) u (inr (inr (inl a))) =
+        expr to sc (after_value q from) limit u a
+    stmt (For x from down to s) fr sc q (_, _, (_, _, _, body, _)) u (inr (inr (inr a))) =
+        stmt s fr sc (after_value (after_value q from) to + 1 + 1) body u a
+    stmt (Case e arms) fr sc q ((selector, _), _, _, _) u (inl a) = expr e sc q selector u a
+    stmt (Case e arms) fr sc q (_, _, _, arms_at) u (inr a) = let b = after_tests (after_value q e) arms in
+        each arms fr sc (b + 1) (after_arms p (b + 1) arms) arms_at u a
     stmt (Parallel ss) fr sc q h u (inl a) = at sc u (ParallelOf ss) a tt
-    stmt (Parallel ss) fr sc q h u (inr (inl a)) = children ss fr sc (q + 1 + 1) h.4 u a
+    stmt (Parallel ss) fr sc q (_, _, _, _, children_at, _) u (inr (inl a)) =
+        children ss fr sc (q + 1 + 1) children_at u a
     stmt (Parallel ss) fr sc q h u (inr (inr a)) = at sc u Stop a tt
     stmt (Forall x from to s) fr sc q h u (inl a) = at sc u (ForallOf x s) a tt
-    stmt (Forall x from to s) fr sc q h u (inr (inl a)) = expr from sc q h.2.0 u a
-    stmt (Forall x from to s) fr sc q h u (inr (inr (inl a))) = expr to sc (after_value q from) h.3.0 u a
-    stmt (Forall x from to s) fr sc q h u (inr (inr (inr (inl a)))) =
-        outer sc x u a.1 (stmt s fr (OfIndex x ∷ sc) (after_value (after_value q from) to + 1 + 1) h.6 u a.0)
+    stmt (Forall x from to s) fr sc q (_, _, (start, _), (_, _), _, _, _, _, _) u (inr (inl a)) =
+        expr from sc q start u a
+    stmt (Forall x from to s) fr sc q (_, _, (_, _), (limit, _), _, _, _, _, _) u (inr (inr (inl a))) =
+        expr to sc (after_value q from) limit u a
+    stmt (Forall x from to s) fr sc q (_, _, _, _, _, _, body, _, _) u (inr (inr (inr (inl a)))) =
+        outer sc x u a.1 (stmt s fr (OfIndex x ∷ sc) (after_value (after_value q from) to + 1 + 1) body u a.0)
     stmt (Forall x from to s) fr sc q h u (inr (inr (inr (inr a)))) = at sc u Stop a tt
-    stmt (Assume e) fr sc q h u a = expr e sc q h.0.0 u a
+    stmt (Assume e) fr sc q ((condition, _), _) u a = expr e sc q condition u a
     stmt (ReadValue v) fr sc q h u (inl a) = at sc u (Target 0) a tt
     stmt (ReadValue v) fr sc q h u (inr (inl a)) = target v h.0 sc q h.2 u a
     stmt (ReadValue v) fr sc q h u (inr (inr a)) = at sc u Stop a tt
     stmt ReadLine fr sc q h u (inl a) = at sc u (Target 0) a tt
     stmt ReadLine fr sc q h u (inr a) = at sc u Stop a tt
     stmt (WriteValue e w) fr sc q h u (inl a) = at sc u (Target 1) a tt
-    stmt (WriteValue e w) fr sc q h u (inr (inl a)) = expr e sc q h.1.0 u a
-    stmt (WriteValue e w) fr sc q h u (inr (inr (inl a))) = width w sc (after_value q e) h.3 u a
+    stmt (WriteValue e w) fr sc q (_, (value, _), _, _, _, _) u (inr (inl a)) = expr e sc q value u a
+    stmt (WriteValue e w) fr sc q (_, _, _, width_at, _, _) u (inr (inr (inl a))) =
+        width w sc (after_value q e) width_at u a
     stmt (WriteValue e w) fr sc q h u (inr (inr (inr a))) = at sc u Stop a tt
     stmt (WriteText t w) fr sc q h u (inl a) = at sc u (Target 1) a tt
     stmt (WriteText t w) fr sc q h u (inr (inl a)) = width w sc q h.2 u a
@@ -196,7 +205,8 @@ module _ (p : Program) (free : IsFreeOfInterference p) (moves shares : Stmt → 
     stmt (Send c e) fr sc q h u (inr (inl a)) = expr e sc (after_value q c) h.2 u a
     stmt (Send c e) fr sc q h u (inr (inr a)) = at sc u Stop a tt
     stmt (Receive c v) fr sc q h u (inl a) = expr c sc q h.1 u a
-    stmt (Receive c v) fr sc q h u (inr (inl a)) = target v h.0 sc (after_value q c) h.3 u a
+    stmt (Receive c v) fr sc q (kind, _, _, place, _, _, _) u (inr (inl a)) =
+        target v kind sc (after_value q c) place u a
     stmt (Receive c v) fr sc q h u (inr (inr a)) = at sc u Stop a tt
 
     all : (ss : Stmts) (fr : Bool) (sc : List Scope) (q : ℕ)
@@ -241,15 +251,15 @@ module _ (G : RunContext) where
       → (v : Variable) × (slice_get G.g.program.variables y ≡ Some v)
       × (v.role ≡ role.Index → Here (Seen y) × ((up : ℕ) × (level (is_index y) sc ≡ Some up)))
   seen {Here = Here} sc direct [] y r = let d = direct (Seen y) r in (d.0, d.1, λ iv. (r, d.2 iv))
-  seen {Here = Here} sc direct (b ∷ bs) y r =
-      let z = G.blocks b r.2 r.3 in
-      let w = seen {Here = λ a. In_stmt r.2.body a} (scopes_of G.g.program b)
+  seen {Here = Here} sc direct (b ∷ bs) y (_, _, block, block_is, _, inside) =
+      let z = G.blocks b block block_is in
+      let w = seen {Here = λ a. In_stmt block.body a} (scopes_of G.g.program b)
       (λ u a. stmt G.g.program G.free G.moves G.shares (CodeAt G.code) (HasFork G.code) (HasWords G.code) G.callable
-      r.2.body true (scopes_of G.g.program b) z.layout.entry (z.stands.body true tt) u a) bs y r.5 in (
+      block.body true (scopes_of G.g.program b) z.layout.entry (z.stands.body true tt) u a) bs y inside in (
         w.0,
         w.1,
-        λ iv. (let k = w.2 iv in absurd
-            (no_index_scope G.g.program (length G.g.program.blocks) (Some b) y k.1.0 k.1.1)),
+        λ iv. (let (_, (up, level_is)) = w.2 iv in absurd
+            (no_index_scope G.g.program (length G.g.program.blocks) (Some b) y up level_is)),
       )
 
   pub is_scoped : (fr : Bool) (sc : List Scope) (q : ℕ) (st : Stmt)

@@ -121,9 +121,9 @@ sorted_by : (vs : List Waiting) → Keyed (map waiter_of vs) → IsDistinct alik
 unfolding IsDistinct
 sorted_by [] h d = tt
 sorted_by (v ∷ []) h d = tt
-sorted_by (v ∷ u ∷ vs) h d = (
-  before v u (two_keyed (waiter_of v) (waiter_of u) (map waiter_of vs) h) d.0.0,
-  sorted_by (u ∷ vs) (next_keyed (waiter_of v) (waiter_of u ∷ map waiter_of vs) h) d.1,
+sorted_by (v ∷ u ∷ vs) h ((apart, _), others) = (
+  before v u (two_keyed (waiter_of v) (waiter_of u) (map waiter_of vs) h) apart,
+  sorted_by (u ∷ vs) (next_keyed (waiter_of v) (waiter_of u ∷ map waiter_of vs) h) others,
 )
 
 -- ---- who waits, by numbers

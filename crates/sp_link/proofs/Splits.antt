@@ -157,10 +157,11 @@ module _ (G : RunContext) (lf : BirthRights) (kids : ℕ → ℕ → BirthRights
         by : MovedStands G.g G.code w (Named G) (Called G) Wr Rd lf.J lf.low (length lf.below) lf.born since G.pause
             lf.moved G.formed G.laid G.free f.reads G.moves G.shares G.sets t whole pl.sound unread child new_name table
             refl refl value 0 a → IsHeld (fin.get n.store.map a)
-        by (inl b) = let z = t.position (right Input b.1.0 (inl b.1.1) b.1.2) in
-            subst (λ c. IsHeld (fin.get n.store.map c)) (sym b.0) (held_of_cells _ _ z.2)
-        by (inr (inl b)) = let z = t.output (right Output b.1.0 (inl b.1.1) b.1.2) in
-            subst (λ c. IsHeld (fin.get n.store.map c)) (sym b.0) (bytes_held _ _ z.2)
+        by (inl (spot_is, (variable, target, stood))) = let z = t.position (right Input variable (inl target) stood) in
+            subst (λ c. IsHeld (fin.get n.store.map c)) (sym spot_is) (held_of_cells _ _ z.2)
+        by (inr (inl (spot_is, (variable, target, stood)))) =
+            let z = t.output (right Output variable (inl target) stood) in
+            subst (λ c. IsHeld (fin.get n.store.map c)) (sym spot_is) (bytes_held _ _ z.2)
         by (inr (inr (owner, number, variable, live, _, may, spot_is))) = let z =
             t.held owner number variable live may in
             subst (λ c. IsHeld (fin.get n.store.map c)) (sym spot_is) (held_of_cells _ _ z.piece)
@@ -187,13 +188,13 @@ module _ (G : RunContext) (lf : BirthRights) (kids : ℕ → ℕ → BirthRights
         × ((entry : ℕ) × (child_handing j ≡ handing_of G.code.layouts n.frames value j
         (child_table p G.moves G.shares entry None st)))
     part_of j lt =
-        let c = table_of p G.moves G.shares ss first j lt in (
-          c.0,
-          c.1,
+        let (st, st_is, entry, table_is) = table_of p G.moves G.shares ss first j lt in (
+          st,
+          st_is,
           (
-            c.2,
+            entry,
             ap (λ x. handing_of G.code.layouts n.frames value j (child_or x))
-                (table_at p G.moves G.shares ss first j ∙ c.3),
+                (table_at p G.moves G.shares ss first j ∙ table_is),
           ),
         )
 
@@ -214,15 +215,17 @@ module _ (G : RunContext) (lf : BirthRights) (kids : ℕ → ℕ → BirthRights
 
     changes : (j : ℕ) → j < count → (a : Spot) → In a (child_handing j).moved → Changes j a
     changes j lt a h =
-        let c = part_of j lt in
-        let y = spots_from G.code.layouts n.frames (G.moves c.0) a (subst (λ (x : Handing). In a x.moved) c.2.1 h) in
-        (c.0, c.1, y.0, G.sets.moved_only c.0 y.0 y.1, y.1, y.2)
+        let (st, st_is, (_, handing_is)) = part_of j lt in
+        let y = spots_from G.code.layouts n.frames (G.moves st) a (subst (λ (x : Handing). In a x.moved) handing_is h)
+        in
+        (st, st_is, y.0, G.sets.moved_only st y.0 y.1, y.1, y.2)
 
     shares_it : (j : ℕ) → j < count → (a : Spot) → In a (child_handing j).shared → Uses j a
     shares_it j lt a h =
-        let c = part_of j lt in
-        let y = spots_from G.code.layouts n.frames (G.shares c.0) a (subst (λ (x : Handing). In a x.shared) c.2.1 h) in
-        (c.0, c.1, y.0, G.sets.shared_only c.0 y.0 y.1, y.1, y.2)
+        let (st, st_is, (_, handing_is)) = part_of j lt in
+        let y = spots_from G.code.layouts n.frames (G.shares st) a
+        (subst (λ (x : Handing). In a x.shared) handing_is h) in
+        (st, st_is, y.0, G.sets.shared_only st y.0 y.1, y.1, y.2)
 
     rules : KeepsI1 p ss
     rules = pl.sound.kept (ParallelOf ss) (inl refl)
@@ -232,43 +235,50 @@ module _ (G : RunContext) (lf : BirthRights) (kids : ℕ → ℕ → BirthRights
 
     -- a spot that moves to one child moves to no other
     moves_apart : (j k : ℕ) (a : Spot) → j < k → Changes j a → Changes k a → ⊥
-    moves_apart j k a lt c d =
-        let y = one_used c.2 d.2 (aims j c.0 c.1 c.2 c.3) (inl (aims k d.0 d.1 d.2 d.3)) a c.5 d.5 in
-        (parts_apart p ss rules j k c.0 d.0 lt c.1 d.1 c.2).0 c.3
-        (inl (subst (λ x. IsTarget p (In_stmt d.0) x) (sym y) d.3))
+    moves_apart j k a lt (st, st_is, variable, aimed, _, spot_is)
+        (st_too, st_too_is, variable_too, aimed_too, _, spot_too) =
+        let y = one_used variable variable_too (aims j st st_is variable aimed)
+        (inl (aims k st_too st_too_is variable_too aimed_too)) a spot_is spot_too in
+        (parts_apart p ss rules j k st st_too lt st_is st_too_is variable).0 aimed
+        (inl (subst (λ x. IsTarget p (In_stmt st_too) x) (sym y) aimed_too))
 
     -- and none shares it
     unshared : (j k : ℕ) (a : Spot) → Changes j a → Uses k a → ⊥
-    unshared j k a c d =
-        let y = one_used c.2 d.2 (aims j c.0 c.1 c.2 c.3) (uses k d.0 d.1 d.2 d.3) a c.5 d.5 in
-        let used : IsUsed p (In_stmt d.0) c.2 = subst (λ x. IsUsed p (In_stmt d.0) x) (sym y) d.3 in
+    unshared j k a (st, st_is, variable, aimed, listed, spot_is)
+        (st_too, st_too_is, variable_too, aimed_too, listed_too, spot_too) =
+        let y = one_used variable variable_too (aims j st st_is variable aimed)
+        (uses k st_too st_too_is variable_too aimed_too) a spot_is spot_too in
+        let used : IsUsed p (In_stmt st_too) variable = subst (λ x. IsUsed p (In_stmt st_too) x) (sym y) aimed_too in
         by y used (less_more_or_same j k)
       where
-        by : c.2 ≡ d.2 → IsUsed p (In_stmt d.0) c.2 → (j < k) ⊎ ((k < j) ⊎ (j ≡ k)) → ⊥
-        by y used (inl lt) = (parts_apart p ss rules j k c.0 d.0 lt c.1 d.1 c.2).0 c.3 used
-        by y used (inr (inl lt)) = (parts_apart p ss rules k j d.0 c.0 lt d.1 c.1 c.2).1 used c.3
+        by : variable ≡ variable_too → IsUsed p (In_stmt st_too) variable → (j < k) ⊎ ((k < j) ⊎ (j ≡ k)) → ⊥
+        by y used (inl lt) = (parts_apart p ss rules j k st st_too lt st_is st_too_is variable).0 aimed used
+        by y used (inr (inl lt)) = (parts_apart p ss rules k j st_too st lt st_too_is st_is variable).1 used aimed
         by y used (inr (inr e)) =
-            let same : c.0 ≡ d.0 = one_part k c.0 d.0 (subst (λ x. IsPart x c.0) e c.1) d.1 in
-            G.sets.apart d.0 c.2 (subst (λ x. IsMember c.2 (G.moves x)) same c.4)
-            (subst (λ x. IsMember x (G.shares d.0)) (sym y) d.4)
+            let same : st ≡ st_too = one_part k st st_too (subst (λ x. IsPart x st) e st_is) st_too_is in
+            G.sets.apart st_too variable (subst (λ x. IsMember variable (G.moves x)) same listed)
+            (subst (λ x. IsMember x (G.shares st_too)) (sym y) listed_too)
 
     pub parallel_split : ((a : Spot) → In a (shared_of plan) → IsPiece (fin.get n.store.map a)) → CanSplit n.store plan
     parallel_split pieces = record {
-      held = λ a h. (let m = moved_by G.code.layouts n.frames tb value count a h in let c = changes m.0 m.1 a m.2 in
-          changed_held c.2 (aims m.0 c.0 c.1 c.2 c.3) a c.5);
+      held = λ a h. (let m = moved_by G.code.layouts n.frames tb value count a h in
+          let (st, st_is, variable, aimed, _, spot_is) = changes m.0 m.1 a m.2 in
+          changed_held variable (aims m.0 st st_is variable aimed) a spot_is);
       pieces = pieces;
       distinct = distinct_plan G.code.layouts n.frames tb value count
-          (λ j lt. (let c = part_of j lt in subst (λ (x : Handing). IsDistinct x.moved) (sym c.2.1)
-          (distinct_spots G.code.layouts n.frames (G.moves c.0) (G.sets.moved_once c.0)
-          (λ y z a i k e g. one_used y z (aims j c.0 c.1 y (G.sets.moved_only c.0 y i))
-          (inl (aims j c.0 c.1 z (G.sets.moved_only c.0 z k))) a e g))))
+          (λ j lt. (let (st, st_is, (_, handing_is)) = part_of j lt in
+          subst (λ (x : Handing). IsDistinct x.moved) (sym handing_is)
+          (distinct_spots G.code.layouts n.frames (G.moves st) (G.sets.moved_once st)
+          (λ y z a i k e g. one_used y z (aims j st st_is y (G.sets.moved_only st y i))
+          (inl (aims j st st_is z (G.sets.moved_only st z k))) a e g))))
           (λ j k a l lt c d. moves_apart j k a l (changes j (omega (arith, l, lt)) a c) (changes k lt a d));
       apart = λ a h. out_of a (shared_of plan)
           (λ i. (let m = moved_by G.code.layouts n.frames tb value count a h in
           let r = shared_by G.code.layouts n.frames tb value count a i in
           unshared m.0 r.0 a (changes m.0 m.1 a m.2) (shares_it r.0 r.1 a r.2)));
-      number = λ h. (let r = index_by G.code.layouts n.frames tb value count h in let c = part_of r.0 r.1 in
-          absurd (no_index (child_handing r.0).index (ap (λ (x : Handing). x.index) c.2.1) r.2));
+      number = λ h. (let r = index_by G.code.layouts n.frames tb value count h in
+          let (_, _, (_, handing_is)) = part_of r.0 r.1 in
+          absurd (no_index (child_handing r.0).index (ap (λ (x : Handing). x.index) handing_is) r.2));
     }
       where
         no_index : (i : Option (ℕ × ℤ)) → i ≡ None → IsSome i → ⊥

@@ -63,7 +63,7 @@ module _ (G : RunContext) (lv : RightsOfAll G) (c : Course) (s : StateOf G.g) (u
         waits_on y = record { who = q; way = way.Receive; channel = y }
 
     offers : waiting_at u.births i stop ≡ Some (record { who = q; way = way_of o.payload; channel = o.channel })
-    offers = offers_so o.payload h.3
+    offers = let (_, _, _, payload, _, _, _) = h in offers_so o.payload payload
 
   pub waits_means : (w : Waiting) → WaitsAs u w → WaitsSo G.g s w
   waits_means w (i, stop, d, at, told) =
@@ -80,22 +80,22 @@ module _ (G : RunContext) (lv : RightsOfAll G) (c : Course) (s : StateOf G.g) (u
       )
 
   pub waits_runs : (w : Waiting) → WaitsSo G.g s w → WaitsAs u w
-  waits_runs w h =
-      let n = l.numbered w.who (λ e. present (sym h.1 ∙ e)) in
+  waits_runs w (offer, waits, way_is, channel_is) =
+      let n = l.numbered w.who (λ e. present (sym waits ∙ e)) in
       by n.0 n.1 n.2 (u.condition n.0) refl (l.does n.0 n.1)
     where
-      present : ◌≡◌ {A = Condition Process LocationContent Address} (Waits h.0) Absent → ⊥
+      present : ◌≡◌ {A = Condition Process LocationContent Address} (Waits offer) Absent → ⊥
       present e = cc e
 
-      works : {x : Condition Process LocationContent Address} {pr : Process} (q : Name) → x ≡ Waits h.0
+      works : {x : Condition Process LocationContent Address} {pr : Process} (q : Name) → x ≡ Waits offer
           → own_part_in s.condition q x ≡ Some pr → ⊥
       works q e r = none-some _ (sym (ap (own_part_in s.condition q) e) ∙ r)
 
-      ended : ◌≡◌ {A = Condition Process LocationContent Address} Ended (Waits h.0) → ⊥
+      ended : ◌≡◌ {A = Condition Process LocationContent Address} Ended (Waits offer) → ⊥
       ended e = cc e
 
       joins : {k n : ℕ} {pr : Process} → ◌≡◌ {A = Condition Process LocationContent Address} (Joins k n pr)
-          (Waits h.0) → ⊥
+          (Waits offer) → ⊥
       joins e = cc e
 
       one : {x y : Offer Process LocationContent Address} → ◌≡◌ {A = Condition Process LocationContent Address}
@@ -105,25 +105,25 @@ module _ (G : RunContext) (lv : RightsOfAll G) (c : Course) (s : StateOf G.g) (u
       by : (i : ℕ) → i < u.births.processes → G.births.name i ≡ w.who → (X : sys.Condition Plain) → u.condition i ≡ X
           → Performs_all G lv (G.births.name i) c s (u.births.opens i) X → WaitsAs u w
       by i lt e sys.Absent k x = absurd x
-      by i lt e (sys.Working d) k x = absurd (works (G.births.name i) (ap (λ y. s.condition y) e ∙ h.1) x.1)
+      by i lt e (sys.Working d) k x = absurd (works (G.births.name i) (ap (λ y. s.condition y) e ∙ waits) x.1)
       by i lt e (sys.Waits stop d) k x =
-          let o : x.0 ≡ h.0 = one (sym x.1 ∙ ap (λ y. s.condition y) e ∙ h.1) in
+          let o : x.0 ≡ offer = one (sym x.1 ∙ ap (λ y. s.condition y) e ∙ waits) in
           let is : record { who = G.births.name i; way = way_of (x.0).payload; channel = (x.0).channel } ≡ w =
-          ap (λ (y : Offer Process LocationContent Address). same (G.births.name i) y) o ∙ ap (λ y. same y h.0) e
+          ap (λ (y : Offer Process LocationContent Address). same (G.births.name i) y) o ∙ ap (λ y. same y offer) e
           ∙ rest in
           (i, stop, d, k, offers i lt stop d x ∙ ap (λ y. Some y) is)
         where
           same : Name → Offer Process LocationContent Address → Waiting
           same y z = record { who = y; way = way_of z.payload; channel = z.channel }
 
-          rest : same w.who h.0 ≡ w
-          rest = λ j. record { who = w.who; way = sym h.2 j; channel = sym h.3 j }
+          rest : same w.who offer ≡ w
+          rest = λ j. record { who = w.who; way = sym way_is j; channel = sym channel_is j }
       by i lt e (sys.Joins left d) k (_, _, _, joining, _, _, _) =
-          absurd (joins (sym joining ∙ ap (λ y. s.condition y) e ∙ h.1))
+          absurd (joins (sym joining ∙ ap (λ y. s.condition y) e ∙ waits))
       by i lt e (sys.Laid d) k (_, _, (_, runs), _) = absurd (works (G.births.name i) (ap (λ y. s.condition y) e
-          ∙ h.1) runs)
-      by i lt e sys.Gone k x = absurd (ended (sym x.0 ∙ ap (λ y. s.condition y) e ∙ h.1))
-      by i lt e (sys.Over d) k x = absurd (ended (sym x.0 ∙ ap (λ y. s.condition y) e ∙ h.1))
+          ∙ waits) runs)
+      by i lt e sys.Gone k x = absurd (ended (sym x.0 ∙ ap (λ y. s.condition y) e ∙ waits))
+      by i lt e (sys.Over d) k x = absurd (ended (sym x.0 ∙ ap (λ y. s.condition y) e ∙ waits))
 
   -- ---- nobody can go on
 

@@ -74,9 +74,9 @@ ends_alike {y} g [] ps s t u no_fault r stuck l =
       full = refl;
       goes_on = subst (λ z. ScheduleLeads y z ps t) (sym l) (leads g ps s t r);
     }
-ends_alike {y} g (q ∷ qs) ps s t u no_fault r stuck l =
-    let f = front g ps s t q l.0 r stuck l.2 in
-    let h = ends_alike g qs f.rest l.0 t u (g.no_fault_after s q l.0 f.step) f.run stuck l.3 in
+ends_alike {y} g (q ∷ qs) ps s t u no_fault r stuck (next, _, goes, leads_next) =
+    let f = front g ps s t q next r stuck goes in
+    let h = ends_alike g qs f.rest next t u (g.no_fault_after s q next f.step) f.run stuck leads_next in
     record {
       bounded = omega (arith, f.one_less, h.bounded);
       no_fault = h.no_fault;

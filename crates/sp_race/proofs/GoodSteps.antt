@@ -82,13 +82,15 @@ pub leads_on : {L : Language} (limits : Totals) (ps rs : List Name) (s t u : Sta
     → ScheduleLeads (process_system L limits) s ps t → ScheduleLeads (process_system L limits) t rs u
     → ScheduleLeads (process_system L limits) s (ps ++ rs) u
 leads_on {L} limits [] rs s t u h k = subst (λ z. ScheduleLeads (process_system L limits) z rs u) h k
-leads_on limits (p ∷ ps) rs s t u h k = (h.0, h.1, h.2, leads_on limits ps rs h.0 t u h.3 k)
+leads_on limits (p ∷ ps) rs s t u (next, unfaulted, goes, more) k =
+    (next, unfaulted, goes, leads_on limits ps rs next t u more k)
 
 pub happens_later : {L : Language} (limits : Totals) (it : State L → Name → L.Own → Type 0) (ps rs : List Name)
     (s t : State L) → ScheduleLeads (process_system L limits) s ps t → Happens limits it t rs
     → Happens limits it s (ps ++ rs)
 happens_later {L} limits it [] rs s t h k = subst (λ z. Happens limits it z rs) h k
-happens_later limits it (p ∷ ps) rs s t h k = inr (h.0, h.2, happens_later limits it ps rs h.0 t h.3 k)
+happens_later limits it (p ∷ ps) rs s t (next, _, goes, more) k =
+    inr (next, goes, happens_later limits it ps rs next t more k)
 
 -- what p's step leaves of q's notes: q steps by an act that is on another channel
 module _ {L : Language} {limits : Totals} (s : State L) (n : JudgeNotes) (p : Name) (cs : List (Change L))
@@ -246,19 +248,18 @@ module _ {L : Language} (limits : Totals) (laws : Laws L) (origin : State L)
   exchanged s n p q cs ds way leads sound known no_fault one two apart w kp kq = ⊎_elim
       (λ (h : (o : OfferOf L) × (r : OfferOf L) × (L.next one.own s.store ≡ Offering o)
       × (L.next two.own (with_changes cs s).store ≡ Offering r) × (o.channel ≡ r.channel)).
-      let o = h.0 in
-      let r = h.1 in
+      let (o, r, offers, offers_next, meets) = h in
       let does : act_outcome s p (Offering o) ≡ Advances cs =
-      subst (λ x. act_outcome s p x ≡ Advances cs) h.2 one.does in
+      subst (λ x. act_outcome s p x ≡ Advances cs) offers one.does in
       elim (s.pending o.channel) as (λ m. s.pending o.channel ≡ m
       → ExchangedTo limits s n p q (L.next one.own s.store) (L.next two.own (with_changes cs s).store)
       (with_changes ds (with_changes cs s))
       (notes_after (with_changes cs s) (notes_after s n p (L.next one.own s.store)) q
       (L.next two.own (with_changes cs s).store))) [
-        | Some z ↦ λ pe. absurd (met_first s n p q cs sound known one two.own o r z h.2 h.4 (λ e. apart (sym e)) w pe
-            (subst (λ x. KnowsBefore L (notes_after s n p (L.next one.own s.store)) q x) h.3 kq))
-        | None ↦ λ pe. waited_first s n p q cs ds sound one two o r h.2 h.3 h.4 (λ e. apart (sym e)) w pe kp kq
-            (waited s p o cs pe does)
+        | Some z ↦ λ pe. absurd (met_first s n p q cs sound known one two.own o r z offers meets (λ e. apart (sym e)) w
+            pe (subst (λ x. KnowsBefore L (notes_after s n p (L.next one.own s.store)) q x) offers_next kq))
+        | None ↦ λ pe. waited_first s n p q cs ds sound one two o r offers offers_next meets (λ e. apart (sym e)) w pe
+            kp kq (waited s p o cs pe does)
       ] refl)
       (λ (off : (c : Channel) → IsOn (L.next one.own s.store) c
       → IsOn (L.next two.own (with_changes cs s).store) c → ⊥).
@@ -437,24 +438,24 @@ module _ {L : Language} (limits : Totals) (laws : Laws L) (origin : State L)
       × GoodRun good (to_notes s n) ps (to_notes t m)
   unfolding good
   good_run [] way s t n before sound known l q o = (n, λ i. to_notes (l i) n)
-  good_run (p ∷ ps) way s t n before sound known l q o =
-      let no_fault_m = after_no_fault ps l.0 t l.3 q in
-      let x = made_of s p l.0 l.2 no_fault_m in
+  good_run (p ∷ ps) way s t n before sound known (to, unfaulted, goes, more) q o =
+      let no_fault_m = after_no_fault ps to t more q in
+      let x = made_of s p to goes no_fault_m in
       let a = L.next x.makes.own s.store in
       let n1 = notes_after s n p a in
-      let next : ScheduleLeads (process_system L limits) origin (way ++ p ∷ []) l.0 =
-      leads_on limits way (p ∷ []) origin s l.0 before (l.0, l.1, l.2, refl) in
-      let rest = good_run ps (way ++ p ∷ []) l.0 t n1 next (subst Sound (sym x.to) (sound_kept s p x.cs sound x.makes))
-      (known_kept n known s p a) l.3 q (o.1 x.makes.own l.0 x.makes.works l.2) in (
+      let next : ScheduleLeads (process_system L limits) origin (way ++ p ∷ []) to =
+      leads_on limits way (p ∷ []) origin s to before (to, unfaulted, goes, refl) in
+      let rest = good_run ps (way ++ p ∷ []) to t n1 next (subst Sound (sym x.to) (sound_kept s p x.cs sound x.makes))
+      (known_kept n known s p a) more q (o.1 x.makes.own to x.makes.works goes) in (
         rest.0,
         (
-          to_notes l.0 n1,
+          to_notes to n1,
           record {
             way = way;
             leads = before;
             sound = sound;
             known = known;
-            no_fault = l.1;
+            no_fault = unfaulted;
             cs = x.cs;
             makes = x.makes;
             to = x.to;
@@ -481,17 +482,17 @@ pub record Noted {L : Language} (limits : Totals) (s : State L) (n : JudgeNotes)
 pub noted_run : {L : Language} (limits : Totals) (ps : List Name) (s t : State L) (n : JudgeNotes)
     → ScheduleLeads (process_system L limits) s ps t → Noted limits s n ps t
 noted_run limits [] s t n l = record { notes = n; leads = λ i. record { state = l i; notes = n } }
-noted_run {L} limits (p ∷ ps) s t n l =
-    let w = can_step limits s p l.0 l.2 in
+noted_run {L} limits (p ∷ ps) s t n (m, unfaulted, goes, more) =
+    let w = can_step limits s p m goes in
     let n1 = notes_after s n p (L.next w.0 s.store) in
-    let is : result_of s p (step_outcome limits s p (L.next w.0 s.store)) ≡ l.0 =
-    same_Some _ _ (sym (ap (step_with limits s p) w.1) ∙ l.2) in
-    let r = noted_run limits ps l.0 t n1 l.3 in
+    let is : result_of s p (step_outcome limits s p (L.next w.0 s.store)) ≡ m =
+    same_Some _ _ (sym (ap (step_with limits s p) w.1) ∙ goes) in
+    let r = noted_run limits ps m t n1 more in
     record {
       notes = r.notes;
       leads = (
-        record { state = l.0; notes = n1 },
-        l.1,
+        record { state = m; notes = n1 },
+        unfaulted,
         ap (noted_step_of limits (record { state = s; notes = n }) p) w.1
             ∙ (λ i. Some (record { state = is i; notes = n1 })),
         r.leads,
@@ -501,15 +502,15 @@ noted_run {L} limits (p ∷ ps) s t n l =
 pub unnoted_run : {L : Language} (limits : Totals) (ps : List Name) (j k : WithNotes L)
     → ScheduleLeads (system_with_notes L limits) j ps k → ScheduleLeads (process_system L limits) j.state ps k.state
 unnoted_run limits [] j k l = ap (λ (z : WithNotes _). z.state) l
-unnoted_run {L} limits (p ∷ ps) j k l = (
-  l.0.state,
-  l.1,
-  unnoted (own_part j.state p) refl l.2,
-  unnoted_run limits ps l.0 k l.3,
+unnoted_run {L} limits (p ∷ ps) j k (m, unfaulted, goes, more) = (
+  m.state,
+  unfaulted,
+  unnoted (own_part j.state p) refl goes,
+  unnoted_run limits ps m k more,
 )
   where
-    unnoted : (o : Option L.Own) → own_part j.state p ≡ o → noted_step_of limits j p o ≡ Some l.0
-        → step limits j.state p ≡ Some l.0.state
+    unnoted : (o : Option L.Own) → own_part j.state p ≡ o → noted_step_of limits j p o ≡ Some m
+        → step limits j.state p ≡ Some m.state
     unnoted None w h = absurd (none-some _ h)
     unnoted (Some own) w h = ap (step_with limits j.state p) w
         ∙ ap (λ x. Some x) (ap (λ (z : WithNotes L). z.state) (same_Some _ _ h))

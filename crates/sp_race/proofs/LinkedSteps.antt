@@ -227,7 +227,12 @@ module _ {L : Language} {limits : Totals} (s : State L) (v : JudgeNotes) (p : Na
         apart = link.apart;
         made = λ x lt e is. ⊎_elim
             (λ (m : e.nth < v.events e.who). inl m)
-            (λ (w : IsPending s v e). inr (w.0, w.1, pend w.1 ∙ w.2, w.3))
+            (λ (w : IsPending s v e). inr (record {
+              who = w.who;
+              channel = w.channel;
+              pends = pend w.channel ∙ w.pends;
+              event_is = w.event_is;
+            }))
             (link.made x lt e is);
         offers = link.offers;
       })

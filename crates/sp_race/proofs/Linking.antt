@@ -116,8 +116,8 @@ module _ {L : Language} {limits : Totals} (s : State L) (v : JudgeNotes) (p : Na
   fresh : (i : ℕ) → i < n → label i ≡ Some (next_event_of v p) → ⊥
   fresh i lt e = ⊎_elim
       (λ (less : (next_event_of v p).nth < v.events p). lt_irrefl (v.events p) less)
-      (λ (w : IsPending s v (next_event_of v p)). not_waiting w.1
-      (subst (λ z. s.pending w.1 ≡ Some z) (ap (λ (x : Event). x.who) (sym w.3)) w.2))
+      (λ (w : IsPending s v (next_event_of v p)). not_waiting w.channel
+      (subst (λ z. s.pending w.channel ≡ Some z) (ap (λ (x : Event). x.who) (sym w.event_is)) w.pends))
       (link.made i lt (next_event_of v p) e)
 
   other_label : (i : ℕ) → i < n → (x : Option Event) → label i ≡ x → known_label (same_event (next_event_of v p)) x
@@ -215,7 +215,12 @@ module _ {L : Language} {limits : Totals} (s : State L) (v : JudgeNotes) (p : Na
         made = λ x lt e is. ⊎_elim
             (λ (less : x < n). ⊎_elim
             (λ (m : e.nth < v.events e.who). inl (lt_of_lt_of_le m (events_grow ns v e.who)))
-            (λ (w : IsPending s v e). inr (w.0, w.1, pend w.1 ∙ w.2, w.3 ∙ mine_is w.1 w.0 w.2))
+            (λ (w : IsPending s v e). inr (record {
+              who = w.who;
+              channel = w.channel;
+              pends = pend w.channel ∙ w.pends;
+              event_is = w.event_is ∙ mine_is w.channel w.who w.pends;
+            }))
             (link.made x less e (sym (old_label x less) ∙ is)))
             (λ (f : n ≡ x).
             let e_is : next_event_of v p ≡ e =
@@ -279,20 +284,20 @@ module _ {L : Language} {limits : Totals} (s : State L) (v : JudgeNotes) (p : Na
         made = λ x lt e is. ⊎_elim
             (λ (less : x < n). ⊎_elim
             (λ (m : e.nth < v.events e.who). inl m)
-            (λ (w : IsPending s v e). inr (
-              w.0,
-              w.1,
-              at_other channel_test s.pending o.channel w.1 (Some p)
-                  (λ same. none-some _ (sym none ∙ ap s.pending same ∙ w.2)) ∙ w.2,
-              w.3,
-            ))
+            (λ (w : IsPending s v e). inr (record {
+              who = w.who;
+              channel = w.channel;
+              pends = at_other channel_test s.pending o.channel w.channel (Some p)
+                  (λ same. none-some _ (sym none ∙ ap s.pending same ∙ w.pends)) ∙ w.pends;
+              event_is = w.event_is;
+            }))
             (link.made x less e (sym (old_label x less) ∙ is)))
-            (λ (f : n ≡ x). inr (
-              p,
-              o.channel,
-              at_key_here o,
-              same_Some _ _ (sym (subst (λ u. labels u ≡ Some e) (sym f) is) ∙ new_label),
-            ))
+            (λ (f : n ≡ x). inr (record {
+              who = p;
+              channel = o.channel;
+              pends = at_key_here o;
+              event_is = same_Some _ _ (sym (subst (λ u. labels u ≡ Some e) (sym f) is) ∙ new_label);
+            }))
             (below_or_at x n lt);
         offers = λ c w e k. keep_recorded c w e (link.offers c w e k);
       }
@@ -387,19 +392,21 @@ module _ {L : Language} {limits : Totals} (s : State L) (v : JudgeNotes) (p : Na
             (λ (less : x < n). ⊎_elim
             (λ (k : e.nth < v.events e.who). inl (lt_of_lt_of_le k (events_grow ns v e.who)))
             (λ (k : IsPending s v e). ⊎_elim
-            (λ (same : o.channel ≡ k.1).
-            let z_is : z ≡ k.0 = same_Some _ _ (sym pe ∙ ap s.pending same ∙ k.2) in
-            inl (subst (λ (y : Event). y.nth < u.events y.who) (sym (k.3 ∙ ap (λ y. next_event_of v y) (sym z_is)))
+            (λ (same : o.channel ≡ k.channel).
+            let z_is : z ≡ k.who = same_Some _ _ (sym pe ∙ ap s.pending same ∙ k.pends) in
+            inl (subst (λ (y : Event). y.nth < u.events y.who)
+            (sym (k.event_is ∙ ap (λ y. next_event_of v y) (sym z_is)))
             (counted ns v z (inr (inl refl)))))
-            (λ (away : o.channel ≢ k.1). inr (
-              k.0,
-              k.1,
-              pend_other k.1 away ∙ k.2,
-              k.3
-                  ∙ ap (λ d. record { who = k.0; nth = d })
-                  (sym (events_other k.0 (p_other k.1 k.0 k.2) (z_other k.1 k.0 away k.2))),
-            ))
-            (same_or_not channel_test o.channel k.1))
+            (λ (away : o.channel ≢ k.channel). inr (record {
+              who = k.who;
+              channel = k.channel;
+              pends = pend_other k.channel away ∙ k.pends;
+              event_is = k.event_is
+                  ∙ ap (λ d. record { who = k.who; nth = d })
+                  (sym (events_other k.who (p_other k.channel k.who k.pends)
+                  (z_other k.channel k.who away k.pends)));
+            }))
+            (same_or_not channel_test o.channel k.channel))
             (link.made x less e (sym (old_label x less) ∙ is)))
             (λ (f : n ≡ x).
             let e_is : next_event_of v p ≡ e =

@@ -163,17 +163,15 @@ module _ (g : RunInput) where
     where
       zero_add : r ≡ 0 + r
       zero_add = omega arith
-  turned turn since q (suc k) s m paused r t v j done n label h at go =
-      let own = h.0 in
-      let u = h.3 in
-      let x = stepped s q own u h.1 h.4 (no_fault_step g s q own u None h.1 h.2 tt h.4 at.no_fault) in
-      let mv = local_moves s q own u x h.2 in
+  turned turn since q (suc k) s m paused r t v j done n label (own, runs, silent, u, goes, onward) at go =
+      let x = stepped s q own u runs goes (no_fault_step g s q own u None runs silent tt goes at.no_fault) in
+      let mv = local_moves s q own u x silent in
       let at1 = next_at s v j done n label q own u at x j done n label
       (moves_linked s v q x.cs at.sound at.known x.makes j done n label at.linked mv.next_own mv.writes mv.move_is) in
       let knows = subst (λ z. KnowsBefore (superpascal g) v q ((superpascal g).next z s.store)) x.process_is
       (moves_know s x.makes.own v q mv) in
-      subst (λ z. OrderedSchedule s v z t) suc_add (first s v q own u (k + r) t at.no_fault h.1 h.4 knows
-      (rest (notes_after s v q ((superpascal g).next own s.store)) u (is_due_after g turn since s own q u) h.5 at1
+      subst (λ z. OrderedSchedule s v z t) suc_add (first s v q own u (k + r) t at.no_fault runs goes knows
+      (rest (notes_after s v q ((superpascal g).next own s.store)) u (is_due_after g turn since s own q u) onward at1
       (λ y a. turned turn since q k u m paused r t (notes_after s v q ((superpascal g).next own s.store)) j done n
       label y a go)))
     where
@@ -265,13 +263,12 @@ module _ (g : RunInput) where
       → KnownAfterEntries m v j done n label → KnowsOffers j done q w
       → Goes_on left t (knowledge_after j n q w) (With done q w) (suc n)
       → OrderedSchedule m v r t
-  kernel_goes left c m paused q w r t v j done n label ok h at knows go =
-      let own = h.5.0 in
-      let u = h.2 in
-      let x = stepped m q own u h.5.1 h.5.3 (no_fault_step g m q own u (Some w) h.5.1 h.5.2 ok h.5.3 at.no_fault) in
-      let y = enters m v q own u j done n label w at x h.5.2 knows in
-      subst (λ z. OrderedSchedule m v z t) (sym h.4) (first m v q own u h.3 t at.no_fault h.5.1 h.5.3 y.knows
-      (go _ u h.3 h.6 (notes_after m v q ((superpascal g).next own m.store)) y.label y.at))
+  kernel_goes left c m paused q w r t v j done n label ok (_, _, u, rest, rest_is, (own, runs, says, goes), after) at
+      knows go =
+      let x = stepped m q own u runs goes (no_fault_step g m q own u (Some w) runs says ok goes at.no_fault) in
+      let y = enters m v q own u j done n label w at x says knows in
+      subst (λ z. OrderedSchedule m v z t) (sym rest_is) (first m v q own u rest t at.no_fault runs goes y.knows
+      (go _ u rest after (notes_after m v q ((superpascal g).next own m.store)) y.label y.at))
 
   entered_goes : (left : Course → StateOf g → ℕ → Type 0) (c : Course) (m : StateOf g) (paused : Bool) (q : Name)
       (w : Happening) (r : ℕ) (t : StateOf g) (v : JudgeNotes) (j : Knowledge) (done : List Occurrence) (n : ℕ)
@@ -308,10 +305,11 @@ module _ (g : RunInput) where
         still = ap (λ (z : StateOf g). z.fault) a.1 ∙ at.no_fault;
         ordered = tt;
       }
-  along_goes turn (e ∷ es) c s r t v j done n label a clean at k =
-      subst (λ z. OrderedSchedule s v z t) (sym a.5) (turned turn (c.since e.who) e.who a.1 s a.3 a.4 a.2 t v j done n
-      label a.6 at
-      (λ w at1. entered_goes _ c a.3 a.4 e.who e.what a.2 t w j done n label clean.0 a.7 at1 k.0
+  along_goes turn (e ∷ es) c s r t v j done n label (_, steps, rest, between, paused, count_is, locals, enters) clean
+      at k =
+      subst (λ z. OrderedSchedule s v z t) (sym count_is)
+      (turned turn (c.since e.who) e.who steps s between paused rest t v j done n label locals at
+      (λ w at1. entered_goes _ c between paused e.who e.what rest t w j done n label clean.0 enters at1 k.0
       (λ c1 u d b x lb at2. along_goes turn es c1 u d t x (knowledge_after j n e.who e.what) (With done e.who e.what)
       (suc n)
       lb b clean.1 at2

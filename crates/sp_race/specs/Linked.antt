@@ -32,8 +32,11 @@ pub record Recorded (done : List Occurrence) (n : ℕ) (label : ℕ → Option E
   pub names : label position ≡ Some e
   pub entry : slice_get done position ≡ Some (record { who = who; what = Offered w c })
 
-abbrev pub IsPending : {L : Language} → State L → JudgeNotes → Event → Type 0
-IsPending s v e = (z : Name) × (c : Channel) × (s.pending c ≡ Some z) × (e ≡ next_event_of v z)
+pub record IsPending {L : Language} (s : State L) (v : JudgeNotes) (e : Event) : Type 0 where
+  pub who : Name
+  pub channel : Channel
+  pub pends : s.pending channel ≡ Some who
+  pub event_is : e ≡ next_event_of v who
 
 -- what is judged of these n entries, and the state with its notes after the steps that made them; label names the event
 -- of each index

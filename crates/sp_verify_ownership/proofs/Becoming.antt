@@ -54,20 +54,20 @@ module _ (f : ℕ → Condition Plain) (birth : ℕ → Option Birth) (p : AreAp
   still_seen r e o s = ap config_in (at_other f q r y o) ∙ s
 
   child_after : (r x : ℕ) → IsChildOf f birth r x → IsChildOf after birth r x
-  child_after r x h = (h.0, h.1, h.2, go (number_or q r))
+  child_after r x (born, birth_is, parent_is, living) = (born, birth_is, parent_is, go (number_or q r))
     where
       go : Is r → IsLive (after r)
       go (inl i) = subst (λ z. IsLive (after z)) i (subst (λ z. IsLive z) (sym (at_same f q y))
-          (lives h.0 (ap birth i ∙ h.1) (subst (λ z. IsLive (f z)) (sym i) h.3)))
-      go (inr o) = subst (λ z. IsLive z) (sym (at_other f q r y o.0)) h.3
+          (lives born (ap birth i ∙ birth_is) (subst (λ z. IsLive (f z)) (sym i) living)))
+      go (inr o) = subst (λ z. IsLive z) (sym (at_other f q r y o.0)) living
 
   pub child_before : (r x : ℕ) → IsChildOf after birth r x → IsChildOf f birth r x
-  child_before r x h = (h.0, h.1, h.2, go (number_or q r))
+  child_before r x (born, birth_is, parent_is, living) = (born, birth_is, parent_is, go (number_or q r))
     where
       go : Is r → IsLive (f r)
       go (inl i) = subst (λ z. IsLive (f z)) i (lived (subst (λ z. IsLive z) (at_same f q y)
-          (subst (λ z. IsLive (after z)) (sym i) h.3)))
-      go (inr o) = subst (λ z. IsLive z) (at_other f q r y o.0) h.3
+          (subst (λ z. IsLive (after z)) (sym i) living)))
+      go (inr o) = subst (λ z. IsLive z) (at_other f q r y o.0) living
 
   parent_other : (r x : ℕ) → IsChildOf f birth r x → q ≢ x
   parent_other r x h e = childless r (subst (IsChildOf f birth r) (sym e) h)
@@ -79,12 +79,26 @@ module _ (f : ℕ → Condition Plain) (birth : ℕ → Option Birth) (p : AreAp
 
   handed_after : (r : ℕ) (e : Config (Memory Plain)) (s : Spot) → IsHandedOn f birth r e s
       → IsHandedOn after birth r e s
-  handed_after r e s h = (h.0, h.1, child_after r h.0 h.2, still_seen h.0 h.1 (parent_other r h.0 h.2) h.3, h.4, h.5)
+  handed_after r e s (parent, holder, child_of, there, knows, meaning_is) = (
+    parent,
+    holder,
+    child_after r parent child_of,
+    still_seen parent holder (parent_other r parent child_of) there,
+    knows,
+    meaning_is,
+  )
 
   known_here : (s : Spot) → KnowsSpot d s → IsMade q d s ⊎ IsHandedOn after birth q d s
   known_here s k = ⊎_elim (λ m. inl m)
       (λ w. ⊎_elim (λ m. inl (w.1 ∙ m))
-      (λ h. inr (h.0, h.1, child_after q h.0 h.2, still_seen h.0 h.1 (parent_other q h.0 h.2) h.3, h.4, h.5 ∙ sym w.1))
+      (λ (h : IsHandedOn f birth q c s). let (parent, holder, child_of, there, knows, meaning_is) = h in inr (
+        parent,
+        holder,
+        child_after q parent child_of,
+        still_seen parent holder (parent_other q parent child_of) there,
+        knows,
+        meaning_is ∙ sym w.1,
+      ))
       (p.known q c was s w.0))
       (change.known s k)
 

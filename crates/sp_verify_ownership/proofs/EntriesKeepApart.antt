@@ -79,8 +79,8 @@ module _ (g : CodeRun) (k : KeepsCodeRules g.code) (e : KeepsEffects g.code (Doe
 
     -- who awaits none has none
     childless : (q : ℕ) → awaited_children (f q) ≡ 0 → (t : ℕ) → IsChildOf f b.birth t q → ⊥
-    childless q none t h = nobody t (i.children q) (i.count q ∙ none)
-        (subst (λ z. IsMember t (i.children z)) h.2 (i.all t h.0 h.1 h.3))
+    childless q none t (born, birth_is, parent_is, living) = nobody t (i.children q) (i.count q ∙ none)
+        (subst (λ z. IsMember t (i.children z)) parent_is (i.all t born birth_is living))
 
   -- ---- an event
 
@@ -163,7 +163,12 @@ module _ (g : CodeRun) (k : KeepsCodeRules g.code) (e : KeepsEffects g.code (Doe
     unchanged : (z : ℕ) (y : Condition Plain) → f z ≡ y → Put z y
     unchanged z y at = subst (Put z) at (
       alike f (at_key ◌==◌ z (f z) f) birth (λ r. sym (same_put f z r)) p,
-      λ r w h. (h.0, h.1, h.2, subst (λ y. IsLive y) (same_put f z r) h.3),
+      λ r w h. let (born, birth_is, parent_is, living) = h in (
+        born,
+        birth_is,
+        parent_is,
+        subst (λ y. IsLive y) (same_put f z r) living,
+      ),
     )
 
     changed : (z : ℕ) (stop : Stop) (c d : Config (Memory Plain)) → f z ≡ Waits stop c → ChangesTo z c d
@@ -186,7 +191,7 @@ module _ (g : CodeRun) (k : KeepsCodeRules g.code) (e : KeepsEffects g.code (Doe
         → LivesIn g H E (T g) (Room g) (Sent g) i.base (i.base z) (i.children z) y → Put z (after_message plain g cs y)
     received_apart z cs Absent at fine = unchanged z Absent at
     received_apart z cs (Working c) at fine = unchanged z (Working c) at
-    received_apart z cs (Waits (Receives d j a) (At pc st n)) at fine = put fine.0 fine.3
+    received_apart z cs (Waits (Receives d j a) (At pc st n)) at (areas, _, _, stop_holds) = put areas stop_holds
       where
         put : (us : List Area) → StopInvariant g H E (T g) (Room g) (Sent g) (Receives d j a) us (At pc st n)
             → Put z (Working (on_store (put_cells plain a cs) (At pc st n)))
@@ -464,8 +469,9 @@ module _ (g : CodeRun) (k : KeepsCodeRules g.code) (e : KeepsEffects g.code (Doe
 
   enters_apart : (s t : System Plain) (q : ℕ) (ev : Event) → IsInvariant s.condition s.births
       → AreApart s.condition s.births.birth → EntryLeads plain g s q ev t → AreApart t.condition t.births.birth
-  enters_apart s t q ev i p h = subst (λ (x : System Plain). AreApart x.condition x.births.birth) (sym h.5)
-      (turn_apart s i p q h.0 h.1 h.2 h.3)
+  enters_apart s t q ev i p (configuration, runs, turn, is_turn, _, leads) =
+      subst (λ (x : System Plain). AreApart x.condition x.births.birth) (sym leads)
+      (turn_apart s i p q configuration runs turn is_turn)
 
   leads_apart : (es : List JournalEntry) (s t : System Plain) → IsInvariant s.condition s.births
       → AreApart s.condition s.births.birth → EntriesLead plain g s es t

@@ -83,20 +83,20 @@ module _ (f : ℕ → Condition Plain) (birth : ℕ
   seen_here = ap config_in here ∙ on
 
   child_after : (r y : ℕ) → q ≢ r → IsChildOf f birth r y → IsChildOf after_end birth r y
-  child_after r y u h = (h.0, h.1, h.2, go (number_or x r))
+  child_after r y u (born, birth_is, parent_is, living) = (born, birth_is, parent_is, go (number_or x r))
     where
       go : Is x r → IsLive (after_end r)
       go (inl i) = subst (λ z. IsLive (after_end z)) i (subst (λ z. IsLive z) (sym here) alive)
-      go (inr o) = subst (λ z. IsLive z) (sym (other r o.0 u)) h.3
+      go (inr o) = subst (λ z. IsLive z) (sym (other r o.0 u)) living
 
   child_before : (r y : ℕ) → IsChildOf after_end birth r y → (q ≢ r) × IsChildOf f birth r y
-  child_before r y h = go (number_or x r) (number_or q r)
+  child_before r y (born, birth_is, parent_is, living) = go (number_or x r) (number_or q r)
     where
       go : Is x r → Is q r → (q ≢ r) × IsChildOf f birth r y
-      go (inl i) w = (λ j. apart (i ∙ sym j), (h.0, h.1, h.2, subst (λ z. IsLive (f z)) i joined_live))
+      go (inl i) w = (λ j. apart (i ∙ sym j), (born, birth_is, parent_is, subst (λ z. IsLive (f z)) i joined_live))
       go (inr o) (inl i) = absurd
-          (subst (λ z. IsLive z) gone (subst (λ z. IsLive (after_end z)) (sym i) h.3))
-      go (inr o) (inr u) = (u.0, (h.0, h.1, h.2, subst (λ z. IsLive z) (other r o.0 u.0) h.3))
+          (subst (λ z. IsLive z) gone (subst (λ z. IsLive (after_end z)) (sym i) living))
+      go (inr o) (inr u) = (u.0, (born, birth_is, parent_is, subst (λ z. IsLive z) (other r o.0 u.0) living))
 
   parent_other : (r y : ℕ) → IsChildOf f birth r y → q ≢ y
   parent_other r y h i = childless r (subst (IsChildOf f birth r) (sym i) h)
@@ -139,25 +139,25 @@ module _ (f : ℕ → Condition Plain) (birth : ℕ
 
   handed_after : (r : ℕ) (z : Config (Memory Plain)) (s : Spot) → q ≢ r → IsHandedOn f birth r z s
       → IsHandedOn after_end birth r z s
-  handed_after r z s u h = go (number_or x h.0)
+  handed_after r z s u (parent, holder, child_of, there, knows, meaning_is) = go (number_or x parent)
     where
-      go : Is x h.0 → IsHandedOn after_end birth r z s
+      go : Is x parent → IsHandedOn after_end birth r z s
       go (inl i) =
-          let is : d ≡ h.1 = same_Some _ _ (sym joins ∙ ap (λ y. config_in (f y)) i ∙ h.3) in (
-            h.0,
+          let is : d ≡ holder = same_Some _ _ (sym joins ∙ ap (λ y. config_in (f y)) i ∙ there) in (
+            parent,
             e,
-            child_after r h.0 u h.2,
+            child_after r parent u child_of,
             ap (λ y. config_in (after_end y)) (sym i) ∙ seen_here,
-            known_after s (subst (λ (y : Config (Memory Plain)). KnowsSpot y s) (sym is) h.4),
-            ap (λ (y : Config (Memory Plain)). meaning y s.frame) is ∙ h.5,
+            known_after s (subst (λ (y : Config (Memory Plain)). KnowsSpot y s) (sym is) knows),
+            ap (λ (y : Config (Memory Plain)). meaning y s.frame) is ∙ meaning_is,
           )
       go (inr o) = (
-        h.0,
-        h.1,
-        child_after r h.0 u h.2,
-        still_seen h.0 h.1 o.0 (parent_other r h.0 h.2) h.3,
-        h.4,
-        h.5,
+        parent,
+        holder,
+        child_after r parent u child_of,
+        still_seen parent holder o.0 (parent_other r parent child_of) there,
+        knows,
+        meaning_is,
       )
 
   abbrev IsMadeOrHanded : ℕ → Config (Memory Plain) → Spot → Type 0
@@ -209,7 +209,8 @@ module _ (f : ℕ → Condition Plain) (birth : ℕ
   moved r y z a h v u s i =
       let k = child_before r y h in
       let w = before r z (seen_after r z v) in
-      go k.0 k.1 w (subst (In s) (sym w.3) i) (seen_after y a u)
+      let (_, _, _, moved_is, _) = w in
+      go k.0 k.1 w (subst (In s) (sym moved_is) i) (seen_after y a u)
     where
       go : q ≢ r → IsChildOf f birth r y → (w : Before r z) → In s (spots_moved w.0) → After y a
           → IsMovedFrom after_end birth y a z s
@@ -226,11 +227,11 @@ module _ (f : ℕ → Condition Plain) (birth : ℕ
       → IsChildOf after_end birth t y → config_in (after_end r) ≡ Some z → config_in (after_end t) ≡ Some a → (s : Spot)
       → In s (spots_moved z) → KnowsSpot a s → IsMade t a s
   siblings r t y z a o h k v u s i l =
-      let one = before r z (seen_after r z v) in
-      let two = before t a (seen_after t a u) in
-      ap (λ fs. means fs s.frame) (sym two.2)
-      ∙ p.siblings r t y one.0 two.0 o (child_before r y h).1 (child_before t y k).1 one.1 two.1 s
-      (subst (In s) (sym one.3) i) (two.4 s l)
+      let (one, one_there, _, one_moved, _) = before r z (seen_after r z v) in
+      let (two, two_there, two_frames, _, two_known) = before t a (seen_after t a u) in
+      ap (λ fs. means fs s.frame) (sym two_frames)
+      ∙ p.siblings r t y one two o (child_before r y h).1 (child_before t y k).1 one_there two_there s
+      (subst (In s) (sym one_moved) i) (two_known s l)
 
   -- ---- agreement
 

@@ -104,13 +104,14 @@ module _ (g : CodeRun) (k : KeepsCodeRules g.code) (e : KeepsEffects g.code (Doe
     holds_kept : (p q : ℕ) (st s1 : List Entry) (n m : Memory Plain) (s : ProcessAt g.code p st n.frames)
         (t : ProcessAt g.code q s1 m.frames) → IsHoldingChanged p st n s → safe.ChangesAt plain g k p st n s (areas t) m
         → IsHoldingChanged q s1 m t
-    holds_kept p q st s1 n m s t h ch = (
+    holds_kept p q st s1 n m s t (before_it, number_is, changes) ch = let (active, _, _, may_write) = before_it in (
       ending.holds_kept g k E (mays g k e known small) (calls g k e known small)
-          (ready g k e known small) (forks g k e known small) (writes g k e known small) b p q st s1 n m s t h.0 ch,
-      same_process s.area (instr_at g.code p) s.shapes n m (areas s) (areas t) ch ∙ h.1,
-      change_twice r fs n.frames m.frames p0 n.store m.store h.2
-          (subst (λ z. OwnChange z n.frames n.store m.frames m.store) h.1
-          (change_one g k e known (T g) b p q st s1 n m s t h.0.0 h.0.3 ch)),
+          (ready g k e known small) (forks g k e known small) (writes g k e known small) b p q st s1 n m s t before_it
+          ch,
+      same_process s.area (instr_at g.code p) s.shapes n m (areas s) (areas t) ch ∙ number_is,
+      change_twice r fs n.frames m.frames p0 n.store m.store changes
+          (subst (λ z. OwnChange z n.frames n.store m.frames m.store) number_is
+          (change_one g k e known (T g) b p q st s1 n m s t active may_write ch)),
     )
 
     abbrev StandsChanged : Config (Memory Plain) → Type 0
@@ -122,7 +123,7 @@ module _ (g : CodeRun) (k : KeepsCodeRules g.code) (e : KeepsEffects g.code (Doe
         × ((s : Spot) → In s (spots_moved d) → IsHeld (map.get (map_of d) s))
 
     out : (d : Config (Memory Plain)) → StandsChanged d → Out d
-    out (At p st n) w = (w.1.1, w.1.2, w.1.0.0.holding.moved)
+    out (At p st n) (_, ((active, _, _, _), number_is, changes)) = (number_is, changes, active.holding.moved)
 
     -- by the area in which it stopped
     stop_writes : (x : Stop) (a : Area) (p q : ℕ) (ss : List Shape) (s1 : List Entry) (m : Memory Plain)
@@ -144,10 +145,10 @@ module _ (g : CodeRun) (k : KeepsCodeRules g.code) (e : KeepsEffects g.code (Doe
                 (λ (z : ChildTable). IsMember y.0 z.moved) ch.begins y.1,
           );
         })) y.2)
-    stop_writes (Opens a1) a p q ss s1 m ks i way so w = w so.0 a1.spot (stores g k e known a p ss so.0 i way so.4)
-        so.2.stands
-    stop_writes (Receives c j a1) a p q ss s1 m ks i way so w = w so.0 a1.spot
-        (stores g k e known a p ss so.0 i way so.4) so.2.stands
+    stop_writes (Opens a1) a p q ss s1 m ks i way (x, _, points, _, stored) w =
+        w x a1.spot (stores g k e known a p ss x i way stored) points.stands
+    stop_writes (Receives c j a1) a p q ss s1 m ks i way (x, _, points, _, stored) w = w x a1.spot
+        (stores g k e known a p ss x i way stored) points.stands
     stop_writes (Sends c j cs) a p q ss s1 m ks i way so w = tt
     stop_writes Ends a p q ss s1 m ks i way so w = tt
     stop_writes Pauses a p q ss s1 m ks i way so w = tt
@@ -165,21 +166,25 @@ module _ (g : CodeRun) (k : KeepsCodeRules g.code) (e : KeepsEffects g.code (Doe
     stop_at : (x : Stop) (q : ℕ) (s1 : List Entry) (m : Memory Plain) → (x ≡ Pauses → ⊥)
         → (s : ProcessAt g.code q s1 m.frames) → IsHoldingChanged q s1 m s → (t : StoppedAt g.code x q s1 m.frames)
         → IsHere plain g m x (t.area ∷ areas_of t.callers) (areas s) → Out (At q s1 m) × StopWrites r x (At q s1 m)
-    stop_at x q s1 m ne s h t here =
-        let same = same_area x t.area s.area (areas_of t.callers) (areas_of s.callers) m here ne in (
-          out (At q s1 m) (s, h),
+    stop_at x q s1 m ne s (before_it, number_is, changes) t here =
+        let same = same_area x t.area s.area (areas_of t.callers) (areas_of s.callers) m here ne in
+        let (_, _, _, may_write) = before_it in (
+          out (At q s1 m) (s, (before_it, number_is, changes)),
           stop_writes x t.area t.position q t.shapes s1 m t.callers t.there t.reached t.so
               (subst (λ a. WritesWithin g.code r m.store.moved a m.frames) (sym same)
-              (subst (λ z. WritesWithin g.code z m.store.moved s.area m.frames) h.1
-              (newest_writes g.code m.process m.store.moved s.area (areas_of s.callers) m.frames h.0.3))),
+              (subst (λ z. WritesWithin g.code z m.store.moved s.area m.frames) number_is
+              (newest_writes g.code m.process m.store.moved s.area (areas_of s.callers) m.frames may_write))),
         )
 
     at_stop : (x : Stop) (d : Config (Memory Plain)) → safe.AtStop plain g k IsHoldingChanged holds_ready holds_kept x d
         → Out d × StopWrites r x d
-    at_stop (Forks t v n) (At q s1 m) w = stop_at (Forks t v n) q s1 m (λ z. cc z) w.0 w.1 w.2.0 w.2.1
-    at_stop (Opens to) (At q s1 m) w = stop_at (Opens to) q s1 m (λ z. cc z) w.0 w.1 w.2.0 w.2.1
+    at_stop (Forks t v n) (At q s1 m) (stands, held, (stopped, here)) =
+        stop_at (Forks t v n) q s1 m (λ z. cc z) stands held stopped here
+    at_stop (Opens to) (At q s1 m) (stands, held, (stopped, here)) =
+        stop_at (Opens to) q s1 m (λ z. cc z) stands held stopped here
     at_stop (Sends ch j cs) (At q s1 m) w = (out (At q s1 m) (w.0, w.1), tt)
-    at_stop (Receives ch j to) (At q s1 m) w = stop_at (Receives ch j to) q s1 m (λ z. cc z) w.0 w.1 w.2.0 w.2.1
+    at_stop (Receives ch j to) (At q s1 m) (stands, held, (stopped, here)) =
+        stop_at (Receives ch j to) q s1 m (λ z. cc z) stands held stopped here
     at_stop Ends (At q s1 m) (p, st, s, h, t) = (out (At p st m) (s, h), tt)
     at_stop Pauses (At q s1 m) w = (out (At q s1 m) (w.0, w.1), tt)
 
@@ -203,8 +208,8 @@ module _ (g : CodeRun) (k : KeepsCodeRules g.code) (e : KeepsEffects g.code (Doe
         same u c h = cc
 
         go : (t : Bool) → BeginsOrFaults t c (Faulted f d) (Runs (memory plain g) g.code c (Faulted f d)) → Out d
-        go true h = subst Out (sym h.2.1)
-            (out h.0 (safe.comes_in plain g k IsHoldingChanged holds_ready holds_kept h.1.steps c h.0 w h.1.proof))
+        go true (e, comes, (_, same_turn)) = subst Out (sym same_turn)
+            (out e (safe.comes_in plain g k IsHoldingChanged holds_ready holds_kept comes.steps c e w comes.proof))
         go false h = subst Out (sym (same _ c h)) (out c w)
 
   -- ---- from a process that lives and stands

@@ -46,9 +46,10 @@ module _ (f : ℕ → Condition Plain) (birth : ℕ → Option Birth) (p : AreAp
   from (suc n) r le c s q k = ⊎_elim
       (λ (m : IsMade r c q). (r, omega arith, m))
       (λ (w : IsHandedOn f birth r c q). (
-      let y = older r w.0 w.2 in
-      let v = from n w.0 (omega (arith, le, y)) w.1 w.3 q w.4 in
-      (v.0, (let z = v.1 in omega (arith, y, z)), sym w.5 ∙ v.2)))
+      let (parent, holder, child_of, there, knows, meaning_is) = w in
+      let y = older r parent child_of in
+      let v = from n parent (omega (arith, le, y)) holder there q knows in
+      (v.0, (let z = v.1 in omega (arith, y, z)), sym meaning_is ∙ v.2)))
       (p.known r c s q k)
 
   pub origin : (r : ℕ) (c : Config (Memory Plain)) → config_in (f r) ≡ Some c → (q : Spot) → KnowsSpot c q
@@ -104,9 +105,10 @@ module _ (f : ℕ → Condition Plain) (birth : ℕ → Option Birth) (p : AreAp
   made_by (suc n) t le d s q k r e = ⊎_elim
       (λ (m : IsMade t d q). (0, (identity_same r q.frame t q.frame (sym e ∙ m)).0))
       (λ (w : IsHandedOn f birth t d q). (
-      let y = older t w.0 w.2 in
-      let v = made_by n w.0 (omega (arith, le, y)) w.1 w.3 q w.4 r (w.5 ∙ e) in
-      (suc v.0, (w.0, w.2, v.1))))
+      let (parent, holder, child_of, there, knows, meaning_is) = w in
+      let y = older t parent child_of in
+      let v = made_by n parent (omega (arith, le, y)) holder there q knows r (meaning_is ∙ e) in
+      (suc v.0, (parent, child_of, v.1))))
       (p.known t d s q k)
 
   pub made_below : (t : ℕ) (d : Config (Memory Plain)) → config_in (f t) ≡ Some d → (q : Spot) → KnowsSpot d q → (r : ℕ)
@@ -126,8 +128,10 @@ module _ (f : ℕ → Condition Plain) (birth : ℕ → Option Birth) (p : AreAp
       let z = way_down (suc n) x t w in
       absurd (omega (arith, lt, same, z))))
       (λ (h : IsHandedOn f birth t d q). (
-      let is : h.0 ≡ w.0 = one_parent t h.0 w.0 h.2 w.1 in
-      on_the_way n x w.0 w.2 h.1 (subst (λ z. config_in (f z) ≡ Some h.1) is h.3) q h.4 o lt (h.5 ∙ e)))
+      let (parent, holder, child_of, there, knows, meaning_is) = h in
+      let is : parent ≡ w.0 = one_parent t parent w.0 child_of w.1 in
+      on_the_way n x w.0 w.2 holder (subst (λ z. config_in (f z) ≡ Some holder) is there) q knows o lt
+      (meaning_is ∙ e)))
       (p.known t d s q k)
 
   -- ---- who else holds what a process may write
@@ -141,19 +145,21 @@ module _ (f : ℕ → Condition Plain) (birth : ℕ → Option Birth) (p : AreAp
       (l : KnowsSpot d q)
       (e : meaning d q.frame ≡ meaning c q.frame) where
     pub gone : IsMovedFrom f birth h.0 h.1 c q
-    gone = p.moved r h.0 c h.1 h.2 s h.3 q i
+    gone = let (parent, holder, child_of, there, _, _) = h in p.moved r parent c holder child_of s there q i
 
     a : (o : ℕ) × (o ≤ h.0) × (meaning h.1 q.frame ≡ identity o q.frame)
-    a = origin h.0 h.1 h.3 q h.4
+    a = let (parent, holder, _, there, knows, _) = h in origin parent holder there q knows
 
     -- another child of the parent, through which t would know it
     other : (m x : ℕ) → Child x h.0 → Way m x t → r ≢ x → ⊥
     other m x ch w apart =
+        let (parent, _, child_of, _, _, meaning_is) = h in
         let le = a.1 in
-        let y = older x h.0 ch in
-        let v = on_the_way m x t w d u q l a.0 (omega (arith, le, y)) (e ∙ sym h.5 ∙ a.2) in
-        let made = p.siblings r x h.0 c v.0 apart h.2 ch s v.1 q i v.2 in
-        let same = (identity_same a.0 q.frame x q.frame (sym v.3 ∙ made)).0 in
+        let y = older x parent ch in
+        let (there, seen, knows, made_so) =
+        on_the_way m x t w d u q l a.0 (omega (arith, le, y)) (e ∙ sym meaning_is ∙ a.2) in
+        let made = p.siblings r x parent c there apart child_of ch s seen q i knows in
+        let same = (identity_same a.0 q.frame x q.frame (sym made_so ∙ made)).0 in
         omega (arith, le, y, same)
 
     through : (m : ℕ) → Way (suc m) h.0 t → Elsewhere r t d q
@@ -167,7 +173,8 @@ module _ (f : ℕ → Condition Plain) (birth : ℕ → Option Birth) (p : AreAp
     pub below : Elsewhere h.0 t d q → Elsewhere r t d q
     below (inr z) = inr z
     below (inl (zero, w)) =
-        let same : h.1 ≡ d = same_Some _ _ (sym h.3 ∙ ap (λ z. config_in (f z)) w ∙ u) in
+        let (_, holder, _, there, _, _) = h in
+        let same : holder ≡ d = same_Some _ _ (sym there ∙ ap (λ z. config_in (f z)) w ∙ u) in
         inr (not_held_away (map.get (map_of d) q)
         (subst (λ (z : Config (Memory Plain)). map.get (map_of z) q ≡ Some Away) same gone.0))
     below (inl (suc m, w)) = through m w
@@ -183,9 +190,11 @@ module _ (f : ℕ → Condition Plain) (birth : ℕ → Option Birth) (p : AreAp
   writable_by (suc n) r le c s q k (inr i) t d u l e = ⊎_elim
       (λ (m : IsMade r c q). inl (made_below t d u q l r (e ∙ m)))
       (λ (h : IsHandedOn f birth r c q). (
-      let y = older r h.0 h.2 in
+      let (parent, holder, child_of, there, knows, meaning_is) = h in
+      let y = older r parent child_of in
       below r c s q i h t d u l e
-      (writable_by n h.0 (omega (arith, le, y)) h.1 h.3 q h.4 (gone r c s q i h t d u l e).2 t d u l (e ∙ sym h.5))))
+      (writable_by n parent (omega (arith, le, y)) holder there q knows (gone r c s q i h t d u l e).2 t d u l
+      (e ∙ sym meaning_is))))
       (p.known r c s q k)
 
   -- a process without children alone holds what it may write

@@ -246,34 +246,35 @@ module _ (g : CodeRun) (f : ℕ → Condition Plain) (b : Births) (p : AreApart 
     )
 
     child_after : (r x : ℕ) → IsChildOf f b.birth r x → Child r x
-    child_after r x h = (
-      h.0,
+    child_after r x (born, birth_is, parent_is, living) = (
+      born,
       ap (λ z. cond z (Some (record { parent = q; fork = b.forks q; child = r - P })) (b.birth r))
-          (next_not b count r low) ∙ h.1,
-      h.2,
+          (next_not b count r low) ∙ birth_is,
+      parent_is,
       go (number_or q r),
     )
       where
         low : r < P
-        low = live_low r h.3
+        low = live_low r living
 
         go : Is r → IsLive (after_fork r)
         go (inl e) = subst (λ z. IsLive (after_fork z)) e
             (subst (λ z. IsLive z) (sym (here_after (is_next b count q) refl)) tt)
-        go (inr d) = subst (λ z. IsLive z) (sym (other_after r low d.0)) h.3
+        go (inr d) = subst (λ z. IsLive z) (sym (other_after r low d.0)) living
 
     -- a child is new, and the process's, or was there
     child_or_new : (r x : ℕ) → Child r x → ((P ≤ r) × (r < P + count) × (q ≡ x)) ⊎ IsChildOf f b.birth r x
-    child_or_new r x h = go (is_next b count r) refl h.1 h.3 (number_or q r)
+    child_or_new r x (born, birth_is, parent_is, living) = go (is_next b count r) refl birth_is living (number_or q r)
       where
         go : (t : Bool) → is_next b count r ≡ t
-            → cond t (Some (record { parent = q; fork = b.forks q; child = r - P })) (b.birth r) ≡ Some h.0
+            → cond t (Some (record { parent = q; fork = b.forks q; child = r - P })) (b.birth r) ≡ Some born
             → IsLive (cond t (Working (child r)) (cond (q == r) (Joins count joining) (f r))) → Is r
             → ((P ≤ r) × (r < P + count) × (q ≡ x)) ⊎ IsChildOf f b.birth r x
         go true i o l w = let u = next_is b count r i in
-            inl (u.0, u.1, ap (λ (z : Birth). z.parent) (same_Some _ _ o) ∙ h.2)
-        go false i o l (inl e) = inr (h.0, o, h.2, subst (λ z. IsLive (f z)) e live)
-        go false i o l (inr d) = inr (h.0, o, h.2, subst (λ z. IsLive z) (at_other f q r (Joins count joining) d.0) l)
+            inl (u.0, u.1, ap (λ (z : Birth). z.parent) (same_Some _ _ o) ∙ parent_is)
+        go false i o l (inl e) = inr (born, o, parent_is, subst (λ z. IsLive (f z)) e live)
+        go false i o l (inr d) =
+            inr (born, o, parent_is, subst (λ z. IsLive z) (at_other f q r (Joins count joining) d.0) l)
 
     parent_other : (r x : ℕ) → IsChildOf f b.birth r x → q ≢ x
     parent_other r x h e = childless r (subst (IsChildOf f b.birth r) (sym e) h)
@@ -290,7 +291,15 @@ module _ (g : CodeRun) (f : ℕ → Condition Plain) (b : Births) (p : AreApart 
 
     handed_after : (r : ℕ) (e : Config (Memory Plain)) (s : Spot) → IsHandedOn f b.birth r e s
         → IsHandedOn after_fork birth_after r e s
-    handed_after r e s h = (h.0, h.1, child_after r h.0 h.2, still_seen h.0 h.1 (parent_other r h.0 h.2) h.3, h.4, h.5)
+    handed_after r e s (parent, holder, child_of, there, knows, meaning_is) = (
+      parent,
+      holder,
+      child_after r parent child_of,
+      still_seen parent holder (parent_other r parent child_of)
+          there,
+      knows,
+      meaning_is,
+    )
 
     known_young : (r : ℕ) → P ≤ r → r < P + count → (s : Spot) → KnowsSpot (child r) s
         → IsMade r (child r) s ⊎ IsHandedOn after_fork birth_after r (child r) s
@@ -318,7 +327,14 @@ module _ (g : CodeRun) (f : ℕ → Condition Plain) (b : Births) (p : AreApart 
     known_parent : (s : Spot) → KnowsSpot joining s → IsMade q joining s
         ⊎ IsHandedOn after_fork birth_after q joining s
     known_parent s k = ⊎_elim (λ w. inl w)
-        (λ h. inr (h.0, h.1, child_after q h.0 h.2, still_seen h.0 h.1 (parent_other q h.0 h.2) h.3, h.4, h.5))
+        (λ (h : IsHandedOn f b.birth q c s). let (parent, holder, child_of, there, knows, meaning_is) = h in inr (
+          parent,
+          holder,
+          child_after q parent child_of,
+          still_seen parent holder (parent_other q parent child_of) there,
+          knows,
+          meaning_is,
+        ))
         (p.known q c was s (known_before s k))
 
     abbrev IsMadeOrHanded : ℕ → Config (Memory Plain) → Spot → Type 0
@@ -381,11 +397,12 @@ module _ (g : CodeRun) (f : ℕ → Condition Plain) (b : Births) (p : AreApart 
         go (inl a) (Parent j k) w = absurd (omega (arith, a.0, there, j))
         go (inl a) (Old o l k) w = absurd (omega (arith, a.0, l))
         go (inr k) w y =
-            let low = live_low r k.3 in
-            let z = before r e low w in
+            let (_, _, _, alive) = k in
+            let low = live_low r alive in
+            let (z, z_there, z_frames, z_moved, _) = before r e low w in
             let up = old_seen x d (parent_other r x k) (let o = older r x k in omega (arith, o, low)) y in
-            let t = p.moved r x z.0 d k z.1 up s (subst (In s) (sym z.3) i) in
-            (t.0, t.1 ∙ ap (λ fs. means fs s.frame) z.2, t.2)
+            let t = p.moved r x z d k z_there up s (subst (In s) (sym z_moved) i) in
+            (t.0, t.1 ∙ ap (λ fs. means fs s.frame) z_frames, t.2)
 
     -- ---- siblings
 
@@ -420,11 +437,13 @@ module _ (g : CodeRun) (f : ℕ → Condition Plain) (b : Births) (p : AreApart 
         go (inl a) (inl o) (Young le lt j) (Parent z w) = absurd (omega (arith, o.0, there, z))
         go (inl a) (inl o) (Young le lt j) (Old z w y) = absurd (omega (arith, o.0, w))
         go (inr a) (inr o) w y =
-            let child_handing = before r e (live_low r a.3) w in
-            let two = before t d (live_low t o.3) y in
-            ap (λ fs. means fs s.frame) (sym two.2)
-            ∙ p.siblings r t x child_handing.0 two.0 apart a o child_handing.1 two.1 s
-            (subst (In s) (sym child_handing.3) i) (two.4 s l)
+            let (_, _, _, one_alive) = a in
+            let (_, _, _, two_alive) = o in
+            let (one, one_there, _, one_moved, _) = before r e (live_low r one_alive) w in
+            let (two, two_there, two_frames, _, two_known) = before t d (live_low t two_alive) y in
+            ap (λ fs. means fs s.frame) (sym two_frames)
+            ∙ p.siblings r t x one two apart a o one_there two_there s
+            (subst (In s) (sym one_moved) i) (two_known s l)
 
     -- ---- agreement
 

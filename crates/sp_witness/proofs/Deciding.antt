@@ -9,8 +9,8 @@ use Rattle.sp_meaning.specs.Model.{Name, Channel}
 use Rattle.sp_meaning.specs.Entries.{Happening, Opened, Forked, Offered, Faulted, Laid, Paused, Occurrence}
 use Rattle.sp_meaning.specs.LocalWork.{RunInput}
 use Rattle.sp_meaning.specs.Runs.{StateOf, start, next_state, Lawful}
-use Rattle.sp_meaning.specs.Along.{Either, is_due_after, Turn, Course, no_course, EntryStep, Along, IsAlong, IsCleanly}
-use Rattle.sp_meaning.specs.Along.{IsClean}
+use Rattle.sp_meaning.specs.Along.{Either, is_due_after, Turn, Course, no_course, KernelStep, EntryStep, Along, IsAlong}
+use Rattle.sp_meaning.specs.Along.{IsCleanly, IsClean}
 use Rattle.sp_meaning.specs.Laws.{IsReached}
 use Rattle.sp_meaning.proofs.JournalSchedules.{no_fault_step}
 use Rattle.sp_witness.specs.Witness.{who_at, entry_list, first_part, witness}
@@ -37,34 +37,34 @@ module _ (g : RunInput) where
       → Turn g turn since q k s m paused → s.fault ≡ None → (m.fault ≡ None → Way_on m t) → Way_on s t
   turn_on turn since q zero s m paused t h no_fault go =
       subst (λ z. Way_on z t) h.0 (go (ap (λ (z : StateOf g). z.fault) h.0 ∙ no_fault))
-  turn_on turn since q (suc k) s m paused t h no_fault go =
-      let still = no_fault_step g s q h.0 h.3 None h.1 h.2 tt h.4 no_fault in
-      step_on s q h.3 t no_fault h.4
-      (rest (is_due_after g turn since s h.0 q h.3) h.5 still (λ x. turn_on turn since q k h.3 m paused t x still go))
+  turn_on turn since q (suc k) s m paused t (own, runs, silent, next, goes, onward) no_fault go =
+      let still = no_fault_step g s q own next None runs silent tt goes no_fault in
+      step_on s q next t no_fault goes
+      (rest (is_due_after g turn since s own q next) onward still
+      (λ x. turn_on turn since q k next m paused t x still go))
     where
-      rest : (b : Bool) → Either b ((k ≡ 0) × (m ≡ h.3) × (paused ≡ true)) (Turn g turn since q k h.3 m paused)
-          → h.3.fault ≡ None → (Turn g turn since q k h.3 m paused → Way_on h.3 t) → Way_on h.3 t
+      rest : (b : Bool) → Either b ((k ≡ 0) × (m ≡ next) × (paused ≡ true)) (Turn g turn since q k next m paused)
+          → next.fault ≡ None → (Turn g turn since q k next m paused → Way_on next t) → Way_on next t
       rest true x still later = subst (λ z. Way_on z t) x.1 (go (ap (λ (z : StateOf g). z.fault) x.1 ∙ still))
       rest false x still later = later x
 
   -- an entry without a fault
   module _ (left : Course → StateOf g → ℕ → Type 0) (c : Course) (m : StateOf g) (paused : Bool) (q : Name)
       (t : StateOf g) where
+    kernel_on : (w : Happening) (n : ℕ) → IsCleanly w → KernelStep g left c m paused q w n
+        → ((c1 : Course) (u : StateOf g) (d : ℕ) → left c1 u d → u.fault ≡ None → Way_on u t) → m.fault ≡ None
+        → Way_on m t
+    kernel_on w n ok (_, _, next, rest, _, (own, runs, says, goes), after) go f =
+        step_on m q next t f goes
+        (go _ next rest after (no_fault_step g m q own next (Some w) runs says ok goes f))
+
     entered_on : (w : Happening) (n : ℕ) → IsCleanly w → EntryStep g left c m paused q w n
         → ((c1 : Course) (u : StateOf g) (d : ℕ) → left c1 u d → u.fault ≡ None → Way_on u t) → m.fault ≡ None
         → Way_on m t
-    entered_on Opened n ok h go f =
-        step_on m q h.2 t f h.5.3 (go _ h.2 h.3 h.6 (no_fault_step g m q h.5.0 h.2
-        (Some Opened) h.5.1 h.5.2 ok h.5.3 f))
-    entered_on (Forked i) n ok h go f =
-        step_on m q h.2 t f h.5.3
-        (go _ h.2 h.3 h.6 (no_fault_step g m q h.5.0 h.2 (Some (Forked i)) h.5.1 h.5.2 ok h.5.3 f))
-    entered_on (Offered w d) n ok h go f =
-        step_on m q h.2 t f h.5.3
-        (go _ h.2 h.3 h.6 (no_fault_step g m q h.5.0 h.2 (Some (Offered w d)) h.5.1 h.5.2 ok h.5.3 f))
-    entered_on happenings.Ended n ok h go f =
-        step_on m q h.2 t f h.5.3
-        (go _ h.2 h.3 h.6 (no_fault_step g m q h.5.0 h.2 (Some happenings.Ended) h.5.1 h.5.2 ok h.5.3 f))
+    entered_on Opened n ok h go f = kernel_on Opened n ok h go f
+    entered_on (Forked i) n ok h go f = kernel_on (Forked i) n ok h go f
+    entered_on (Offered w d) n ok h go f = kernel_on (Offered w d) n ok h go f
+    entered_on happenings.Ended n ok h go f = kernel_on happenings.Ended n ok h go f
     entered_on (Faulted x) n ok h go f = absurd ok
     entered_on Laid n ok h go f = absurd ok
     entered_on Paused n ok h go f = go _ m n h.2 f
@@ -74,14 +74,23 @@ module _ (g : RunInput) where
       (t : StateOf g)
       → IsClean xs → Along g turn c s (xs ++ record { who = q; what = Faulted x } ∷ []) n t → s.fault ≡ None
       → Way_on s t
-  along_on turn [] q x c s n t clean a no_fault =
-      turn_on turn (c.since q) q a.1 s a.3 a.4 t a.6 no_fault
-      (λ f. step_on a.3 q a.7.2 t f a.7.5.3 ([], a.7.6.1))
-  along_on turn (e ∷ xs) q x c s n t clean a no_fault =
-      turn_on turn (c.since e.who) e.who a.1 s a.3 a.4 t a.6 no_fault
-      (λ f. entered_on (λ c1 u d. Along g turn c1 u (xs ++ record { who = q; what = Faulted x } ∷ []) d t) c a.3 a.4
-      e.who t
-      e.what a.2 clean.0 a.7 (λ c1 u d b still. along_on turn xs q x c1 u d t clean.1 b still) f)
+  along_on turn [] q x c s n t clean (
+    _,
+    steps,
+    _,
+    between,
+    paused,
+    _,
+    locals,
+    (_, _, next, _, _, (_, _, _, goes), (_, same)),
+  ) no_fault =
+      turn_on turn (c.since q) q steps s between paused t locals no_fault
+      (λ f. step_on between q next t f goes ([], same))
+  along_on turn (e ∷ xs) q x c s n t clean (_, steps, rest, between, paused, _, locals, enters) no_fault =
+      turn_on turn (c.since e.who) e.who steps s between paused t locals no_fault
+      (λ f. entered_on (λ c1 u d. Along g turn c1 u (xs ++ record { who = q; what = Faulted x } ∷ []) d t) c between
+      paused e.who t
+      e.what rest clean.0 enters (λ c1 u d b still. along_on turn xs q x c1 u d t clean.1 b still) f)
 
 -- what shows a race is a schedule that meets contention
 module _ (g : RunInput) (turn : ℕ) (es : List Occurrence) (w : Way) (c : Channel) (earlier later : ℕ) where

@@ -234,11 +234,10 @@ picks_taken es f earlier later two got =
       where
         none_some : ◌≡◌ {A = Option Entry} None (Some e) → ⊥
         none_some z = cc
-    in_from s (x ∷ xs) zero e h g =
+    in_from s (x ∷ xs) zero e h ((room, _), _) =
         let is : x ≡ e = same_entry h in
         let a = (stays s (x ∷ xs)).processes in
-        let b = g.0.0 in
-        subst (λ z. z.process < (births_from s (x ∷ xs)).processes) is (omega (arith, a, b))
+        subst (λ z. z.process < (births_from s (x ∷ xs)).processes) is (omega (arith, a, room))
       where
         same_entry : ◌≡◌ {A = Option Entry} (Some x) (Some e) → x ≡ e
         same_entry z = cc
@@ -274,11 +273,10 @@ marks_taken es f earlier later two got =
       where
         none_some : ◌≡◌ {A = Option Entry} None (Some e) → ⊥
         none_some z = cc
-    in_from s (x ∷ xs) zero e h g =
+    in_from s (x ∷ xs) zero e h ((room, _), _) =
         let is : x ≡ e = same_entry h in
         let a = (stays s (x ∷ xs)).processes in
-        let b = g.0.0 in
-        subst (λ z. z.process < (births_from s (x ∷ xs)).processes) is (omega (arith, a, b))
+        subst (λ z. z.process < (births_from s (x ∷ xs)).processes) is (omega (arith, a, room))
       where
         same_entry : ◌≡◌ {A = Option Entry} (Some x) (Some e) → x ≡ e
         same_entry z = cc

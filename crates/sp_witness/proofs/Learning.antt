@@ -31,8 +31,8 @@ teach_is p fork known x (suc n) past q i h = ⊎_elim
     (λ (y : learn ((fork, x) ∷ p) known past q i ≡ true). ⊎_elim (λ (z : past q i ≡ true). inl z)
     (λ (z : ((fork, x) ∷ p ≡ q) × (known i ≡ true)). inr ((x, omega arith, omega arith, sym z.0), z.1))
     (learn_is ((fork, x) ∷ p) known past q i y))
-    (λ (y : IsChildAt p fork (suc x) n q × (known i ≡ true)). let a = y.0.1 in let b = y.0.2 in
-    inr ((y.0.0, omega (arith, a), omega (arith, b), y.0.3), y.1))
+    (λ (y : IsChildAt p fork (suc x) n q × (known i ≡ true)). let ((child, from, below, child_is), knows) = y in
+    inr ((child, omega (arith, from), omega (arith, below), child_is), knows))
     (teach_is p fork known (suc x) n (learn ((fork, x) ∷ p) known past) q i h)
 
 pub teach_here : (p : Name) (fork : ℕ) (known : ℕ → Bool) (x n : ℕ) (past : Name → ℕ → Bool) (k i : ℕ) → x ≤ k

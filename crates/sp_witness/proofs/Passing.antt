@@ -383,12 +383,12 @@ module _ (j : Knowledge) (n : ℕ) (p : Name) (below : (q : Name) (i : ℕ) → 
           ))
           (first_is q m x))
           (λ (x : IsChildAt p (j.forks p) 0 k q × (known_with j p n m ≡ true)).
-          let l = x.0.2 in
+          let ((child, _, below, child_is), knows) = x in
           inr (
             λ f. key_here p (F p || any_child F p (j.forks p) k) F
                 (or_right (F p) (any_child F p (j.forks p) k)
-                (any_here F p (j.forks p) k x.0.0 (omega (arith, l)) (subst (λ z. F z ≡ true) x.0.3 f))),
-            x.1,
+                (any_here F p (j.forks p) k child (omega (arith, below)) (subst (λ z. F z ≡ true) child_is f))),
+            knows,
           ))
           (teach_is p (j.forks p) (known_with j p n) 0 k first q m h)
 
@@ -462,8 +462,8 @@ module _ (j : Knowledge) (n : ℕ) (p : Name) (below : (q : Name) (i : ℕ) → 
           × ((m : ℕ) → known_with j p n m ≡ true → report p (known_with j p n) first r m ≡ true)
       passes h = ⊎_elim
           (λ (f : F p ≡ true). (p, f, λ m x. report_more p (known_with j p n) first p m (first_here m x)))
-          (λ (a : parent_is F p ≡ true). let c = parent_of p a in
-          (c.1, c.3, λ m x. report_here p (known_with j p n) first c.0 c.1 m c.2 x))
+          (λ (a : parent_is F p ≡ true). let (last, parent, name_is, needed) = parent_of p a in
+          (parent, needed, λ m x. report_here p (known_with j p n) first last parent m name_is x))
           (or_cases (F p) (parent_is F p)
           (⊎_elim (λ (x : (p ≡ p) × (F p || parent_is F p ≡ true)). x.1)
           (λ (x : F p ≡ true). or_left (F p) (parent_is F p) x) (key_is p (F p || parent_is F p) F p h)))

@@ -12,14 +12,14 @@ use Rattle.sp_meaning.specs.Model.{Name, Channel, same_name, Language, Waits, Fa
 use Rattle.sp_meaning.specs.Steps.{Advances, entry_cost, cost, limit_fault}
 use Rattle.sp_meaning.specs.LocalWork.{RunInput, Process}
 use Rattle.sp_meaning.specs.SuperPascal.{superpascal, root, first_store}
-use Rattle.sp_meaning.specs.Entries.{Happening, Offered, Faulted, Paused, Occurrence}
+use Rattle.sp_meaning.specs.Entries.{Offered, Faulted, Paused, Occurrence}
 use Rattle.sp_meaning.specs.Runs.{StateOf, start, total_limits, running_process, next_state, happening_of, happening_at}
 use Rattle.sp_meaning.specs.Runs.{IsDisjointRun}
-use Rattle.sp_meaning.specs.Along.{ticks_of, no_course, Along, IsAlong, IsClean}
+use Rattle.sp_meaning.specs.Along.{ticks_of, Turn, no_course, Along, IsAlong, IsClean}
 use Rattle.sp_meaning.proofs.Maps.{differs}
 use Rattle.sp_meaning.proofs.Keys.{name_test}
 use Rattle.sp_meaning.proofs.JournalSchedules.{no_fault_step}
-use Rattle.sp_judge.specs.Prefixes.{WaitersSilentFrom, WaitersAreSilent}
+use Rattle.sp_judge.specs.Prefixes.{WaitersSilentFrom, WaitersAreSilent, WaitsForNone}
 use Rattle.sp_judge.proofs.Prefixing.{nothing_kept}
 use Rattle.sp_race.specs.Notes.{Event, no_notes, next_event_of}
 use Rattle.sp_race.specs.Noting.{WithNotes}
@@ -101,6 +101,13 @@ module _ (g : RunInput) (disjoint : IsDisjointRun g) (turn : ℕ) (es : List Occ
       (one ∷ mid)
   silent_first = silent_front no_knowledge 0 before (one ∷ mid) silent_second.0
 
+  -- neither process has an offer that waits
+  waits_first : WaitsForNone (knowledge_of before) first
+  waits_first = let (waits, _) = silent_first.1 in waits
+
+  waits_second : WaitsForNone (knowledge_of front) second
+  waits_second = let (waits, _) = silent_second.1 in waits
+
   stands_first : KnowledgeFacts (knowledge_of before) before earlier
   stands_first = subst (λ z. KnowledgeFacts (knowledge_of before) before z) zero_first
       (stands_from no_knowledge [] 0 before refl nothing_stands silent_first.0)
@@ -164,7 +171,7 @@ module _ (g : RunInput) (disjoint : IsDisjointRun g) (turn : ℕ) (es : List Occ
       (λ k e. (or_parts (past_before es earlier k) (past_before es later k) e).0)
       (λ q k e. (or_parts (same_name q (who_at es earlier) && nat_lt k earlier)
       (same_name q (who_at es later) && nat_lt k later) e).0)
-      before one (mid ++ two ∷ after) (knowledge_of before) stage_first stands_first.kept silent_first.1.0 who_first
+      before one (mid ++ two ∷ after) (knowledge_of before) stage_first stands_first.kept waits_first who_first
       mark []
       before (one ∷ mid) no_knowledge 0 refl refl (clean_front before (one ∷ mid) clean_all) marks
       (omega (arith, zero_first))
@@ -174,7 +181,7 @@ module _ (g : RunInput) (disjoint : IsDisjointRun g) (turn : ℕ) (es : List Occ
       (λ k e. (or_parts (past_before es earlier k) (past_before es later k) e).1)
       (λ q k e. (or_parts (same_name q (who_at es earlier) && nat_lt k earlier)
       (same_name q (who_at es later) && nat_lt k later) e).1)
-      front two after (knowledge_of front) stage_second stands_second.kept silent_second.1.0 who_second mark [] front []
+      front two after (knowledge_of front) stage_second stands_second.kept waits_second who_second mark [] front []
       no_knowledge 0 refl refl clean_all (subst (MarksAre es earlier later mark 0) (sym (append-nil front)) marks)
       (omega (arith, zero_second))
 
@@ -250,57 +257,78 @@ module _ (g : RunInput) (disjoint : IsDisjointRun g) (turn : ℕ) (es : List Occ
       (cond_false (mark block.head.position) (left g mark cut.back) (block ∷ left g mark cut.back) block_unmarked)
 
   -- the later offer's process: its local steps, and its offer
-  rest : Along g turn walk.course walk.state (two ∷ after) walk.steps_left t
-  rest = walk.goes_on
+  record OfferEntry : Type 0 where
+    steps : ℕ
+    between : StateOf g
+    paused : Bool
+    locals : Turn g turn (walk.course.since second) second steps walk.state between paused
+    undue : paused ≡ false
+    next : StateOf g
+    own : Process
+    runs : running_process g between second ≡ Some own
+    says : happening_at g between second own ≡ Some (Offered w c)
+    goes : next_state g between second ≡ Some next
 
-  local_steps : Turned g turn (walk.course.since second) second walk.state rest.3 walk.notes (knowledge_of front)
+  offer_entry : OfferEntry
+  offer_entry =
+      let (_, steps, _, between, paused, _, locals, (_, undue, next, _, _, (own, runs, says, goes), _)) = walk.goes_on
+      in record {
+        steps = steps;
+        between = between;
+        paused = paused;
+        locals = locals;
+        undue = undue;
+        next = next;
+        own = own;
+        runs = runs;
+        says = says;
+        goes = goes;
+      }
+
+  open offer_entry use {steps, between, paused, locals, undue, next, own, runs, says, goes}
+
+  local_steps : Turned g turn (walk.course.since second) second walk.state between walk.notes (knowledge_of front)
       front later
-      label head_second rest.4
-  local_steps = turned g turn (walk.course.since second) second rest.1 walk.state rest.3 walk.notes
+      label head_second paused
+  local_steps = turned g turn (walk.course.since second) second steps walk.state between walk.notes
       (knowledge_of front) front
-      later label head_second rest.4 refl refl refl rest.6 at_second walk.way
+      later label head_second paused refl refl refl locals at_second walk.way
 
   abbrev tags : List (Tag g)
   tags = local_steps.tags
 
   abbrev end_notes : WithNotes L
-  end_notes = beside g rest.3 local_steps.notes
+  end_notes = beside g between local_steps.notes
 
   tags_silent : AllSilent g turn (walk.course.since second) tags
   tags_silent = ⊎_elim
-      (λ (z : (rest.4 ≡ false) × AllSilent g turn (walk.course.since second) tags × (own : Process)
-      × (running_process g rest.3 second ≡ Some own) × (what : Happening)
-      × (happening_at g rest.3 second own ≡ Some what)). z.1)
-      (λ (z : (rest.4 ≡ true) × Valid g turn (walk.course.since second) Paused tags (ticks_of g rest.3 second)).
-      true_is_not_false (sym z.0 ∙ rest.7.1))
+      (λ (z : (paused ≡ false) × AllSilent g turn (walk.course.since second) tags). z.1)
+      (λ (z : (paused ≡ true) × Valid g turn (walk.course.since second) Paused tags (ticks_of g between second)).
+      true_is_not_false (sym z.0 ∙ undue))
       local_steps.kind
 
-  abbrev own : Process
-  own = rest.7.5.0
-
-  its_offer : Offers L (L.next own rest.3.store) w c
-      × (limit_fault (total_limits g) rest.3.totals (Some entry_cost) ≡ None)
+  its_offer : Offers L (L.next own between.store) w c
+      × (limit_fault (total_limits g) between.totals (Some entry_cost) ≡ None)
   its_offer =
-      let h = rest.7.5 in
-      let x = stepped g rest.3 second own rest.7.2 h.1 h.3
-      (no_fault_step g rest.3 second own rest.7.2 (Some (Offered w c)) h.1 h.2 tt h.3 local_steps.known.no_fault) in
-      let is : happening_of {L = L} (L.next own rest.3.store) (Advances []) ≡ Some (Offered w c) =
-      said_same {L = L} (L.next own rest.3.store) [] x.cs
-      ∙ ap (λ z. happening_of {L = L} (L.next z rest.3.store) (Advances x.cs)) (sym x.process_is)
-      ∙ sym (said g rest.3 second own rest.7.2 x) ∙ h.2 in
-      let o = offers_of L (L.next own rest.3.store) w c is in (
+      let x = stepped g between second own next runs goes
+      (no_fault_step g between second own next (Some (Offered w c)) runs says tt goes local_steps.known.no_fault) in
+      let is : happening_of {L = L} (L.next own between.store) (Advances []) ≡ Some (Offered w c) =
+      said_same {L = L} (L.next own between.store) [] x.cs
+      ∙ ap (λ z. happening_of {L = L} (L.next z between.store) (Advances x.cs)) (sym x.process_is)
+      ∙ sym (said g between second own next x) ∙ says in
+      let o = offers_of L (L.next own between.store) w c is in (
         o,
-        subst (λ a. limit_fault (total_limits g) rest.3.totals (cost a) ≡ None) o.offer_is
-            (subst (λ z. limit_fault (total_limits g) rest.3.totals (cost (L.next z rest.3.store)) ≡ None) x.process_is
-            x.makes.within),
+        subst (λ a. limit_fault (total_limits g) between.totals (cost a) ≡ None) o.offer_is
+            (subst (λ z. limit_fault (total_limits g) between.totals (cost (L.next z between.store)) ≡ None)
+            x.process_is x.makes.within),
       )
 
-  ready_end : IsNextOfProcess g label end_notes head_second (tag_of g rest.3 own)
+  ready_end : IsNextOfProcess g label end_notes head_second (tag_of g between own)
   ready_end = record {
-    works = rest.7.5.1;
+    works = runs;
     act_is = refl;
     pauses_are = refl;
-    past = λ k e lt is. knows_so g rest.3 local_steps.notes (knowledge_of front) front later label label second
+    past = λ k e lt is. knows_so g between local_steps.notes (knowledge_of front) front later label label second
         local_steps.known
         (λ i l. refl) k e lt is;
   }
@@ -342,6 +370,9 @@ module _ (g : RunInput) (disjoint : IsDisjointRun g) (turn : ℕ) (es : List Occ
   free_cut = free_parts (left g mark cut.front) block (left g mark cut.back)
       (subst (λ z. EachFree g label z head_second) left_is free_all)
 
+  apart_second : block.head.who ≢ second
+  apart_second = let (apart, _, _) = free_cut.1 in apart
+
   second_first : (m : WithNotes L) × Runs g label after_first head_second tags m
       × BlockRuns g label m remaining end_notes
   second_first = in_front g label disjoint after_first second_notes end_notes remaining head_second tags free_cut.0
@@ -351,8 +382,8 @@ module _ (g : RunInput) (disjoint : IsDisjointRun g) (turn : ℕ) (es : List Occ
   abbrev at_end : WithNotes L
   at_end = second_first.0
 
-  ready_at_end : IsNextOfProcess g label at_end head_second (tag_of g rest.3 own)
-  ready_at_end = ready_before g label disjoint at_end end_notes remaining head_second (tag_of g rest.3 own) free_cut.0
+  ready_at_end : IsNextOfProcess g label at_end head_second (tag_of g between own)
+  ready_at_end = ready_before g label disjoint at_end end_notes remaining head_second (tag_of g between own) free_cut.0
       second_first.2 ready_end
 
   -- what the later offer's process does next after the earlier offer
@@ -362,8 +393,8 @@ module _ (g : RunInput) (disjoint : IsDisjointRun g) (turn : ℕ) (es : List Occ
       by : (xs : List (Tag g)) → Runs g label after_first head_second xs at_end
           → (x : Tag g) × IsNextOfProcess g label after_first head_second x
       by [] r = (
-        tag_of g rest.3 own,
-        subst (λ z. IsNextOfProcess g label z head_second (tag_of g rest.3 own)) r
+        tag_of g between own,
+        subst (λ z. IsNextOfProcess g label z head_second (tag_of g between own)) r
             ready_at_end,
       )
       by (x ∷ xs) r = (x, ready_of g label disjoint after_first head_second x r.1.fits)
@@ -459,7 +490,7 @@ module _ (g : RunInput) (disjoint : IsDisjointRun g) (turn : ℕ) (es : List Occ
   waits = waits_here g label last.before block.head last.tag after_first last.does w c last.offers none_pending
 
   first_second : first ≢ second
-  first_second e = free_cut.1.0 (who_block ∙ e)
+  first_second e = apart_second (who_block ∙ e)
 
   pends_end : at_end.state.pending c ≡ Some first
   pends_end = silent_pending g label turn (walk.course.since second) after_first at_end head_second tags c tags_silent
@@ -495,7 +526,7 @@ module _ (g : RunInput) (disjoint : IsDisjointRun g) (turn : ℕ) (es : List Occ
   since_second =
       ap (λ f. f second) (since_append g mark turn no_since (kept g mark blocks) (block ∷ []))
       ∙ ap (λ b. cond b block.ticks (since_all g turn no_since (kept g mark blocks) second))
-      (differs name_test block.head.who second free_cut.1.0)
+      (differs name_test block.head.who second apart_second)
       ∙ since_kept g mark turn no_since no_since blocks head_second free_second_blocks refl
       ∙ ap (λ f. f second) (sym walk.since)
 

@@ -100,7 +100,7 @@ tables_number j named earlier later lt one two got_one got_two plain marks ok ow
     let a = can_later first_births es earlier later one (omega (arith, lt)) got_one named in
     let b = can_later first_births es later later two (omega arith) got_two named in
     let two_in : two.process < (births (take later es)).processes =
-    (let x = b.1.0 in let y = b.2.processes in omega (arith, x, y)) in
+    (let (_, (room, _), stay_two) = b in let y = stay_two.processes in omega (arith, room, y)) in
     let moved_too = plain_move t law (one ∷ last ∷ []) r.left (births (take later es)) r.births_new
     (table_of first_births first_table (take later es) marks) r.dirty r.follows stay
     (still a.0 (births (take later es)) a.2 one plain a.1, plain, ((two_in, tt), tt, tt)) r.nameable r.names in

@@ -12,7 +12,7 @@ use Rattle.sp_meaning.specs.LocalWork.{RunInput, Process}
 use Rattle.sp_meaning.specs.SuperPascal.{superpascal, pauses_next}
 use Rattle.sp_meaning.specs.Entries.{Happening, Opened, Forked, Offered, Faulted, Laid, Paused, Occurrence}
 use Rattle.sp_journal.specs.Names as happenings
-use Rattle.sp_meaning.specs.Runs.{StateOf, start, total_limits, running_process, Lawful, happening_of, happening_at}
+use Rattle.sp_meaning.specs.Runs.{StateOf, start, total_limits, Lawful, happening_of, happening_at}
 use Rattle.sp_meaning.specs.Along.{Either, ticks_of, is_due_after, Turn, Course, with_ticks, course_after, KernelStep}
 use Rattle.sp_meaning.specs.Along.{EntryStep, Along}
 use Rattle.sp_meaning.specs.Along.{IsCleanly, IsClean}
@@ -102,8 +102,7 @@ module _ (g : RunInput) where
     pub way : Before m
     pub tags : List (Tag g)
     pub runs : (lf : ℕ → Option Event) → LabelsAgree lf label n → Runs g lf (beside s v) h tags (beside m notes)
-    pub kind : ((paused ≡ false) × AllSilent g turn since tags × (own : Process) × (running_process g m q ≡ Some own)
-        × (what : Happening) × (happening_at g m q own ≡ Some what))
+    pub kind : ((paused ≡ false) × AllSilent g turn since tags)
         ⊎ ((paused ≡ true) × Valid g turn since Paused tags (ticks_of g m q))
 
   pub turned : (turn since : ℕ) (q : Name) (k : ℕ) (s m : StateOf g) (v : JudgeNotes) (j : Knowledge)
@@ -111,26 +110,17 @@ module _ (g : RunInput) where
       (n : ℕ) (label : ℕ → Option Event) (h : Head) (paused : Bool) → h.who ≡ q → h.position ≡ n → h.knows ≡ j.past q
       → Turn g turn since q k s m paused → KnownAfterEntries g s v j done n label → Before s
       → Turned turn since q s m v j done n label h paused
-  turned turn since q zero s m v j done n label h paused hw ha hk t at way = record {
+  turned turn since q zero s m v j done n label h paused hw ha hk (same, undue, own, runs, what, says) at way = record {
     notes = v;
-    known = subst (λ z. KnownAfterEntries g z v j done n label) (sym t.0) at;
-    way = subst Before (sym t.0) way;
+    known = subst (λ z. KnownAfterEntries g z v j done n label) (sym same) at;
+    way = subst Before (sym same) way;
     tags = [];
-    runs = λ lf agree. λ i. beside (t.0 i) v;
-    kind = inl (
-      t.1,
-      tt,
-      t.2,
-      subst (λ (z : StateOf g). running_process g z q ≡ Some t.2) (sym t.0) t.3,
-      t.4,
-      subst (λ (z : StateOf g). happening_at g z q t.2 ≡ Some t.4) (sym t.0) t.5,
-    );
+    runs = λ lf agree. λ i. beside (same i) v;
+    kind = inl (undue, tt);
   }
-  turned turn since q (suc k) s m v j done n label h paused hw ha hk t at way =
-      let own = t.0 in
-      let u = t.3 in
-      let x = stepped g s q own u t.1 t.4 (no_fault_step g s q own u None t.1 t.2 tt t.4 at.no_fault) in
-      let mv = local_moves g s q own u x t.2 in
+  turned turn since q (suc k) s m v j done n label h paused hw ha hk (own, runs, silent, u, goes, onward) at way =
+      let x = stepped g s q own u runs goes (no_fault_step g s q own u None runs silent tt goes at.no_fault) in
+      let mv = local_moves g s q own u x silent in
       let at1 = next_at g s v j done n label q own u at x j done n label
       (moves_linked s v q x.cs at.sound at.known x.makes j done n label at.linked mv.next_own mv.writes mv.move_is) in
       let knows = subst (λ z. KnowsBefore L v q (L.next z s.store)) x.process_is (moves_know g s x.makes.own v q mv) in
@@ -144,7 +134,7 @@ module _ (g : RunInput) where
       → Does g lf (beside s v) h (tag_of s own) (beside u w) =
       λ lf agree. record {
         fits = record {
-          works = subst (λ z. own_part s z ≡ Some own) (sym hw) t.1;
+          works = subst (λ z. own_part s z ≡ Some own) (sym hw) runs;
           act_is = refl;
           pauses_are = refl;
           past = λ i e lt is. ap (λ z. v.past z e) hw
@@ -153,7 +143,7 @@ module _ (g : RunInput) where
         };
         good = subst (λ z. GoodStep (total_limits g) (start g) (beside s v) z (beside u w)) (sym hw) good;
       } in
-      rest own u w at1 (before_step s q own u way at.no_fault x) does (is_due_after g turn since s own q u) refl t.5
+      rest own u w at1 (before_step s q own u way at.no_fault x) does (is_due_after g turn since s own q u) refl onward
       (λ y. turned turn since q k u m w j done n label h paused hw ha hk y at1
       (before_step s q own u way at.no_fault x))
       (λ b e. record {
@@ -197,10 +187,8 @@ module _ (g : RunInput) where
             tags = tag_of s own ∷ r.tags;
             runs = λ lf agree. (beside u w, does lf agree, r.runs lf agree);
             kind = ⊎_elim
-                (λ (z : (paused ≡ false) × AllSilent g turn since r.tags × (own : Process)
-                × (running_process g m q ≡ Some own)
-                × (what : Happening) × (happening_at g m q own ≡ Some what)). inl
-                (z.0, ((ticks_of g u q, move false e), z.1), z.2, z.3, z.4, z.5))
+                (λ (z : (paused ≡ false) × AllSilent g turn since r.tags). inl
+                (z.0, ((ticks_of g u q, move false e), z.1)))
                 (λ (z : (paused ≡ true) × Valid g turn since Paused r.tags (ticks_of g m q)). inr (
                   z.0,
                   inl ((ticks_of g u q, move false e), z.1),
@@ -296,12 +284,11 @@ module _ (g : RunInput) where
       → KernelStep g left c m paused q what r
       → Turned turn (c.since q) q s m v j done n label (HeadOf j n q what) paused
       → KnowsOffers j done q what → Entry turn left c s v j done n label q what
-  kernel_entry turn left c s m paused v j done n label q what r ok last since_is h t knows =
-      let own = h.5.0 in
-      let u = h.2 in
-      let x = stepped g m q own u h.5.1 h.5.3 (no_fault_step g m q own u
-      (Some what) h.5.1 h.5.2 ok h.5.3 t.known.no_fault) in
-      let y = enters m t.notes q own u j done n label what t.known x h.5.2 knows in
+  kernel_entry turn left c s m paused v j done n label q what r ok last since_is
+      (_, undue, u, rest, _, (own, runs, says, goes), after) t knows =
+      let x = stepped g m q own u runs goes (no_fault_step g m q own u
+      (Some what) runs says ok goes t.known.no_fault) in
+      let y = enters m t.notes q own u j done n label what t.known x says knows in
       let w : JudgeNotes = notes_after m t.notes q (L.next own m.store) in
       let lab = grown n t.notes q label in
       let agree : LabelsAgree lab label n = λ k lt. rw (ne_eqb n k (λ e. omega (arith, e, lt))) in
@@ -311,17 +298,16 @@ module _ (g : RunInput) where
       let says_it : happening_of {L = L} (L.next own m.store) (Advances []) ≡ Some what =
       said_same {L = L} (L.next own m.store) [] x.cs
       ∙ ap (λ z. happening_of {L = L} (L.next z m.store) (Advances x.cs)) (sym x.process_is) ∙ sym (said g m q own u x)
-      ∙ h.5.2 in
+      ∙ says in
       let silent : AllSilent g turn (c.since q) t.tags =
-      ⊎_elim (λ (z : (paused ≡ false) × AllSilent g turn (c.since q) t.tags × (own : Process)
-      × (running_process g m q ≡ Some own) × (what : Happening) × (happening_at g m q own ≡ Some what)). z.1)
+      ⊎_elim (λ (z : (paused ≡ false) × AllSilent g turn (c.since q) t.tags). z.1)
       (λ (z : (paused ≡ true) × Valid g turn (c.since q) Paused t.tags (ticks_of g m q)). absurd
-      (false≢true (sym h.1 ∙ z.0))) t.kind in
+      (false≢true (sym undue ∙ z.0))) t.kind in
       record {
         course = course_after q what (ticks_of g u q) c;
         state = u;
-        steps_left = h.3;
-        goes_on = h.6;
+        steps_left = rest;
+        goes_on = after;
         notes = w;
         label_after = lab;
         at = y.at;
@@ -330,7 +316,7 @@ module _ (g : RunInput) where
         runs = λ lf ag. run_on lf (HeadOf j n q what) t.tags (tag_of m own) (beside s v) (beside m t.notes) (beside u w)
             (t.runs lf (λ k lt. ag k (omega (arith, lt)) ∙ agree k lt)) (record {
               fits = record {
-                works = h.5.1;
+                works = runs;
                 act_is = refl;
                 pauses_are = refl;
                 past = λ i e lt is. knows_so m t.notes j done n label lf q t.known (λ k lt. ag k (omega (arith, lt))
@@ -388,8 +374,7 @@ module _ (g : RunInput) where
     tags = t.tags;
     runs = λ lf ag. t.runs lf (λ k lt. ag k (omega (arith, lt)) ∙ rw (ne_eqb n k (λ e. omega (arith, e, lt))));
     agree = λ k lt. rw (ne_eqb n k (λ e. omega (arith, e, lt)));
-    valid = ⊎_elim (λ (z : (paused ≡ false) × AllSilent g turn (c.since q) t.tags × (own : Process)
-        × (running_process g m q ≡ Some own) × (what : Happening) × (happening_at g m q own ≡ Some what)). absurd
+    valid = ⊎_elim (λ (z : (paused ≡ false) × AllSilent g turn (c.since q) t.tags). absurd
         (false≢true (sym z.0 ∙ h.1))) (λ (z : (paused ≡ true)
         × Valid g turn (c.since q) Paused t.tags (ticks_of g m q)). z.1) t.kind;
     since = refl;
@@ -439,11 +424,12 @@ module _ (g : RunInput) where
         valid = tt;
         since = refl;
       }
-  walked turn tail t (e ∷ pre) c s r v j done n label a clean at way known =
-      let tu = turned turn (c.since e.who) e.who a.1 s a.3 v j done n label (HeadOf j n e.who e.what) a.4 refl refl refl
-      a.6 at way in
-      let en = entry turn (λ c1 u d. Along g turn c1 u (pre ++ tail) d t) c s a.3 a.4 v j done n label e.who e.what a.2
-      clean.0 a.7 tu known.0 in
+  walked turn tail t (e ∷ pre) c s r v j done n label (_, steps, rest, between, paused, _, locals, enters) clean at way
+      known =
+      let tu = turned turn (c.since e.who) e.who steps s between v j done n label (HeadOf j n e.who e.what) paused refl
+      refl refl locals at way in
+      let en = entry turn (λ c1 u d. Along g turn c1 u (pre ++ tail) d t) c s between paused v j done n label e.who
+      e.what rest clean.0 enters tu known.0 in
       let k : KnownFrom (knowledge_after j n e.who e.what) (With done e.who e.what) pre =
       subst (λ z. KnownFrom (knowledge_after j z e.who e.what) (With done e.who e.what) pre) at.linked.size known.1 in
       let w = walked turn tail t pre en.course en.state en.steps_left en.notes (knowledge_after j n e.who e.what)

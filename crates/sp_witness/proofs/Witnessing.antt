@@ -72,7 +72,8 @@ module _ (g : RunInput) (label : ℕ → Option Event) where
           offers = k.offers;
         })
         (λ (y : (xs ≡ []) × IsLast g turn since (Offered w c) x ticks).
-        let e : t ≡ r.0 = subst (λ z. Runs g label r.0 h z t) y.0 r.2 in
+        let (none_left, (says, _)) = y in
+        let e : t ≡ r.0 = subst (λ z. Runs g label r.0 h z t) none_left r.2 in
         record {
           before = s;
           locals = [];
@@ -81,24 +82,27 @@ module _ (g : RunInput) (label : ℕ → Option Event) where
           tag = x;
           does =
               subst (λ z. Does g label s h x z) (sym e) r.1;
-          offers = offers_of L x.act w c y.1.0;
+          offers = offers_of L x.act w c says;
         })
         v
 
     local_is : (since : ℕ) (x : Tag g) (b : Bool) (ticks : ℕ) → IsMove g turn since x b ticks → IsLocal x.act
     local_is since x b ticks v = subst IsLocal (sym v.move_is) tt
 
+    undue_is : (since : ℕ) (x : Tag g) → IsLocalNotDue g turn since x → IsLocal x.act
+    undue_is since x (ticks, move) = local_is since x false ticks move
+
     pub silent_pending : (since : ℕ) (s t : WithNotes L) (h : Head) (xs : List (Tag g)) (c : Channel)
         → AllSilent g turn since xs → Runs g label s h xs t → t.state.pending c ≡ s.state.pending c
     silent_pending since s t h [] c q r = ap (λ (z : WithNotes L). z.state.pending c) r
     silent_pending since s t h (x ∷ xs) c q r = silent_pending since r.0 t h xs c q.1 r.2
-        ∙ local_pending g label s h x r.0 r.1 (local_is since x false q.0.0 q.0.1) c
+        ∙ local_pending g label s h x r.0 r.1 (undue_is since x q.0) c
 
     pub silent_condition : (since : ℕ) (s t : WithNotes L) (h : Head) (xs : List (Tag g)) (p : Name) → p ≢ h.who
         → AllSilent g turn since xs → Runs g label s h xs t → t.state.condition p ≡ s.state.condition p
     silent_condition since s t h [] p apart q r = ap (λ (z : WithNotes L). z.state.condition p) r
     silent_condition since s t h (x ∷ xs) p apart q r = silent_condition since r.0 t h xs p apart q.1 r.2
-        ∙ local_condition g label s h x r.0 r.1 (local_is since x false q.0.0 q.0.1) p apart
+        ∙ local_condition g label s h x r.0 r.1 (undue_is since x q.0) p apart
 
     -- pending offers are known ones
     module _ (known : ℕ → Bool) where
@@ -111,7 +115,7 @@ module _ (g : RunInput) (label : ℕ → Option Event) where
       silent_pends since s t h [] q r p = subst Pends (sym r) p
       silent_pends since s t h (x ∷ xs) q r p =
           silent_pends since r.0 t h xs q.1 r.2
-          (pends_next g label s h x r.0 r.1 known (inl (local_is since x false q.0.0 q.0.1)) p)
+          (pends_next g label s h x r.0 r.1 known (inl (undue_is since x q.0)) p)
 
       -- a pause, or an entry that is known
       abbrev pub IsFit : Head → Type 0
@@ -128,7 +132,7 @@ module _ (g : RunInput) (label : ℕ → Option Event) where
       block_pends since s t h (x ∷ xs) ticks fit v r p = ⊎_elim
           (λ (y : IsLocalNotDue g turn since x × Valid g turn since h.what xs ticks). block_pends since r.0 t h xs
           ticks fit
-          y.1 r.2 (pends_next g label s h x r.0 r.1 known (inl (local_is since x false y.0.0 y.0.1)) p))
+          y.1 r.2 (pends_next g label s h x r.0 r.1 known (inl (undue_is since x y.0)) p))
           (λ (y : (xs ≡ []) × IsLast g turn since h.what x ticks).
           let e : t ≡ r.0 = subst (λ z. Runs g label r.0 h z t) y.0 r.2 in
           subst Pends (sym e) (pends_next g label s h x r.0 r.1 known

@@ -71,17 +71,17 @@ pub loop-known-preserved : goal.loop-known-preserved
 loop-known-preserved c =
     let h = c.loop-known.invariant in
     let low : c.loop-known.first ≤ c.args.at = h.0 in
-    let o = c.in-Some.ensures in
-    let l : c.in-Some.i < c.loop-known.first - (c.loop-known.first - c.loop-known.known) / 2 = o.0 in
+    let (l, offered, _) = c.in-Some.ensures in
+    let (offer, offer_at, offer_is) = offered in
     let says = counted c.args.entries.now c.requires.tame c.args.at c.args.racing_offer.process c.args.racing_offer.way
     c.args.racing_offer.channel c.requires.here c.args.until.now c.args.tables.now c.requires.holds c.in-Some.i
-    c.index.result.now any (omega (arith, low, l)) o.1 c.index.ensures in (
+    c.index.result.now any (omega (arith, low, l)) offered c.index.ensures in (
       omega (arith, low, l),
       h.1,
       λ a. (
-        o.1.0,
-        o.1.1,
-        o.1.2,
+        offer,
+        offer_at,
+        offer_is,
         λ k. true≢false
             (sym (c.in-Ok.ensures.1 (says.1 k)) ∙ c.if-knows.false),
       ),
