@@ -141,7 +141,7 @@ def runs(path: str) -> Iterator[tuple[int, str, int]]:
 
 
 def findings() -> Iterator[str]:
-    """A line for each run that is in no table, and for each entry of the tables that is no run any more."""
+    """A line for each run that is in no table, and for each entry of the tables that is not a run any more."""
     listed = {(file, name) for table in (KEPT, OPEN) for file, names in table.items() for name in names.split()}
     met = set()
     for path in files():

@@ -74,7 +74,7 @@ name_program() {
     fi
 }
 
-# The commit of the repository, as far as it can be told, the program and the kit.
+# The commit of the repository, as far as it can be known, the program and the kit.
 tell_build() {
     if [ -x "$installed" ]; then
         cat "$here/build"

@@ -3,7 +3,7 @@
 # Sourced by the script superpascal after launcher/words.sh, whose judge_words has judged the words.
 # shellcheck shell=sh disable=SC2154 # The variables are those of the script and of launcher/words.sh.
 
-# Whether the words are UTF-8, as far as this can be told here.
+# Whether the words are UTF-8, as far as this can be known here.
 are_utf8() {
     case $* in *[!-A-Za-z0-9_./=+:,@%\ ]*) ;; *) return 0 ;; esac
     ! command -v iconv >/dev/null || printf '%s\n' "$@" | iconv -f UTF-8 >/dev/null 2>&1
@@ -84,7 +84,7 @@ watch() {
     say "$goes_on; $at_end"
 }
 
-# Of run and check the first line of the explanation is told after the notes, if there is a python3 for the tools (which
+# Of run and check the first line of the explanation comes after the notes, if there is a python3 for the tools (which
 # begins with no folder as its input).
 explain_first() {
     case $command in run | check) ;; *) return ;; esac

@@ -238,7 +238,7 @@ judge_rest() {
     [ -z "$waits" ] || refuse "$waits needs a value"
 }
 
-# Judges words of which the first is no command. (Those that the script answers are no matter of this.)
+# Judges words of which the first is not a command. (This is not about those that the script answers.)
 judge_script_words() {
     for one in $(list_names script); do
         [ "$one" = "$1" ] || continue

@@ -6,7 +6,7 @@ TOP = os.path.realpath(os.path.join(os.path.dirname(os.path.abspath(__file__)), 
 
 
 def link_or_copy(one, other):
-    """Gives a file that was built a second name, so that libraries need not be built anew; copies others."""
+    """Gives a file that was built a second name, so that libraries need not be built again; copies others."""
     if os.sep + "out" + os.sep in one[len(TOP):]:
         try:
             return os.link(one, other)

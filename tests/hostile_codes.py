@@ -31,7 +31,7 @@ def code(layouts, instrs, tables=(), texts=()):
 
 
 def blocks_and_outer(blocks=4_096, variables=4_096, calls=250_000):
-    """Accepted: blocks that all come to store all of these variables of the program, by so many calls of blocks behind
+    """Accepted: blocks that all come to store all of these variables of the program, by n calls of blocks after
     them; the last block stores them itself, one call to the next one begins each block."""
     layouts = [None]
     instrs, entries = ["call 1 0", "end"], []
@@ -73,7 +73,7 @@ def chain_in_child(blocks=190_000):
 
 
 def ring_of_blocks(blocks=4_096, variables=4_096):
-    """Accepted: as the chain, where each block calls the ones before and behind it, so all store all."""
+    """Accepted: as the chain, where each block calls the ones before and after it, so all store all."""
     instrs, entries = ["call 1 0", "end"], []
     for block in range(1, blocks + 1):
         entries.append(len(instrs))
@@ -85,7 +85,7 @@ def ring_of_blocks(blocks=4_096, variables=4_096):
 
 
 def operands_of_calls(operands, calls, kinds, by_reference=False):
-    """Accepted: so many operands are pushed once, and one of so many calls, of these many blocks, takes them."""
+    """Accepted: n operands are pushed once, and one of n calls, to as many blocks, takes them."""
     instrs = [f"addr 0 {k + 2}" if by_reference else "const 1" for k in range(operands)]
     instrs.append("const 0")
     base = len(instrs)

@@ -6,7 +6,7 @@ import { callProgram } from "../../page/site/call.mjs";
 /** A number of LEB128, of five bytes. */
 const five = (n) => [0, 7, 14, 21].map((shift) => ((n >> shift) & 127) | 128).concat((n >>> 28) & 15);
 
-/** The module with at most so many units of memory: in its memory section, whose limits get five bytes each. */
+/** The module with at most this number of units of memory: in its memory section, whose limits get five bytes each. */
 function limited(bytes, units) {
   let at = 8;
   const number = () => {

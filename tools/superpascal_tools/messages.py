@@ -1,6 +1,6 @@
 """Messages of the Language Server Protocol over streams of bytes: a head with the length, and then JSON.
 
-After bytes that are no message, reading goes on at the next head.
+After bytes that are not a message, reading goes on at the next head.
 """
 from __future__ import annotations
 

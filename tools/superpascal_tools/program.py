@@ -135,7 +135,7 @@ def progress(words: str) -> None:
 
 
 class Words(NamedTuple):
-    """The words of a call of the program: its command, the words that are no options, and the options."""
+    """The words of a call of the program: its command, the words that are not options, and the options."""
 
     command: str
     plain: list[str]

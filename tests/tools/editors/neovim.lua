@@ -7,7 +7,7 @@ local function text()
   return vim.api.nvim_buf_get_lines(0, 0, -1, false)
 end
 
--- Waits until the buffer has so many diagnostics.
+-- Waits until the buffer has this number of diagnostics.
 local function wait_for(count)
   vim.wait(60000, function() return #vim.diagnostic.get(0) == count end, 20)
   return vim.diagnostic.get(0)
