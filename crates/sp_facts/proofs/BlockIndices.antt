@@ -54,8 +54,8 @@ module _ (p : plain.Program) (m : ℕ) where
       → suc y ≤ k + length us → (v : plain.Variable) × (slice_get p.variables y ≡ Some v) × (v.block ≡ block)
       × (v.role ≡ role.Index)
   between k block [] h a y l r = absurd (omega (arith, l, r))
-  between k block (u ∷ us) h a y l r = go (λ c. between (suc k) block us h.1 a.1 y c (omega (arith, r))) (nat_le y k)
-      refl
+  between k block (u ∷ us) ((v, v_at, role_is, block_is), others) ((of_block, of_role), others_too) y l r =
+      go (λ c. between (suc k) block us others others_too y c (omega (arith, r))) (nat_le y k) refl
     where
       yes : nat_le y k ≡ true → y ≤ k
       yes e = Prim.grind (arith, e)
@@ -67,11 +67,11 @@ module _ (p : plain.Program) (m : ℕ) where
           × (v.role ≡ role.Index)) → (b : Bool) → nat_le y k ≡ b → (v : plain.Variable)
           × (slice_get p.variables y ≡ Some v) × (v.block ≡ block) × (v.role ≡ role.Index)
       go next true e = let z = yes e in (
-        h.0.0,
-        subst (λ w. slice_get p.variables w ≡ Some h.0.0) (let w : k ≡ y = omega (arith, l, z) in w) h.0.1,
-        h.0.3
-            ∙ a.0.0,
-        h.0.2 ∙ a.0.1,
+        v,
+        subst (λ w. slice_get p.variables w ≡ Some v) (let w : k ≡ y = omega (arith, l, z) in w) v_at,
+        block_is
+            ∙ of_block,
+        role_is ∙ of_role,
       )
       go next false e = next (not_ e)
 
@@ -94,7 +94,7 @@ module _ (p : plain.Program) (m : ℕ) where
   body_spans around l block body calm holds =
       let r = statement_numbered around l body calm in
       let e = r.1 in
-      let a = (statement_adds block around l body calm).2 in (
+      let a = (statement_adds block around l body calm).variables_are in (
         next_variable l.counts,
         r.0,
         λ y x z. between (next_variable l.counts) block (indices block body) holds
@@ -116,8 +116,9 @@ module _ (p : plain.Program) (m : ℕ) where
         let moved = part_moves around l q two.0 in
         let h = holds_parts p m (next_variable l.counts) a.variables b.variables holds in
         spans_join (next_block l.counts) a.blocks b.blocks (part_spans around l q two.0 h.0)
-        (subst (λ z. AreSpans p z b.blocks) moved.3
-        (parts_spans around next rest two.1 (subst (λ z. HoldsVariables p m z b.variables) (sym moved.2) h.1)))
+        (subst (λ z. AreSpans p z b.blocks) moved.blocks_are
+        (parts_spans around next rest two.1 (subst (λ z. HoldsVariables p m z b.variables) (sym moved.variables_are)
+        h.1)))
 
     part_spans : (around : List names.Scope) (l : Local) (q : Part) → w.part_sites [] both_lists all_at around l q ≡ []
         → HoldsVariables p m (next_variable l.counts) (part_named around l q).variables
@@ -133,7 +134,7 @@ module _ (p : plain.Program) (m : ℕ) where
         let in_ = blocks_around around title in
         let head = heading_local l x fs answer in
         let formals = formals_local (local_of_inner f 0 title) fs in
-        let pieces = none_in_pieces around l x fs answer parts body calm in
+        let (_, _, parts_calm, body_calm) = none_in_pieces around l x fs answer parts body calm in
         let av = formals_named env f fs in
         let bv = answer_named env f x answer in
         let inner = parts_named in_ head parts in
@@ -141,20 +142,20 @@ module _ (p : plain.Program) (m : ℕ) where
         let v1 = holds_parts p m k av (bv ++ (inner.variables ++ d)) holds in
         let v2 = holds_parts p m (k + length av) bv (inner.variables ++ d) v1.1 in
         let v3 = holds_parts p m (k + length av + length bv) inner.variables d v2.1 in
-        let t2 = (title_moves around l x fs answer parts body calm).2 in
-        let f2 = (formals_move around l x fs answer parts body calm).2 in
-        let a2 = (answer_adds formals env f x answer).2 in
-        let p2 = (parts_move in_ head parts pieces.2).2 in
+        let t2 = (title_moves around l x fs answer parts body calm).variables_are in
+        let f2 = (formals_move around l x fs answer parts body calm).variables_are in
+        let a2 = (answer_adds formals env f x answer).variables_are in
+        let p2 = (parts_move in_ head parts parts_calm).variables_are in
         let at_head : k + length av + length bv ≡ next_variable head.counts = omega (arith, t2, f2, a2) in
         let at_body : k + length av + length bv + length inner.variables
         ≡ next_variable (parts_local head parts).counts = omega (arith, t2, f2, a2, p2) in
         let number = head_number around l x fs answer parts body calm in
         let blocks_ = head_blocks around l x fs answer parts body calm in (
-          body_spans in_ (parts_local head parts) f body pieces.3
+          body_spans in_ (parts_local head parts) f body body_calm
               (subst (λ z. HoldsVariables p m (next_variable (parts_local head parts).counts) (indices z body)) number
               (subst (λ z. HoldsVariables p m z d) at_body v3.1)),
           subst (λ z. AreSpans p z inner.blocks) blocks_
-              (parts_spans in_ head parts pieces.2 (subst (λ z. HoldsVariables p m z inner.variables) at_head v3.0)),
+              (parts_spans in_ head parts parts_calm (subst (λ z. HoldsVariables p m z inner.variables) at_head v3.0)),
         )
 
 -- ---- the program
@@ -183,9 +184,9 @@ module _ (s : syntax.Program) (calm : broken_name_rules s ≡ []) where
   pub spans : AreSpans p_ 0 n_.blocks
   spans =
       let m_ = length n_.constants in
-      let rest = (held s calm).1.1 in
+      let (_, (_, rest)) = held s calm in
       let vs = holds_parts p_ m_ 2 inner_.variables (indices 0 s.block.body) rest in
-      let moved = (parts_move std empty_local s.block.parts calm_two.0).2 in (
+      let moved = (parts_move std empty_local s.block.parts calm_two.0).variables_are in (
         body_spans p_ m_ std (parts_local empty_local s.block.parts) 0 s.block.body calm_two.1
             (subst (λ z. HoldsVariables p_ m_ z (indices 0 s.block.body)) (sym moved) vs.1),
         parts_spans p_ m_ std empty_local s.block.parts calm_two.0 vs.0,

@@ -30,7 +30,7 @@ use Rattle.sp_tree.specs.NameWalk.{blocks_around}
 use Rattle.sp_tree.specs.NamedTree.{named_statement, indices}
 use Rattle.sp_tree.specs.PlainSyntax.{Statement}
 use Rattle.sp_facts.specs.Scoped.{IsInForall, InStatement}
-use Rattle.sp_facts.proofs.Numbering.{room_at, AddsVariables}
+use Rattle.sp_facts.proofs.Numbering.{room_at, counted, AddsVariables}
 use Rattle.sp_tree.specs.declared.meaning.Counts.{Counts}
 use Rattle.sp_tree.specs.declared.syntax.SynFormal.{SynFormal}
 use Rattle.sp_tree.specs.declared.syntax.SynKind.{SynKind}
@@ -149,14 +149,14 @@ module _ (around : List names.Scope) (l : Local) (x : Name) (fs : List SynFormal
   title_moves = subst (λ (d : Counts). Moved l.counts d 0 0 0 1)
       (sym (declared_counts l x.text sort.Block (block_meaning l fs answer)
       (room_at env_ x sort.Block none_in_pieces.0)))
-      (omega arith, omega arith, omega arith, omega arith)
+      (counted (omega arith) (omega arith) (omega arith) (omega arith))
 
   pub formals_move : AddsVariables title_.counts formals_.counts (length (formals_named env_ (next_block l.counts) fs))
   formals_move = formals_adds in_ opened_ fs env_ (next_block l.counts) none_in_pieces.1
 
   pub head_blocks : next_block head_.counts ≡ suc (next_block l.counts)
-  head_blocks = let a = title_moves.3 in let b = formals_move.3 in
-      let c = (answer_adds formals_ env_ (next_block l.counts) x answer).3 in omega (arith, a, b, c)
+  head_blocks = let a = title_moves.blocks_are in let b = formals_move.blocks_are in
+      let c = (answer_adds formals_ env_ (next_block l.counts) x answer).blocks_are in omega (arith, a, b, c)
 
   pub head_number : head_.block ≡ next_block l.counts
   head_number = answer_block formals_ answer ∙ formals_block opened_ fs
@@ -169,7 +169,7 @@ mutual
   parts_below around l (Declare q rest) calm low =
       let two = none_in_parts (w.part_sites [] both_lists all_at around l q)
       (w.parts_sites [] both_lists all_at around (part_local l q) rest) calm in
-      let e = (part_moves around l q two.0).3 in
+      let e = (part_moves around l q two.0).blocks_are in
       let b = part_block l q in
       below_join (next_block l.counts) (part_named around l q).blocks (parts_named around (part_local l q) rest).blocks
       (part_below around l q two.0 low)
@@ -297,7 +297,8 @@ module _ (p : plain.Program) (m : ℕ) where
       let next = with_declaration l x.text sort.Variable (variable l r) in
       let two = none_in_parts (all_at (inner_env around l) (Declares x sort.Variable))
       (w.names_sites [] both_lists all_at around r next xs) calm in
-      let e = (one_variable l x.text (variable l r) (room_at (inner_env around l) x sort.Variable two.0)).2 in
+      let e = (one_variable l x.text (variable l r) (room_at (inner_env around l) x sort.Variable two.0)).variables_are
+      in
       let one : next_variable next.counts ≡ suc (next_variable l.counts) = omega (arith, e) in
       let valid : IsValid p m sc (variable l r) = (
         v,
@@ -334,7 +335,7 @@ module _ (p : plain.Program) (m : ℕ) where
       formals_place sc block a around next fs env
       (names_place sc block a around r l f.names k (formal_named f.by_reference) place two.0 h.0) two.1
       (subst (λ z. HoldsVariables p m z (formals_named env block fs))
-      (sym (names_adds around r l f.names block k two.0).2)
+      (sym (names_adds around r l f.names block k two.0).variables_are)
       h.1)
 
   -- the flags of a heading are those of its parameters
@@ -412,16 +413,16 @@ module _ (p : plain.Program) (m : ℕ) where
           let vs = holds_parts p m (next_variable l.counts) ta.variables tb.variables vars in
           let bs = held_parts (next_block l.counts) ta.blocks tb.blocks blocks in
           let len = length-append ta.constants tb.constants in
-          let e0 = moved.0 in
+          let e0 = moved.constants_are in
           let r = part_scoped rest block a around l q chain place two.0 ((omega (arith, few, len)), vs.0, bs.0) in
           let s = parts_scoped rest block a around next more chain r.0 two.1 (
             (omega (arith, few, len, e0)),
-            subst (λ z. HoldsVariables p m z tb.variables) (sym moved.2) vs.1,
-            subst (λ z. HoldsBlocks p m z tb.blocks) (sym moved.3) bs.1,
+            subst (λ z. HoldsVariables p m z tb.variables) (sym moved.variables_are) vs.1,
+            subst (λ z. HoldsBlocks p m z tb.blocks) (sym moved.blocks_are) bs.1,
           ) in (
             s.0,
             scoped_join (next_block l.counts) ta.blocks tb.blocks r.1
-                (subst (λ z. AreScoped p m z tb.blocks) moved.3 s.1),
+                (subst (λ z. AreScoped p m z tb.blocks) moved.blocks_are s.1),
           )
 
       part_scoped : (rest : List Scope) (block a : ℕ) (around : List names.Scope) (l : Local) (q : Part)
@@ -466,7 +467,7 @@ module _ (p : plain.Program) (m : ℕ) where
           let sc2 = OfBlock f ∷ sc in
           let in_ = blocks_around around title in
           let head = heading_local l x fs answer in
-          let pieces = none_in_pieces around l x fs answer parts body calm in
+          let (_, formals_calm, parts_calm, body_calm) = none_in_pieces around l x fs answer parts body calm in
           let formals = formals_local (local_of_inner f 0 title) fs in
           let av = formals_named env f fs in
           let bv = answer_named env f x answer in
@@ -480,14 +481,14 @@ module _ (p : plain.Program) (m : ℕ) where
           let m1 = title_moves around l x fs answer parts body calm in
           let m2 = formals_move around l x fs answer parts body calm in
           let m3 = answer_adds formals env f x answer in
-          let m4 = parts_move in_ head parts pieces.2 in
-          let t2 = m1.2 in
-          let f2 = m2.2 in
-          let a2 = m3.2 in
-          let p2 = m4.2 in
-          let t0 = m1.0 in
-          let f0 = m2.0 in
-          let a0 = m3.0 in
+          let m4 = parts_move in_ head parts parts_calm in
+          let t2 = m1.variables_are in
+          let f2 = m2.variables_are in
+          let a2 = m3.variables_are in
+          let p2 = m4.variables_are in
+          let t0 = m1.constants_are in
+          let f0 = m2.constants_are in
+          let a0 = m3.constants_are in
           let at_title : k ≡ next_variable title.counts = omega (arith, t2) in
           let at_head : k + length av + length bv ≡ next_variable head.counts = omega (arith, t2, f2, a2) in
           let at_body : k + length av + length bv + length inner.variables
@@ -507,13 +508,13 @@ module _ (p : plain.Program) (m : ℕ) where
             near = inl (own_level f sc);
             result = refl;
           } in
-          let formals_open = formals_place sc2 f 0 in_ (local_of_inner f 0 title) fs env base pieces.1
+          let formals_open = formals_place sc2 f 0 in_ (local_of_inner f 0 title) fs env base formals_calm
           (subst (λ z. HoldsVariables p m z av) at_title v1.0) in
           let head_open = answer_open sc2 f in_ formals answer formals_open in
           let chain2 : IsChain p m sc2 = (steps f block c cat parent ∙ ap (λ z. OfBlock f ∷ z) chain.0, chain) in
           let few2 : next_constant head.counts + length inner.constants ≤ m = omega (arith, few, t0, f0, a0) in
           let in_blocks = head_blocks around l x fs answer parts body calm in
-          let r = parts_scoped sc f head.answer in_ head parts chain2 head_open pieces.2 (
+          let r = parts_scoped sc f head.answer in_ head parts chain2 head_open parts_calm (
             few2,
             subst (λ z. HoldsVariables p m z inner.variables) at_head v3.0,
             subst (λ z. HoldsBlocks p m z inner.blocks) (sym in_blocks) blocks,
@@ -528,7 +529,7 @@ module _ (p : plain.Program) (m : ℕ) where
                 (ap (λ (z : plain.Block). z.answer) (same_Some c u (sym cat ∙ uat)) ∙ ans);
           } in
           let body_in = statement_in p m steps results f sc2 in_ (parts_local head parts) body chain2 body_place
-          pieces.3 (subst (λ z. HoldsVariables p m (next_variable (parts_local head parts).counts)
+          body_calm (subst (λ z. HoldsVariables p m (next_variable (parts_local head parts).counts)
           (indices z body)) number
           (subst (λ z. HoldsVariables p m z d) at_body v3.1)) in (
             record {

@@ -167,10 +167,10 @@ mutual
       let b = parts_named around next rest in
       let m1 = part_moves around l q two.0 in
       let m2 = parts_move around next rest two.1 in
-      let c1 = m1.0 in
-      let k1 = m1.1 in
-      let c2 = m2.0 in
-      let k2 = m2.1 in
+      let c1 = m1.constants_are in
+      let k1 = m1.kinds_are in
+      let c2 = m2.constants_are in
+      let k2 = m2.kinds_are in
       let r = part_declares around l q out here two.0 in
       let t = parts_declare around next rest
       (each_bound_more l.counts next.counts around (omega (arith, c1), omega (arith, k1)) out) r.scope two.1 in
@@ -194,8 +194,8 @@ mutual
   part_declares around l (Const x c) out here calm =
       let next = (part_local l (Const x c)).counts in
       let moved = part_moves around l (Const x c) calm in
-      let c1 = moved.0 in
-      let k1 = moved.1 in
+      let c1 = moved.constants_are in
+      let k1 = moved.kinds_are in
       let two = none_in_parts (all_at (inner_env around l) (Declares x sort.Constant))
       (w.value_sites [] both_lists all_at (inner_env around l) c.value) calm in
       record {
@@ -210,8 +210,8 @@ mutual
       let y = meaning.Kind (next_kind l.counts) in
       let next = (part_local l (Kind x d)).counts in
       let moved = part_moves around l (Kind x d) calm in
-      let c1 = moved.0 in
-      let k1 = moved.1 in
+      let c1 = moved.constants_are in
+      let k1 = moved.kinds_are in
       let one = none_in_parts (all_at (inner_env around l) (Declares x sort.Kind))
       (both_lists (w.kind_sites [] both_lists all_at (inner_env around l) x d)
       (w.kind_constants_sites [] both_lists all_at around (type_local l x) d)) calm in
@@ -235,8 +235,8 @@ mutual
   part_declares around l (Var xs t) out here calm =
       let next = (part_local l (Var xs t)).counts in
       let moved = part_moves around l (Var xs t) calm in
-      let c1 = moved.0 in
-      let k1 = moved.1 in
+      let c1 = moved.constants_are in
+      let k1 = moved.kinds_are in
       let two = none_in_parts (all_at (inner_env around l) (Uses t AsKind))
       (w.names_sites [] both_lists all_at around role.Local l xs) calm in
       let u = used_kind l.counts (inner_env around l) out here t two.0 in
@@ -252,27 +252,27 @@ mutual
   part_declares around l (Proc x fs answer parts body) out here calm =
       let next = (part_local l (Proc x fs answer parts body)).counts in
       let moved = part_moves around l (Proc x fs answer parts body) calm in
-      let c1 = moved.0 in
-      let k1 = moved.1 in
+      let c1 = moved.constants_are in
+      let k1 = moved.kinds_are in
       let f = next_block l.counts in
       let env = inner_env around l in
       let title = title_local l x fs answer in
       let in_ = blocks_around around title in
       let head = heading_local l x fs answer in
       let formals = formals_local (local_of_inner f 0 title) fs in
-      let pieces = none_in_pieces around l x fs answer parts body calm in
+      let (_, _, parts_calm, body_calm) = none_in_pieces around l x fs answer parts body calm in
       let m1 = title_moves around l x fs answer parts body calm in
       let m2 = formals_move around l x fs answer parts body calm in
       let m3 = answer_adds formals env f x answer in
-      let m4 = statement_adds head.block in_ (parts_local head parts) body pieces.3 in
-      let t0 = m1.0 in
-      let f0 = m2.0 in
-      let a0 = m3.0 in
-      let p0 = m4.0 in
-      let t1 = m1.1 in
-      let f1 = m2.1 in
-      let a1 = m3.1 in
-      let p1 = m4.1 in
+      let m4 = statement_adds head.block in_ (parts_local head parts) body body_calm in
+      let t0 = m1.constants_are in
+      let f0 = m2.constants_are in
+      let a0 = m3.constants_are in
+      let p0 = m4.constants_are in
+      let t1 = m1.kinds_are in
+      let f1 = m2.kinds_are in
+      let a1 = m3.kinds_are in
+      let p1 = m4.kinds_are in
       let constants_at : next_constant head.counts ≡ next_constant l.counts = omega (arith, t0, f0, a0) in
       let kinds_at : next_kind head.counts ≡ next_kind l.counts = omega (arith, t1, f1, a1) in
       let same : UpTo l.counts head.counts = (omega (arith, constants_at), omega (arith, kinds_at)) in
@@ -282,7 +282,7 @@ mutual
       let inner = parts_declare in_ head parts
       (each_behind head.counts around title.here (each_bound_more l.counts head.counts around same out)
       (titled head.counts same)) (answer_bound head.counts formals answer
-      (formals_bound head.counts (local_of_inner f 0 title) fs tt)) pieces.2 in
+      (formals_bound head.counts (local_of_inner f 0 title) fs tt)) parts_calm in
       let one = none_in_parts (w.title_sites [] both_lists all_at env x fs answer)
       (both_lists (w.formals_sites [] both_lists all_at in_ (local_of_inner f 0 title) fs)
       (both_lists (w.parts_sites [] both_lists all_at in_ head parts)
@@ -386,7 +386,7 @@ module _ (s : syntax.Program) (calm : broken_name_rules s ≡ []) where
   pub program_behind : HasOrdinalConstants n_ → AreBehind (env_of n_).kinds (numbers_of n_) 0 n_.constants
       × AreBoundsBehind (length n_.constants) n_.kinds
   program_behind given_ =
-      let e = (parts_move (standard_scope ∷ []) empty_local s.block.parts none_in_block).0 in (
+      let e = (parts_move (standard_scope ∷ []) empty_local s.block.parts none_in_block).constants_are in (
         both_behind (env_of n_).kinds (numbers_of n_) 0 n_.constants (tt, declares.values) given_,
         (
           tt,
@@ -404,7 +404,7 @@ module _ (s : syntax.Program) (calm : broken_name_rules s ≡ []) where
   -- variables are of declared types
   pub program_typed : HaveTypes (length n_.kinds) n_.variables
   program_typed =
-      let e = (parts_move (standard_scope ∷ []) empty_local s.block.parts none_in_block).1 in
+      let e = (parts_move (standard_scope ∷ []) empty_local s.block.parts none_in_block).kinds_are in
       let k = length n_.kinds in (
         omega arith,
         (

@@ -150,7 +150,7 @@ module _ (all : List NamedKind) where
         let hs = kinds_parts (next_kind l.counts) a.kinds b.kinds h in
         enums_join a.constants b.constants (part_enums around l q two.0 hs.0)
         (parts_enums around next rest two.1
-        (subst (λ z. HoldsKinds z b.kinds) (sym (part_moves around l q two.0).1) hs.1))
+        (subst (λ z. HoldsKinds z b.kinds) (sym (part_moves around l q two.0).kinds_are) hs.1))
 
     part_enums : (around : List names.Scope) (l : Local) (q : Part) → w.part_sites [] both_lists all_at around l q ≡ []
         → HoldsKinds (next_kind l.counts) (part_named around l q).kinds → AreEnums (part_named around l q).constants
@@ -168,9 +168,9 @@ module _ (all : List NamedKind) where
         let in_ = blocks_around around title in
         let head = heading_local l x fs answer in
         let formals = formals_local (local_of_inner f 0 title) fs in
-        let t1 = (title_moves around l x fs answer parts body calm).1 in
-        let f1 = (formals_move around l x fs answer parts body calm).1 in
-        let a1 = (answer_adds formals (inner_env around l) f x answer).1 in
+        let t1 = (title_moves around l x fs answer parts body calm).kinds_are in
+        let f1 = (formals_move around l x fs answer parts body calm).kinds_are in
+        let a1 = (answer_adds formals (inner_env around l) f x answer).kinds_are in
         let at_head : next_kind l.counts ≡ next_kind head.counts = omega (arith, t1, f1, a1) in
         parts_enums in_ head parts (none_in_pieces around l x fs answer parts body calm).2
         (subst (λ z. HoldsKinds z (parts_named in_ head parts).kinds) at_head h)
@@ -187,12 +187,13 @@ holds_from all j (d ∷ ds) h = (
 pub program_given : (s : syntax.Program) → broken_name_rules s ≡ [] → HasOrdinalConstants (program_named s)
 program_given s calm =
     let n_ = program_named s in
-    let h = holds_from n_.kinds 0 n_.kinds (λ i. ap (slice_get n_.kinds) (let z : 0 + i ≡ i = omega arith in z)) in
+    let (_, (_, (_, declared))) = holds_from n_.kinds 0 n_.kinds
+    (λ i. ap (slice_get n_.kinds) (let z : 0 + i ≡ i = omega arith in z)) in
     go n_.constants (
       (std_bool, refl, tt),
       (
         (std_bool, refl, tt),
-        parts_enums n_.kinds (standard_scope ∷ []) empty_local s.block.parts two.0 h.1.1.1,
+        parts_enums n_.kinds (standard_scope ∷ []) empty_local s.block.parts two.0 declared,
       ),
     )
   where
@@ -215,10 +216,10 @@ program_given s calm =
         → AreEnumerated (env_of (program_named s)).kinds (numbers_of (program_named s)) cs
     go [] h = tt
     go (constant.Value c ∷ cs) h = go cs h
-    go (constant.Enumerated k i ∷ cs) h =
+    go (constant.Enumerated k i ∷ cs) ((e, e_at, e_is), others) =
         let n_ = program_named s in
-        let r = ordinal_at (numbers_of n_) (constants_of n_) [] 0 n_.kinds k h.0.0 h.0.1 h.0.2 in
+        let r = ordinal_at (numbers_of n_) (constants_of n_) [] 0 n_.kinds k e e_at e_is in
         let at : 0 + k ≡ k = omega arith in
         let num : type_number (numbers_of n_) k ≡ r.0 = ap (first_or 0) (ap (slice_get (numbers_of n_)) (sym at) ∙ r.1)
         ∙ (let z : 0 + r.0 ≡ r.0 = omega arith in z) in
-        (subst (λ z. is_ordinal (slice_get (env_of n_).kinds z) ≡ true) (sym num) r.2, go cs h.1)
+        (subst (λ z. is_ordinal (slice_get (env_of n_).kinds z) ≡ true) (sym num) r.2, go cs others)

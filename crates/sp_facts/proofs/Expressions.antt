@@ -398,11 +398,11 @@ module _ (p : Program) (m : ℕ) (moves shares : Stmt → List ℕ) (callable : 
           × (field_kind (field_in name (slice_get env.kinds j)) ≡ Some t)
       found fs a ek None fe c = absurd (cc c)
       found fs a ek (Some f) fe c =
-          let w = field_at 0 name fs f fe in
+          let (i, i_is, (x, x_at)) = field_at 0 name fs f fe in
           let same : field_in name (slice_get env.kinds j) ≡ Some f = ap (field_in name) ek ∙ fe in
-          let num : w.0 ≡ field_number (field_in name (slice_get env.kinds j)) =
-          (let z = w.1 in let y : w.0 ≡ f.0 = omega (arith, z) in y ∙ sym (ap field_number same)) in
-          (fs, w.2.0, f.1, a, subst (λ z. slice_get fs z ≡ Some (w.2.0, f.1)) num w.2.1, ap field_kind same)
+          let num : i ≡ field_number (field_in name (slice_get env.kinds j)) =
+          (let y : i ≡ f.0 = omega (arith, i_is) in y ∙ sym (ap field_number same)) in
+          (fs, x, f.1, a, subst (λ z. slice_get fs z ≡ Some (x, f.1)) num x_at, ap field_kind same)
 
       go : (t : KindOf) → slice_get p.kinds k ≡ Some t → slice_get env.kinds j ≡ Some t
           → field_found at (field_in name (Some t)) ≡ None
@@ -442,25 +442,26 @@ module _ (p : Program) (m : ℕ) (moves shares : Stmt → List ℕ) (callable : 
       (not_if_none rule.Y7 (place e) (not (is_variable e) || differ (variable_kind env x) (expression_kind env e))
       (subst (λ z. actual_rule z (place e) (is_variable e) (variable_kind env x) (expression_kind env e) ≡ None) or
       calm)) in
-      let w = ref r (not-false (is_variable e) rules.0) in
-      let same = same_if_none (variable_kind env x) (expression_kind env e) v.kind w.2 known w.3 rules.1 in
+      let (target, by_reference, number, gives, place_at, is_target) = ref r (not-false (is_variable e) rules.0) in
+      let same = same_if_none (variable_kind env x) (expression_kind env e) v.kind number known gives rules.1 in
       subst (λ z. ActualsInScope q (bare_actuals (c.Pass (actual_for_role z (checked_expression env e)) rest)) (x ∷ xs))
       (sym or)
-      (subst (λ z. ActualsInScope q (bare_actuals (c.Pass z rest)) (x ∷ xs)) (sym w.1)
-      (w.2, w.4 q, w.5, (v, vat, same, r), more (after_var q (bare_variable w.0))))
+      (subst (λ z. ActualsInScope q (bare_actuals (c.Pass z rest)) (x ∷ xs)) (sym by_reference)
+      (number, place_at q, is_target, (v, vat, same, r), more (after_var q (bare_variable target))))
 
   mutual
     pub expression_fine : (e : n.Expression) → expression_sites [] both_lists refusal_list env e ≡ []
         → InExpression p m sc e
         → ValueIs (expression_kind env e) (bare_expression (checked_expression env e))
-    expression_fine (n.ExpressionAt at form) calm here = let r = form_fine at form calm here in (
-      r.0,
-      r.1,
-      r.2,
-      ap or_zero r.1,
-      λ q. subst (λ o. Forms q (or_zero o) (bare_form (checked_form env form)))
-          (sym r.1) (r.3 q),
-    )
+    expression_fine (n.ExpressionAt at form) calm here =
+        let (number, gives, is_kind, form_at) = form_fine at form calm here in (
+          number,
+          gives,
+          is_kind,
+          ap or_zero gives,
+          λ q. subst (λ o. Forms q (or_zero o) (bare_form (checked_form env form)))
+              (sym gives) (form_at q),
+        )
 
     pub form_fine : (at : Place) (form : n.ExpressionForm) → form_sites [] both_lists refusal_list env at form ≡ []
         → InForm p m sc form → FormIs (form_kind env form) (bare_form (checked_form env form))
@@ -472,20 +473,24 @@ module _ (p : Program) (m : ℕ) (moves shares : Stmt → List ℕ) (callable : 
       ordinal_there (slice_get p.kinds w.0.kind) w.2,
       λ q. (tt, ordinal_sort (slice_get p.kinds w.0.kind) w.2),
     )
-    form_fine at (n.Read v) calm here = let r = variable_fine v calm here in
-        (r.0, r.1, r.2, λ q. (r.3 q, read_at (after_var q (bare_variable (checked_variable env v))) r.0 r.2.0 r.2.1))
+    form_fine at (n.Read v) calm here =
+        let (number, gives, (meaning, meaning_at), place_at) = variable_fine v calm here in
+        let read = λ (q : ℕ). read_at (after_var q (bare_variable (checked_variable env v))) number meaning meaning_at
+        in
+        (number, gives, (meaning, meaning_at), λ q. (place_at q, read q))
     form_fine at (n.Apply f name args) calm (b, call, (x, ans), acts) =
         let sig = knows.blocks f b call.1 in
         let formals : formals_of env f ≡ b.formals = ap formals_in sig in
         let passes = actuals_fine b.formals args
         (subst (λ z. actuals_sites [] both_lists refusal_list env z args ≡ []) formals calm) (knows.formals f b call.1)
         acts in
-        let w = knows.answers f b x call.1 ans in
-        let kv = (knows.variables x w.0 w.1 (subst NoIndex (sym w.2) tt)).0 in
-        let gives : answer_kind env f ≡ Some w.0.kind = ap (answer_in env) sig ∙ ap (kind_of_variable env) ans ∙ kv in (
-          w.0.kind,
+        let (result, result_at, role_is, _, ordinal) = knows.answers f b x call.1 ans in
+        let kv = (knows.variables x result result_at (subst NoIndex (sym role_is) tt)).0 in
+        let gives : answer_kind env f ≡ Some result.kind = ap (answer_in env) sig ∙ ap (kind_of_variable env) ans ∙ kv
+        in (
+          result.kind,
           gives,
-          ordinal_there (slice_get p.kinds w.0.kind) w.4,
+          ordinal_there (slice_get p.kinds result.kind) ordinal,
           λ q. (
             b,
             subst (λ z. ActualsInScope q (bare_actuals (of_.actuals (checked_actuals env z args))) b.formals)
@@ -493,22 +498,22 @@ module _ (p : Program) (m : ℕ) (moves shares : Stmt → List ℕ) (callable : 
             call_at f b call
                 (after_actuals q (bare_actuals (of_.actuals (checked_actuals env (formals_of env f) args)))),
             (x, ans),
-            ordinal_sort (slice_get p.kinds w.0.kind) w.4,
+            ordinal_sort (slice_get p.kinds result.kind) ordinal,
           ),
         )
     form_fine at (n.Standard f args) calm here = standard_fine f args calm here.0 here.1
     form_fine at (n.Unary op a) calm here =
         let parts = none_with_site (expression_sites [] both_lists refusal_list env a)
         (unary_rule op (place a) (expression_kind env a)) calm in
-        let r = expression_fine a parts.0 here in
-        let takes = nat_eq_is (unary_takes op) r.0
-        (takes_if_none rule.Y1 (place a) (nat_eq (unary_takes op)) (expression_kind env a) r.0 r.1 parts.1) in (
+        let (number, gives, _, own_kind, value_at) = expression_fine a parts.0 here in
+        let takes = nat_eq_is (unary_takes op) number
+        (takes_if_none rule.Y1 (place a) (nat_eq (unary_takes op)) (expression_kind env a) number gives parts.1) in (
           unary_takes op,
           refl,
           unary_kind op,
           λ q. (
-            r.4 q,
-            ap (sort p) (r.3 ∙ sym takes) ∙ unary_sort op,
+            value_at q,
+            ap (sort p) (own_kind ∙ sym takes) ∙ unary_sort op,
             unary_sort op,
             unary_at (after_value q (bare_expression (checked_expression env a))) op,
           ),
@@ -522,24 +527,24 @@ module _ (p : Program) (m : ℕ) (moves shares : Stmt → List ℕ) (callable : 
         (left_rule env op (place a) (expression_kind env a)) halves.0 in
         let right = none_with_site (expression_sites [] both_lists refusal_list env b)
         (right_rule env op (place b) (expression_kind env a) (expression_kind env b)) halves.1 in
-        let ra = expression_fine a left.0 here.0 in
-        let rb = expression_fine b right.0 here.1 in
+        let (number, gives, _, own_kind, value_at) = expression_fine a left.0 here.0 in
+        let (number_b, gives_b, _, own_kind_b, value_at_b) = expression_fine b right.0 here.1 in
         let both = none_of_earlier (unless rule.Y1 (place b) (binary_takes env op) (expression_kind env b))
         (refusal_if rule.Y1 (place b) (differ (expression_kind env a) (expression_kind env b))) right.1 in
-        let takes = takes_if_none rule.Y1 (place a) (binary_takes env op) (expression_kind env a) ra.0 ra.1 left.1 in
-        let same = same_if_none (expression_kind env a) (expression_kind env b) ra.0 rb.0 ra.1 rb.1
+        let takes = takes_if_none rule.Y1 (place a) (binary_takes env op) (expression_kind env a) number gives left.1 in
+        let same = same_if_none (expression_kind env a) (expression_kind env b) number number_b gives gives_b
         (not_if_none rule.Y1 (place b) (differ (expression_kind env a) (expression_kind env b)) both.1) in
         let w = binary_sort op in (
           binary_gives op,
           refl,
           w.1,
           λ q. (
-            ra.4 q,
-            rb.4 (after_value q (bare_expression (checked_expression env a))),
+            value_at q,
+            value_at_b (after_value q (bare_expression (checked_expression env a))),
             tt,
             subst (λ z. Operands op (sort p z) (sort p (kind_of (bare_expression (checked_expression env b)))))
-                (sym ra.3) (subst (λ z. Operands op (sort p ra.0) (sort p z)) (same ∙ sym rb.3)
-                (operands op ra.0 takes)),
+                (sym own_kind) (subst (λ z. Operands op (sort p number) (sort p z)) (same ∙ sym own_kind_b)
+                (operands op number takes)),
             w.0,
           ),
         )
@@ -548,9 +553,10 @@ module _ (p : Program) (m : ℕ) (moves shares : Stmt → List ℕ) (callable : 
         → (k : ℕ)
         × (selected env v ≡ Some k) × IsKind p k × ((q : ℕ) → Place_ q (bare_variable (checked_variable env v)) k)
     variable_fine (n.Entire x at ss) calm here =
-        let w = entire_fine x here.0 in
-        let r = selectors_fine at (variable_kind env x) w.0 ss w.1 w.2 calm here.1 in
-        (r.0, r.1, r.2, λ q. (w.0, w.3 q, r.3 (q + 1)))
+        let (entire, entire_gives, entire_is, entire_at) = entire_fine x here.0 in
+        let (number, gives, is_kind, selects_at) = selectors_fine at (variable_kind env x) entire ss entire_gives
+        entire_is calm here.1 in
+        (number, gives, is_kind, λ q. (entire, entire_at q, selects_at (q + 1)))
 
     pub selectors_fine : (at : Place) (o : Option ℕ) (k : ℕ) (ss : n.Selectors) → o ≡ Some k → IsKind p k
         → selectors_sites [] both_lists refusal_list env at o ss ≡ [] → InSelectors p m sc ss
@@ -562,33 +568,37 @@ module _ (p : Program) (m : ℕ) (moves shares : Stmt → List ℕ) (callable : 
         (selectors_sites [] both_lists refusal_list env at (selection env o (n.Index e)) rest) calm in
         let one = none_with_site (expression_sites [] both_lists refusal_list env e)
         (index_rule env at o (place e) (expression_kind env e)) parts.0 in
-        let re = expression_fine e one.0 here.0 in
-        let w = index_one at (place e) o (expression_kind env e) k re.0 oe re.1 ik one.1 in
-        let known = knows.elements k w.0 w.1 re.0 w.2 w.3 in
-        let r = selectors_fine at (selection env o (n.Index e)) w.2 rest w.4 known.0 parts.1 here.1 in (
-          r.0,
-          r.1,
-          r.2,
+        let (number, gives, _, own_kind, value_at) = expression_fine e one.0 here.0 in
+        let (low, high, element, array_at, element_is) = index_one at (place e) o (expression_kind env e) k number oe
+        gives ik one.1 in
+        let known = knows.elements k low high number element array_at in
+        let (last, last_gives, last_is, selects_at) = selectors_fine at (selection env o (n.Index e)) element rest
+        element_is known.0 parts.1 here.1 in (
+          last,
+          last_gives,
+          last_is,
           λ q. (
-            w.0,
-            w.1,
-            re.0,
-            w.2,
-            w.3,
-            re.4 q,
-            ap (sort p) re.3
-                ∙ ordinal_sort (slice_get p.kinds re.0) known.1,
+            low,
+            high,
+            number,
+            element,
+            array_at,
+            value_at q,
+            ap (sort p) own_kind
+                ∙ ordinal_sort (slice_get p.kinds number) known.1,
             tt,
-            r.3 (after_value q (bare_expression (checked_expression env e)) + 1),
+            selects_at (after_value q (bare_expression (checked_expression env e)) + 1),
           ),
         )
     selectors_fine at o k (n.Select (n.Field name) rest) oe ik calm here =
         let parts = none_in_parts (refusal_list (field_rule env at o name))
         (selectors_sites [] both_lists refusal_list env at (selection env o (n.Field name)) rest) calm in
-        let w = field_one at name o k oe ik (none_at_site (field_rule env at o name) parts.0) in
-        let r = selectors_fine at (selection env o (n.Field name)) w.2 rest w.5
-        (knows.fields k w.0 (numbered_field env o name) w.1 w.2 w.3 w.4) parts.1 here in
-        (r.0, r.1, r.2, λ q. (w.0, w.1, w.2, w.3, w.4, tt, r.3 (q + 1)))
+        let (fields, spelled, element, record_at, field_at, element_is) = field_one at name o k oe ik
+        (none_at_site (field_rule env at o name) parts.0) in
+        let (last, last_gives, last_is, selects_at) = selectors_fine at (selection env o (n.Field name)) element rest
+        element_is
+        (knows.fields k fields (numbered_field env o name) spelled element record_at field_at) parts.1 here in
+        (last, last_gives, last_is, λ q. (fields, spelled, element, record_at, field_at, tt, selects_at (q + 1)))
 
     pub actuals_fine : (xs : List ℕ) (args : n.Arguments) → actuals_sites [] both_lists refusal_list env xs args ≡ []
         → AreFormals p xs → InActuals p m sc xs args
@@ -610,9 +620,9 @@ module _ (p : Program) (m : ℕ) (moves shares : Stmt → List ℕ) (callable : 
     pub reference_fine : (e : n.Expression) → expression_sites [] both_lists refusal_list env e ≡ []
         → InExpression p m sc e
         → is_variable e ≡ true → AimedExpression p m e → ReferenceIs e
-    reference_fine (n.ExpressionAt at (n.Read (n.Entire x name ss))) calm here i aimed = let r =
-        variable_fine (n.Entire x name ss) calm here in
-        (checked_variable env (n.Entire x name ss), refl, r.0, r.1, r.3, aimed)
+    reference_fine (n.ExpressionAt at (n.Read (n.Entire x name ss))) calm here i aimed =
+        let (number, gives, _, place_at) = variable_fine (n.Entire x name ss) calm here in
+        (checked_variable env (n.Entire x name ss), refl, number, gives, place_at, aimed)
     reference_fine (n.ExpressionAt at (n.Number m)) calm here i aimed = absurd (cc i)
     reference_fine (n.ExpressionAt at (n.Quoted t)) calm here i aimed = absurd (cc i)
     reference_fine (n.ExpressionAt at (n.Constant k)) calm here i aimed = absurd (cc i)
@@ -632,7 +642,8 @@ module _ (p : Program) (m : ℕ) (moves shares : Stmt → List ℕ) (callable : 
         (refusal_list (standard_rule env f (place e) (expression_kind env e)))) [] calm in
         let one = none_with_site (expression_sites [] both_lists refusal_list env e)
         (standard_rule env f (place e) (expression_kind env e)) parts.0 in
-        let r = expression_fine e one.0 here.0 in
-        standard_one f r.0 (expression_kind env e) (bare_expression (checked_expression env e)) r.1 r.2
-        (takes_if_none rule.Y8 (place e) (standard_takes env f) (expression_kind env e) r.0 r.1 one.1) r.3 r.4
+        let (number, gives, is_kind, own_kind, value_at) = expression_fine e one.0 here.0 in
+        standard_one f number (expression_kind env e) (bare_expression (checked_expression env e)) gives is_kind
+        (takes_if_none rule.Y8 (place e) (standard_takes env f) (expression_kind env e) number gives one.1) own_kind
+        value_at
     standard_fine f (n.AndArgument a (n.AndArgument b rest)) calm fits here = absurd (too_many f (count rest) fits)

@@ -198,8 +198,8 @@ module _ (fits : Role → Bool) (no_local : fits role.Local ≡ false) (no_index
         let k = next_variable l.counts in
         let j = next_block l.counts in
         let later : own fits f (k + length a.variables) b.variables ≡ in_blocks g f (j + length a.blocks) b.blocks =
-        subst (λ z. own fits f z b.variables ≡ in_blocks g f (j + length a.blocks) b.blocks) moved.2
-        (subst (λ z. own fits f (next_variable next.counts) b.variables ≡ in_blocks g f z b.blocks) moved.3
+        subst (λ z. own fits f z b.variables ≡ in_blocks g f (j + length a.blocks) b.blocks) moved.variables_are
+        (subst (λ z. own fits f (next_variable next.counts) b.variables ≡ in_blocks g f z b.blocks) moved.blocks_are
         (parts_own around next rest two.1)) in
         own_join fits f k a.variables b.variables
         ∙ ap (λ z. z ++ own fits f (k + length a.variables) b.variables) (part_own around l q two.0)
@@ -227,9 +227,9 @@ module _ (fits : Role → Bool) (no_local : fits role.Local ≡ false) (no_index
         let b = answer_named env j x answer in
         let inner = parts_named in_ head parts in
         let d = indices head.block body in
-        let m1 = (title_moves around l x fs answer parts body calm).2 in
-        let m2 = (formals_move around l x fs answer parts body calm).2 in
-        let m3 = (answer_adds formals env j x answer).2 in
+        let m1 = (title_moves around l x fs answer parts body calm).variables_are in
+        let m2 = (formals_move around l x fs answer parts body calm).variables_are in
+        let m3 = (answer_adds formals env j x answer).variables_are in
         let at_head : k + length a + length b ≡ next_variable head.counts = omega (arith, m1, m2, m3) in
         let inside_ = parts_own in_ head parts pieces.2 in
         let blocks_ = head_blocks around l x fs answer parts body calm in

@@ -75,7 +75,7 @@ module _ (b : ℕ) where
         (w.parts_sites [] both_lists all_at around next rest) calm in
         let one = part_named around l q in
         let others = parts_named around next rest in
-        let moved = (part_moves around l q two.0).3 in
+        let moved = (part_moves around l q two.0).blocks_are in
         let space : next_block l.counts + length (one.blocks ++ others.blocks) ≤ b = room in
         let sum = length-append one.blocks others.blocks in
         homed_join b one.variables others.variables (part_homed around l q two.0 low (omega (arith, space, sum)))
@@ -149,10 +149,10 @@ module _ (s : syntax.Program) (calm : broken_name_rules s ≡ []) where
   block_there : (k : ℕ) (bs : List n.Block) (j : ℕ) → HoldsBlocks (tree s calm) (length (named s calm).constants) k bs
       → suc j ≤ length bs → (b : plain.Block) × (slice_get (tree s calm).blocks (k + j) ≡ Some b)
   block_there k [] j h l = absurd (omega (arith, l))
-  block_there k (b ∷ bs) zero h l = (
-    h.0.0,
-    subst (λ z. slice_get (tree s calm).blocks z ≡ Some h.0.0)
-        (let z : k ≡ k + 0 = omega arith in z) h.0.1,
+  block_there k (b ∷ bs) zero ((c, c_at, _, _, _), _) l = (
+    c,
+    subst (λ z. slice_get (tree s calm).blocks z ≡ Some c)
+        (let z : k ≡ k + 0 = omega arith in z) c_at,
   )
   block_there k (b ∷ bs) (suc j) h l = let r = block_there (suc k) bs j h.1 (omega (arith, l)) in (
     r.0,
@@ -166,28 +166,28 @@ module _ (s : syntax.Program) (calm : broken_name_rules s ≡ []) where
   pub homes : (x : ℕ) (v : plain.Variable) → slice_get (tree s calm).variables x ≡ Some v → (b : plain.Block)
       × (slice_get (tree s calm).blocks v.block ≡ Some b)
   homes x v at =
-      let u = variable_from last (named s calm).variables x v at in
-      let h = (role_home x u.0 u.1).0 in
-      let b = block_there 0 (named s calm).blocks u.0.block (held_blocks s calm) h in (
+      let (u, u_at, _, block_is) = variable_from last (named s calm).variables x v at in
+      let h = (role_home x u u_at).0 in
+      let b = block_there 0 (named s calm).blocks u.block (held_blocks s calm) h in (
         b.0,
         subst (λ z. slice_get (tree s calm).blocks z ≡ Some b.0)
-            (let z : 0 + u.0.block ≡ u.0.block = omega arith in z ∙ sym u.3) b.1,
+            (let z : 0 + u.block ≡ u.block = omega arith in z ∙ sym block_is) b.1,
       )
 
   pub consoles : (x : ℕ) (v : plain.Variable) → slice_get (tree s calm).variables x ≡ Some v → v.role ≡ role.Console
       → (v.block ≡ 0) × (x < 2)
   consoles x v at e =
-      let u = variable_from last (named s calm).variables x v at in
-      let h = (role_home x u.0 u.1).1 (sym u.2 ∙ e) in
-      (u.3 ∙ h.0, h.1)
+      let (u, u_at, role_is, block_is) = variable_from last (named s calm).variables x v at in
+      let h = (role_home x u u_at).1 (sym role_is ∙ e) in
+      (block_is ∙ h.0, h.1)
 
   -- the program's block stands in none, and has no parameters and no result
   pub program_block : (b : plain.Block) → slice_get (tree s calm).blocks 0 ≡ Some b → (b.parent ≡ None)
       × (b.formals ≡ []) × (b.answer ≡ None)
   program_block b at =
-      let c = (held_blocks s calm).0 in
-      let e = same_Some c.0 b (sym c.1 ∙ at) in (
-        ap (λ (z : plain.Block). z.parent) (sym e) ∙ c.2,
-        ap (λ (z : plain.Block). z.formals) (sym e) ∙ c.3,
-        ap (λ (z : plain.Block). z.answer) (sym e) ∙ c.4,
+      let ((c, c_at, parent_is, formals_are, answer_is), _) = held_blocks s calm in
+      let e = same_Some c b (sym c_at ∙ at) in (
+        ap (λ (z : plain.Block). z.parent) (sym e) ∙ parent_is,
+        ap (λ (z : plain.Block). z.formals) (sym e) ∙ formals_are,
+        ap (λ (z : plain.Block). z.answer) (sym e) ∙ answer_is,
       )

@@ -106,7 +106,7 @@ mutual
       let three = none_in_parts index (w.statement_sites [] both_lists all_at (blocks_around around l)
       (local_of_index l x) a) two.1 in
       let e = (one_variable next x.text (variable next role.Index)
-      (room_at (inner_env (blocks_around around l) next) x sort.Variable three.0)).2 in
+      (room_at (inner_env (blocks_around around l) next) x sort.Variable three.0)).variables_are in
       let up : next_variable (local_of_index l x).counts ≡ suc (next_variable l.counts) = omega (arith, e) in
       let r = statement_numbered (blocks_around around l) (local_of_index l x) a three.1 in (
         (refl, subst (λ z. IsNumbered z (named_statement (blocks_around around l) (local_of_index l x) a)) up r.0),

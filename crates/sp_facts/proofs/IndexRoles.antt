@@ -22,9 +22,9 @@ module _ (p : Program) (m : ℕ) where
     form_has sc (n.While e a) i = statement_has sc a i.1
     form_has sc (n.Repeat ss e) i = all_have sc ss i.0
     form_has sc (n.Case e arms) i = arms_have sc arms i.1
-    form_has sc (n.For x at from down to a) i = statement_has sc a i.3
+    form_has sc (n.For x at from down to a) (_, _, _, in_body) = statement_has sc a in_body
     form_has sc (n.Parallel bs) i = (tt, branches_have sc bs i)
-    form_has sc (n.Forall x from to a) i = (i.0, statement_has (OfIndex x ∷ sc) a i.3)
+    form_has sc (n.Forall x from to a) (index, _, _, in_body) = (index, statement_has (OfIndex x ∷ sc) a in_body)
     form_has _ _ _ = tt
 
     other_has : (sc : List Scope) (o : n.ElsePart) → InOther p m sc o → ElseSatisfies (IsIndexOf p) AnyBranches o

@@ -283,8 +283,8 @@ others_stay p k env (z ∷ starts) (b ∷ bs) y v at l ((lo, num, own), h) =
     where_is : (lo ≤ y) × (suc y ≤ index_after lo b.body) ⊎ Outside lo (index_after lo b.body) y
         → Outside lo (index_after lo b.body) y
     where_is (inr o) = o
-    where_is (inl i) = let u = own y i.0 i.1 in
-        absurd (subst NoIndex (ap (λ (w : Variable). w.role) (same_Some v u.0 (sym at ∙ u.1)) ∙ u.3) l)
+    where_is (inl i) = let (u, u_at, _, role_is) = own y i.0 i.1 in
+        absurd (subst NoIndex (ap (λ (w : Variable). w.role) (same_Some v u (sym at ∙ u_at)) ∙ role_is) l)
 
 module _ (p : Program) (last : List (Option ℕ))
     (has : (x : ℕ) (v : Variable) (o : Option ℕ) → slice_get p.variables x ≡ Some v → slice_get last x ≡ Some o

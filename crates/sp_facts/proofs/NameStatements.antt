@@ -198,10 +198,10 @@ module _ (p : plain.Program) (m : ℕ) where
         (not-false (nat_eq b l.block) (not_if_none rule.N7 x.at (not (nat_eq b l.block)) e)) ∙ h.own in
         let at = subst (λ z. slice_get p.blocks z ≡ Some k) own is.0 in
         let same = h.answer k y at ans in
-        let r = results block k y at ans in
-        let up = level_block r.0.block sc (subst (λ z. IsScope (OfBlock z) sc) (sym r.3) h.home) in (
-          subst (SeenIn p m sc) (sym same) (r.0, r.1, subst (SeenRole p m sc y r.0) (sym r.2) up),
-          subst (AimedIn p m) (sym same) (r.0, r.1, subst NoIndex (sym r.2) tt),
+        let (v, v_at, role_is, block_is) = results block k y at ans in
+        let up = level_block v.block sc (subst (λ z. IsScope (OfBlock z) sc) (sym block_is) h.home) in (
+          subst (SeenIn p m sc) (sym same) (v, v_at, subst (SeenRole p m sc y v) (sym role_is) up),
+          subst (AimedIn p m) (sym same) (v, v_at, subst NoIndex (sym role_is) tt),
         )
 
     -- the variable of a `for`
@@ -368,7 +368,7 @@ module _ (p : plain.Program) (m : ℕ) where
           (w.other_sites [] both_lists all_at around (statement_local l a) o) one.1 in
           let h = holds_parts (next_variable l.counts) (indices block a) (other_indices block o) holds in
           let later = subst (λ z. HoldsVariables z (other_indices block o))
-          (sym (statement_adds block around l a two.0).2)
+          (sym (statement_adds block around l a two.0).variables_are)
           h.1 in (
             expression_in p m steps sc chain env place.visible e one.0,
             statement_in sc around l a chain place two.0 h.0,
@@ -485,7 +485,7 @@ module _ (p : plain.Program) (m : ℕ) where
             statements_in sc around (statement_local l a) rest chain
                 (place_after sc block around l (statement_local l a) (statement_keeps l a) place) two.1
                 (subst (λ z. HoldsVariables z (statements_indices block rest))
-                (sym (statement_adds block around l a two.0).2)
+                (sym (statement_adds block around l a two.0).variables_are)
                 h.1),
           )
 
@@ -505,7 +505,7 @@ module _ (p : plain.Program) (m : ℕ) where
             arms_in sc around (statement_local l a) rest chain
                 (place_after sc block around l (statement_local l a) (statement_keeps l a) place) two.1
                 (subst (λ z. HoldsVariables z (arms_indices block rest))
-                (sym (statement_adds block around l a one.1).2) h.1),
+                (sym (statement_adds block around l a one.1).variables_are) h.1),
           )
 
       branches_in : (sc : List Scope) (around : List names.Scope) (l : Local) (bs : Branches) → IsChain p m sc
@@ -522,6 +522,6 @@ module _ (p : plain.Program) (m : ℕ) where
             branches_in sc around (statements_local l ss) rest chain
                 (place_after sc block around l (statements_local l ss) (statements_keep l ss) place) two.1
                 (subst (λ z. HoldsVariables z (branches_indices block rest))
-                (sym (statements_adds block around l ss two.0).2)
+                (sym (statements_adds block around l ss two.0).variables_are)
                 h.1),
           )

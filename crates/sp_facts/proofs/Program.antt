@@ -143,8 +143,10 @@ own_member fits f k x (u ∷ us) rest e = go (u.block == f) (fits u.role) refl r
       re,
       eqb-true u.block f be,
     )
-    go true false be re e next = let r = next e in (suc r.0, r.1, (let z = r.2 in omega (arith, z)), r.3, r.4, r.5)
-    go false s be re e next = let r = next e in (suc r.0, r.1, (let z = r.2 in omega (arith, z)), r.3, r.4, r.5)
+    go true false be re e next = let (j, u, far, u_at, fits_it, block_is) = next e in
+        (suc j, u, omega (arith, far), u_at, fits_it, block_is)
+    go false s be re e next = let (j, u, far, u_at, fits_it, block_is) = next e in
+        (suc j, u, omega (arith, far), u_at, fits_it, block_is)
 
 module _ (s : syntax.Program) (calm : broken_name_rules s ≡ []) where
   abbrev pub named : n.Program
@@ -239,34 +241,34 @@ module _ (s : syntax.Program) (calm : broken_name_rules s ≡ []) where
   pub formals : (f : ℕ) (b : plain.Block) → slice_get tree.blocks f ≡ Some b
       → b.formals ≡ numbers_with_role is_parameter (variables_of f 0 tree.variables)
   formals f b at =
-      let r = block_from (env_of named) (starts_of named.blocks) named.blocks f b at in
-      r.3 ∙ of_block is_parameter (λ (b : n.Block). b.formals)
-      (program_own is_parameter refl refl refl (λ (b : n.Block). b.formals) parameters_heading refl) f r.0 r.1
+      let (nb, nb_at, _, formals_are, _) = block_from (env_of named) (starts_of named.blocks) named.blocks f b at in
+      formals_are ∙ of_block is_parameter (λ (b : n.Block). b.formals)
+      (program_own is_parameter refl refl refl (λ (b : n.Block). b.formals) parameters_heading refl) f nb nb_at
 
   pub answers : (f : ℕ) (b : plain.Block) → slice_get tree.blocks f ≡ Some b
       → as_list b.answer ≡ numbers_with_role is_answer (variables_of f 0 tree.variables)
   answers f b at =
-      let r = block_from (env_of named) (starts_of named.blocks) named.blocks f b at in
-      ap as_list r.4 ∙ of_block is_answer (λ (b : n.Block). as_list (answer_variable b.answer))
+      let (nb, nb_at, _, _, answer_is) = block_from (env_of named) (starts_of named.blocks) named.blocks f b at in
+      ap as_list answer_is ∙ of_block is_answer (λ (b : n.Block). as_list (answer_variable b.answer))
       (program_own is_answer refl refl refl (λ (b : n.Block). as_list (answer_variable b.answer)) results_heading
-      refl) f r.0 r.1
+      refl) f nb nb_at
 
   held_at : (k : ℕ) (us : List checked.Variable) (j : ℕ) (u : checked.Variable) → HoldsVariables tree m k us
       → slice_get us j ≡ Some u → (v : plain.Variable) × (slice_get tree.variables (k + j) ≡ Some v) × (v.role ≡ u.role)
       × (v.block ≡ u.block)
   held_at k [] j u h e = absurd (cc e)
-  held_at k (w ∷ us) zero u h e = let s = same_Some w u e in (
-    h.0.0,
-    subst (λ z. slice_get tree.variables z ≡ Some h.0.0) (let z : k ≡ k + 0 = omega arith in z) h.0.1,
-    h.0.2
+  held_at k (w ∷ us) zero u ((v, v_at, role_is, block_is), _) e = let s = same_Some w u e in (
+    v,
+    subst (λ z. slice_get tree.variables z ≡ Some v) (let z : k ≡ k + 0 = omega arith in z) v_at,
+    role_is
         ∙ ap (λ (z : checked.Variable). z.role) s,
-    h.0.3 ∙ ap (λ (z : checked.Variable). z.block) s,
+    block_is ∙ ap (λ (z : checked.Variable). z.block) s,
   )
-  held_at k (w ∷ us) (suc j) u h e = let r = held_at (suc k) us j u h.1 e in (
-    r.0,
-    subst (λ z. slice_get tree.variables z ≡ Some r.0) (let z : suc k + j ≡ k + suc j = omega arith in z) r.1,
-    r.2,
-    r.3,
+  held_at k (w ∷ us) (suc j) u h e = let (v, v_at, role_is, block_is) = held_at (suc k) us j u h.1 e in (
+    v,
+    subst (λ z. slice_get tree.variables z ≡ Some v) (let z : suc k + j ≡ k + suc j = omega arith in z) v_at,
+    role_is,
+    block_is,
   )
 
   pub results : (f : ℕ) (b : plain.Block) (x : ℕ) → slice_get tree.blocks f ≡ Some b → b.answer ≡ Some x
@@ -277,25 +279,29 @@ module _ (s : syntax.Program) (calm : broken_name_rules s ≡ []) where
       sym (checked_own is_answer f 0 ks named.variables (final_length named))
       ∙ sym (among_own is_answer f 0 (checked_variables ks named.variables)) ∙ sym (answers f b at)
       ∙ ap as_list ans in
-      let r = own_member is_answer f 0 x named.variables [] e in
-      let v = held_at 0 named.variables r.0 r.1 held r.3 in
-      (v.0, subst (λ z. slice_get tree.variables z ≡ Some v.0) (sym r.2) v.1, v.2 ∙ answer_is r.1.role r.4, v.3 ∙ r.5)
+      let (j, u, x_is, u_at, is_result, of_block) = own_member is_answer f 0 x named.variables [] e in
+      let (v, v_at, role_is, block_is) = held_at 0 named.variables j u held u_at in (
+        v,
+        subst (λ z. slice_get tree.variables z ≡ Some v) (sym x_is) v_at,
+        role_is ∙ answer_is u.role is_result,
+        block_is ∙ of_block,
+      )
 
   -- ---- the input and the output
 
   pub input : (v : plain.Variable) × (slice_get tree.variables 0 ≡ Some v) × (v.role ≡ role.Console)
-  input = (held.0.0, held.0.1, held.0.2)
+  input = let ((v, v_at, role_is, _), _) = held in (v, v_at, role_is)
 
   pub output : (v : plain.Variable) × (slice_get tree.variables 1 ≡ Some v) × (v.role ≡ role.Console)
-  output = (held.1.0.0, held.1.0.1, held.1.0.2)
+  output = let (_, ((v, v_at, role_is, _), _)) = held in (v, v_at, role_is)
 
   -- ---- each name is of a visible declaration
 
   pub scoped : AreScoped tree m 0 named.blocks
   scoped =
       let st = steps tree parents in
-      let c = held_blocks.0 in
-      let sc0 = top tree parents c.0 c.1 c.2 in
+      let ((c, c_at, parent_is, _, answer_is), own_blocks) = held_blocks in
+      let sc0 = top tree parents c c_at parent_is in
       let chain : IsChain tree m (OfBlock 0 ∷ []) = (sc0, tt) in
       let base : IsOpen tree m (OfBlock 0 ∷ []) 0 0 std empty_local =
       record {
@@ -305,17 +311,17 @@ module _ (s : syntax.Program) (calm : broken_name_rules s ≡ []) where
         near = inl (eq_zero);
         result = refl;
       } in
-      let rest = held.1.1 in
+      let (_, (_, rest)) = held in
       let vs = holds_parts tree m 2 inner_.variables (indices 0 body_) rest in
       let r = parts_scoped tree m st results [] 0 0 std empty_local parts_ chain base calm_two.0
-      ((omega arith), vs.0, held_blocks.1) in
-      let moved = (parts_move std empty_local parts_ calm_two.0).2 in
+      ((omega arith), vs.0, own_blocks) in
+      let moved = (parts_move std empty_local parts_ calm_two.0).variables_are in
       let place : IsPlace tree m (OfBlock 0 ∷ []) 0 std (parts_local empty_local parts_) = record {
         visible = r.0.visible;
         own = r.0.own;
         home = r.0.home;
         near = r.0.near;
-        answer = λ b x at ans. absurd (no_answer b x at ans c.0 c.1 c.4);
+        answer = λ b x at ans. absurd (no_answer b x at ans c c_at answer_is);
       } in
       let body_in = statement_in tree m st results 0 (OfBlock 0 ∷ []) std (parts_local empty_local parts_) body_
       chain place

@@ -121,8 +121,8 @@ pub program_answers : (s : syntax.Program) (calm : broken_name_rules s ≡ []) �
 program_answers s calm no_types f b x v at ans vat =
     let n_ = named s calm in
     let p_ = tree s calm in
-    let r = block_from (env_of n_) (starts_of n_.blocks) n_.blocks f b at in
-    let a = answer_from r.0.answer x (sym r.4 ∙ ans) in
+    let (nb, nb_at, _, _, answer_is) = block_from (env_of n_) (starts_of n_.blocks) n_.blocks f b at in
+    let a = answer_from nb.answer x (sym answer_is ∙ ans) in
     let w_ = results s calm f b x at ans in
     let d = subst NoIndex (sym (ap (λ (z : plain.Variable). z.role) (same_Some v w_.0 (sym vat ∙ w_.1)) ∙ w_.2)) tt in
     let known = variable_is_of s calm x v vat d in
@@ -136,7 +136,7 @@ program_answers s calm no_types f b x v at ans vat =
     (none_in_parts (w.constants_sites [] both_lists refusal_list (constants_of n_) n_.constants)
     (both_lists kinds (both_lists cells rest)) no_types).1).1).1 in
     answers_ordinal p_ (numbers_of n_) (sizes (env_of n_).kinds) n_.variables 0 (env_of n_) (starts_of n_.blocks)
-    n_.blocks refl (starts_length n_.blocks) (spans s calm) blocks_calm f r.0 a.0 v r.1 a.1
+    n_.blocks refl (starts_length n_.blocks) (spans s calm) blocks_calm f nb a.0 v nb_at a.1
     (subst (λ z. slice_get p_.variables z ≡ Some v) (sym a.2) vat) d
     (subst (λ z. variable_kind (env_of n_) z ≡ Some v.kind) (sym a.2) known)
   where

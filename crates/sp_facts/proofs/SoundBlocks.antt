@@ -201,8 +201,8 @@ module _ (s : syntax.Program) (calm : broken_name_rules s ≡ []) (no_types : ty
     body = λ free h. stands free h;
     end = tt;
     callable_function = λ x ans. functions f x c at ans;
-    answer = λ x ans. (let r = knows.answers f c x at ans in
-        (r.0, r.1, r.2, r.3, ordinal_sort (slice_get p_.kinds r.0.kind) r.4));
+    answer = λ x ans. (let (v, v_at, role_is, block_is, ordinal) = knows.answers f c x at ans in
+        (v, v_at, role_is, block_is, ordinal_sort (slice_get p_.kinds v.kind) ordinal));
   }
     where
       z : 0 + f ≡ f

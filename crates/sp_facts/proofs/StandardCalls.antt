@@ -93,11 +93,12 @@ module _ (p : Program) (m : ℕ) (moves shares : Stmt → List ℕ) (callable : 
         → (q : ℕ) → WidthAt p moves shares AnyInstr AnyTable AnyText callable sc q (bare_width (checked_width env wd))
     width_fine at n.NoWidth calm here q = tt
     width_fine at (n.WithWidth e) calm here q =
-        let r = value e (width_rule at (expression_kind env e)) calm here in
-        let is = nat_eq_is 0 r.0.0 (takes_if_none rule.Y8 at (nat_eq 0) (expression_kind env e) r.0.0 r.0.1 r.1) in (
-          r.0.4 q,
+        let ((number, gives, _, own_kind, value_at), quiet) = value e (width_rule at (expression_kind env e)) calm here
+        in
+        let is = nat_eq_is 0 number (takes_if_none rule.Y8 at (nat_eq 0) (expression_kind env e) number gives quiet) in (
+          value_at q,
           integer_is p m moves shares callable env ready.0 sc ready.1
-              (kind_of (bare_expression (checked_expression env e))) (r.0.3 ∙ sym is),
+              (kind_of (bare_expression (checked_expression env e))) (own_kind ∙ sym is),
         )
 
     -- what is written: an integer, a char or a boolean
@@ -120,16 +121,17 @@ module _ (p : Program) (m : ℕ) (moves shares : Stmt → List ℕ) (callable : 
         ≡ [] → InExpression p m sc e → InWidth p m sc wd
         → Fine sc (c.WriteValue (checked_expression env e) (checked_width env wd))
     write_one e wd cw ce here in_w kept q =
-        let r = value e (write_rule (place e) (expression_kind env e)) ce here in
+        let ((number, gives, _, own_kind, value_at), quiet) = value e (write_rule (place e) (expression_kind env e)) ce
+        here in
         let e_ = bare_expression (checked_expression env e) in
-        let x = writes_kind r.0.0 (takes_if_none rule.Y8 (place e) is_writable (expression_kind env e) r.0.0 r.0.1
-        r.1) in (
-          x.0,
-          (r.0.4 q, ap (sort p) r.0.3 ∙ x.3),
-          ap (slice_get p.kinds) r.0.3 ∙ x.1,
+        let (written_kind, kind_at, is_written, sort_is) = writes_kind number
+        (takes_if_none rule.Y8 (place e) is_writable (expression_kind env e) number gives quiet) in (
+          written_kind,
+          (value_at q, ap (sort p) own_kind ∙ sort_is),
+          ap (slice_get p.kinds) own_kind ∙ kind_at,
           width_fine (place e) wd cw in_w (after_value q e_),
           tt,
-          x.2,
+          is_written,
         )
 
     text_one : (at : Place) (t : List ℕ) (wd : n.Width) → w.width_sites [] both_lists refusal_list env at wd ≡ []
@@ -204,13 +206,14 @@ module _ (p : Program) (m : ℕ) (moves shares : Stmt → List ℕ) (callable : 
         let two = none_in_parts
         (w.read_sites [] both_lists refusal_list env (n.Pass (n.ExpressionAt at (n.Read (n.Entire x name ss))) wd))
         (w.each_sites [] both_lists refusal_list env (w.read_sites [] both_lists refusal_list env) rest) calm in
-        let r = aimed_one at x name ss (read_rule at (selected env (n.Entire x name ss))) two.0 here.0 in
-        let t = reads_kind r.0.0 (takes_if_none rule.Y8 at is_readable (selected env (n.Entire x name ss)) r.0.0 r.0.1
-        r.1) in (
+        let ((number, gives, _, place_at), quiet) = aimed_one at x name ss
+        (read_rule at (selected env (n.Entire x name ss))) two.0 here.0 in
+        let t = reads_kind number (takes_if_none rule.Y8 at is_readable (selected env (n.Entire x name ss)) number gives
+        quiet) in (
           (λ kept q. (
-            r.0.0,
+            number,
             t.0,
-            r.0.3 q,
+            place_at q,
             targets.0,
             t.1,
             t.2 (after_var q (bare_variable (checked_variable env (n.Entire x name ss)))),
@@ -235,13 +238,14 @@ module _ (p : Program) (m : ℕ) (moves shares : Stmt → List ℕ) (callable : 
         let two = none_in_parts (w.channel_sites [] both_lists refusal_list env
         (n.Pass (n.ExpressionAt at (n.Read (n.Entire x name ss))) wd))
         (w.each_sites [] both_lists refusal_list env (w.channel_sites [] both_lists refusal_list env) rest) calm in
-        let r = aimed_one at x name ss (channel_rule env at (selected env (n.Entire x name ss))) two.0 here.0 in
-        let is = channel_is p m moves shares callable env ready.0 sc ready.1 r.0.0
-        (takes_if_none rule.Y8 at (channel env) (selected env (n.Entire x name ss)) r.0.0 r.0.1 r.1) in
+        let ((number, gives, _, place_at), quiet) = aimed_one at x name ss
+        (channel_rule env at (selected env (n.Entire x name ss))) two.0 here.0 in
+        let is = channel_is p m moves shares callable env ready.0 sc ready.1 number
+        (takes_if_none rule.Y8 at (channel env) (selected env (n.Entire x name ss)) number gives quiet) in
         let v_ = bare_variable (checked_variable env (n.Entire x name ss)) in (
           (λ kept q. (
-            r.0.0,
-            r.0.3 q,
+            number,
+            place_at q,
             targets.0,
             is,
             tt,
@@ -268,10 +272,11 @@ module _ (p : Program) (m : ℕ) (moves shares : Stmt → List ℕ) (callable : 
     channel_one : (e : n.Expression) (wd : n.Width) → w.channel_sites [] both_lists refusal_list env (n.Pass e wd) ≡ []
         → InExpression p m sc e → ChannelIs e
     channel_one e wd calm here =
-        let r = value e (channel_rule env (place e) (expression_kind env e)) calm here in (
-          r.0.4,
-          ap (sort p) r.0.3 ∙ channel_is p m moves shares callable env ready.0 sc ready.1 r.0.0
-              (takes_if_none rule.Y8 (place e) (channel env) (expression_kind env e) r.0.0 r.0.1 r.1),
+        let ((number, gives, _, own_kind, value_at), quiet) = value e
+        (channel_rule env (place e) (expression_kind env e)) calm here in (
+          value_at,
+          ap (sort p) own_kind ∙ channel_is p m moves shares callable env ready.0 sc ready.1 number
+              (takes_if_none rule.Y8 (place e) (channel env) (expression_kind env e) number gives quiet),
         )
 
     sends_fine : (ch : n.Expression) (o : Option ℕ) → ChannelIs ch → (args : n.Arguments)
@@ -281,13 +286,13 @@ module _ (p : Program) (m : ℕ) (moves shares : Stmt → List ℕ) (callable : 
     sends_fine ch o is (n.AndArgument (n.Pass e wd) rest) calm here =
         let two = none_in_parts (w.message_sites [] both_lists refusal_list env o (n.Pass e wd))
         (w.each_sites [] both_lists refusal_list env (w.message_sites [] both_lists refusal_list env o) rest) calm in
-        let r = value e (message_rule env (place e) o (expression_kind env e)) two.0 here.0 in
+        let ((_, _, _, _, value_at), _) = value e (message_rule env (place e) o (expression_kind env e)) two.0 here.0 in
         let c_ = bare_expression (checked_expression env ch) in
         let e_ = bare_expression (checked_expression env e) in (
           (λ kept q. (
             is.0 q,
             is.1,
-            r.0.4 (after_value q c_),
+            value_at (after_value q c_),
             tt,
             free_is p m moves shares callable free sc (In_stmt (plain.Send c_ e_)) kept (inr (inr refl)),
           )),
@@ -304,14 +309,15 @@ module _ (p : Program) (m : ℕ) (moves shares : Stmt → List ℕ) (callable : 
         let two = none_in_parts (w.message_sites [] both_lists refusal_list env o
         (n.Pass (n.ExpressionAt at (n.Read (n.Entire x name ss))) wd))
         (w.each_sites [] both_lists refusal_list env (w.message_sites [] both_lists refusal_list env o) rest) calm in
-        let r = aimed_one at x name ss (message_rule env at o (selected env (n.Entire x name ss))) two.0 here.0 in
+        let ((number, _, _, place_at), _) = aimed_one at x name ss
+        (message_rule env at o (selected env (n.Entire x name ss))) two.0 here.0 in
         let c_ = bare_expression (checked_expression env ch) in
         let v_ = bare_variable (checked_variable env (n.Entire x name ss)) in (
           (λ kept q. (
-            r.0.0,
+            number,
             is.0 q,
             is.1,
-            r.0.3 (after_value q c_),
+            place_at (after_value q c_),
             targets.0,
             tt,
             free_is p m moves shares callable free sc (In_stmt (plain.Receive c_ v_)) kept (inr (inr refl)),

@@ -255,15 +255,15 @@ module _ (p : Program) (m : ℕ) where
       where
         no : Ordinals ≡ Many → ⊥
         no e = cc e
-    right_at sc q k Many (plain.Binary op a b) e ik h = no (sym h.4 ∙ e)
+    right_at sc q k Many (plain.Binary op a b) e ik (_, _, _, _, result_sort) = no (sym result_sort ∙ e)
       where
         no : Ordinals ≡ Many → ⊥
         no e = cc e
-    right_at sc q k Many (plain.Apply f args) e ik h = no (sym h.4 ∙ e)
+    right_at sc q k Many (plain.Apply f args) e ik (_, _, _, _, result_sort) = no (sym result_sort ∙ e)
       where
         no : Ordinals ≡ Many → ⊥
         no e = cc e
-    right_at sc q k Many (plain.Standard f a) e ik h = no (sym h.4 ∙ e)
+    right_at sc q k Many (plain.Standard f a) e ik (_, _, _, _, result_sort, _) = no (sym result_sort ∙ e)
       where
         no : Ordinals ≡ Many → ⊥
         no e = cc e
@@ -300,12 +300,13 @@ module _ (p : Program) (m : ℕ) where
     condition env sc ready e calm here q =
         let parts = none_with_site (expression_sites [] both_lists refusal_list env e)
         (condition_rule (place e) (expression_kind env e)) calm in
-        let r = expression_fine p m moves shares callable env ready.0 sc ready.1 e parts.0 here in
-        let is = nat_eq_is 1 r.0 (takes_if_none rule.Y4 (place e) (nat_eq 1) (expression_kind env e) r.0 r.1
+        let (number, gives, _, own_kind, value_at) = expression_fine p m moves shares callable env ready.0 sc ready.1 e
+        parts.0 here in
+        let is = nat_eq_is 1 number (takes_if_none rule.Y4 (place e) (nat_eq 1) (expression_kind env e) number gives
         parts.1) in (
-          r.4 q,
+          value_at q,
           boolean_is p m moves shares callable env ready.0 sc ready.1
-              (kind_of (bare_expression (checked_expression env e))) (r.3 ∙ sym is),
+              (kind_of (bare_expression (checked_expression env e))) (own_kind ∙ sym is),
         )
 
     -- an expression of a known ordinal type
@@ -317,10 +318,11 @@ module _ (p : Program) (m : ℕ) where
         let parts = none_with_site (expression_sites [] both_lists refusal_list env e)
         (limit_rule (place e) o (expression_kind env e))
         calm in
-        let r = expression_fine p m moves shares callable env ready.0 sc ready.1 e parts.0 here in
-        let is = same_if_none o (expression_kind env e) k r.0 oe r.1
+        let (number, gives, _, own_kind, value_at) = expression_fine p m moves shares callable env ready.0 sc ready.1 e
+        parts.0 here in
+        let is = same_if_none o (expression_kind env e) k number oe gives
         (not_if_none rule.Y10 (place e) (differ o (expression_kind env e)) parts.1) in
-        (r.4 q, ap (sort p) (r.3 ∙ sym is) ∙ ord)
+        (value_at q, ap (sort p) (own_kind ∙ sym is) ∙ ord)
 
     -- an expression whose type a rule wants to be ordinal
     ranged : (r : Rule) (env : Env) (sc : List Scope) → MatchesWithIndices env sc → (e : n.Expression)
@@ -331,10 +333,11 @@ module _ (p : Program) (m : ℕ) where
     ranged rl env sc ready e calm here =
         let parts = none_with_site (expression_sites [] both_lists refusal_list env e)
         (unless rl (place e) (ordinal env) (expression_kind env e)) calm in
-        let r = expression_fine p m moves shares callable env ready.0 sc ready.1 e parts.0 here in
-        let ord = takes_if_none rl (place e) (ordinal env) (expression_kind env e) r.0 r.1 parts.1 in
-        let is = subst (λ ks. is_ordinal (slice_get ks r.0) ≡ true) ready.0.kinds ord in
-        (r.0, r.1, is, λ q. (r.4 q, ap (sort p) r.3 ∙ ordinal_sort (slice_get p.kinds r.0) is))
+        let (number, gives, _, own_kind, value_at) = expression_fine p m moves shares callable env ready.0 sc ready.1 e
+        parts.0 here in
+        let ord = takes_if_none rl (place e) (ordinal env) (expression_kind env e) number gives parts.1 in
+        let is = subst (λ ks. is_ordinal (slice_get ks number) ≡ true) ready.0.kinds ord in
+        (number, gives, is, λ q. (value_at q, ap (sort p) own_kind ∙ ordinal_sort (slice_get p.kinds number) is))
 
     -- the calls of standard procedures (open: `performs`)
     abbrev pub Performs : Type 0
@@ -373,19 +376,21 @@ module _ (p : Program) (m : ℕ) where
             (refusal_list (assign_rule eat (selected env (n.Entire x name ss)) (form_kind env form)))) calm in
             let one = none_with_site (form_sites [] both_lists refusal_list env eat form)
             (assign_rule eat (selected env (n.Entire x name ss)) (form_kind env form)) parts.1 in
-            let rv = variable_fine p m moves shares callable env ready.0 sc ready.1 (n.Entire x name ss) parts.0
-            (seen, in_ss) in
-            let re = form_fine p m moves shares callable env ready.0 sc ready.1 eat form one.0 in_e in
-            let is = same_if_none (selected env (n.Entire x name ss)) (form_kind env form) rv.0 re.0 rv.1 re.1
+            let (target_number, target_gives, _, place_at) = variable_fine p m moves shares callable env ready.0 sc
+            ready.1 (n.Entire x name ss) parts.0 (seen, in_ss) in
+            let (number, gives, is_kind, form_at) = form_fine p m moves shares callable env ready.0 sc ready.1 eat form
+            one.0 in_e in
+            let is = same_if_none (selected env (n.Entire x name ss)) (form_kind env form) target_number number
+            target_gives gives
             (not_if_none rule.Y5 eat (differ (selected env (n.Entire x name ss)) (form_kind env form)) one.1) in
             let v = bare_variable (checked_variable env (n.Entire x name ss)) in (
               grown_to_itself env ready.0,
               λ q. subst (λ z. StatementAt p moves shares AnyInstr AnyTable AnyText callable free sc q
-                  (plain.Assign v (plain.Typed z (bare_form (checked_form env form))))) (sym (ap or_zero re.1)) (
-                    subst (λ z. PlaceAt p moves shares AnyInstr AnyTable AnyText callable sc q v z) is (rv.3 q),
+                  (plain.Assign v (plain.Typed z (bare_form (checked_form env form))))) (sym (ap or_zero gives)) (
+                    subst (λ z. PlaceAt p moves shares AnyInstr AnyTable AnyText callable sc q v z) is (place_at q),
                     aimed,
-                    right_at sc (after_var q v) re.0 (sort p re.0) (bare_form (checked_form env form)) refl re.2
-                        (re.3 (after_var q v)),
+                    right_at sc (after_var q v) number (sort p number) (bare_form (checked_form env form)) refl is_kind
+                        (form_at (after_var q v)),
                   ),
             )
         statement_form_fine env sc at (n.Call f args) ready calm (b, call, none, acts) typed kept =
@@ -469,14 +474,14 @@ module _ (p : Program) (m : ℕ) where
             (w.arms_sites [] both_lists refusal_list env arms)) calm in
             let two = none_in_parts (w.lists_sites [] both_lists refusal_list env (expression_kind env e) []
             (w.constant_lists arms)) (w.arms_sites [] both_lists refusal_list env arms) parts.1 in
-            let c1 = ranged rule.Y11 env sc ready e parts.0 in_e in
+            let (_, _, _, ordinal_at) = ranged rule.Y11 env sc ready e parts.0 in_e in
             let e_ = bare_expression (checked_expression env e) in
             let arms_ = bare_arms (of_.arms (checked_arms env arms)) in
             let ra = arms_fine env sc arms ready two.1 in_arms typed
             (within free sc (In_stmt (plain.Case e_ arms_)) (In_arms arms_) (λ u h. inr h) kept) in (
               ra.0,
               λ q. (
-                c1.3 q,
+                ordinal_at q,
                 tests_at (after_value q e_) arms_ (after_tests (after_value q e_) arms_ + 1),
                 tt,
                 ra.1 (after_tests (after_value q e_) arms_ + 1)
@@ -547,25 +552,28 @@ module _ (p : Program) (m : ℕ) where
             let two = none_in_parts (w.limit_sites [] both_lists refusal_list env (expression_kind env from) to)
             (w.statement_sites [] both_lists refusal_list (with_index_type env x (expression_kind env from)) a)
             parts.1 in
-            let c1 = ranged rule.Y10 env sc ready from parts.0 in_from in
-            let l2 = limit env sc ready (expression_kind env from) c1.0 c1.1
-            (ordinal_sort (slice_get p.kinds c1.0) c1.2) to two.0 in_to in
+            let (number, gives, is_ordinal_kind, ordinal_at) = ranged rule.Y10 env sc ready from parts.0 in_from in
+            let l2 = limit env sc ready (expression_kind env from) number gives
+            (ordinal_sort (slice_get p.kinds number) is_ordinal_kind) to two.0 in_to in
             let inner = with_index_type env x (expression_kind env from) in
-            let is_kind = λ (v : Variable) (vat : slice_get p.variables x ≡ Some v). kinds v vat c1.0 c1.1 in
-            let up = by_index env x c1.0 (expression_kind env from) c1.1 is is_kind ready.0 in
+            let is_kind = λ (v : Variable) (vat : slice_get p.variables x ≡ Some v). kinds v vat number gives in
+            let up = by_index env x number (expression_kind env from) gives is is_kind ready.0 in
             let f_ = bare_expression (checked_expression env from) in
             let t_ = bare_expression (checked_expression env to) in
             let a_ = bare_statement (checked_statement inner a) in
             let all_ = In_stmt (plain.Forall x f_ t_ a_) in
-            let ra = statement_fine inner (OfIndex x ∷ sc) a
-            (up.0, more_indices env x c1.0 sc (expression_kind env from) ready.0 c1.1 c1.2 is_kind ready.1) two.1
+            let ra = statement_fine inner (OfIndex x ∷ sc) a (
+              up.0,
+              more_indices env x number sc (expression_kind env from) ready.0 gives is_ordinal_kind is_kind
+                  ready.1,
+            ) two.1
             in_a typed
             (forall_part free sc x f_ t_ a_ kept) in (
               then_ env inner (statement_after inner a) up ra.0,
               λ q. (
                 0,
                 tt,
-                c1.3 q,
+                ordinal_at q,
                 l2 (after_value q f_),
                 tt,
                 tt,

@@ -142,7 +142,8 @@ variable_type s calm x v at d =
 pub variable_is_of : (s : syntax.Program) (calm : broken_name_rules s ≡ []) (x : ℕ) (v : plain.Variable)
     → slice_get (tree s calm).variables x ≡ Some v → NoIndex v.role
     → variable_kind (env_of (named s calm)) x ≡ Some v.kind
-variable_is_of s calm x v at d = let w = variable_type s calm x v at d in ap table_entry w.2 ∙ ap Some (sym w.3)
+variable_is_of s calm x v at d =
+    let (_, _, typed_as, kind_is) = variable_type s calm x v at d in ap table_entry typed_as ∙ ap Some (sym kind_is)
 
 module _ (s : syntax.Program) (calm : broken_name_rules s ≡ []) (no_types : types_broken (named s calm) ≡ [])
     (given : HasOrdinalConstants (named s calm)) where
@@ -196,11 +197,11 @@ module _ (s : syntax.Program) (calm : broken_name_rules s ≡ []) (no_types : ty
   variable_is : (x : ℕ) (v : plain.Variable) → slice_get p_.variables x ≡ Some v → NoIndex v.role
       → (variable_kind (env_of n_) x ≡ Some v.kind) × IsKind p_ v.kind
   variable_is x v at d =
-      let w = variable_type s calm x v at d in (
-        ap table_entry w.2 ∙ ap Some (sym w.3),
-        subst (IsKind p_) (sym w.3)
-            (there p_.kinds (type_number (numbers_of n_) w.0.kind)
-            (number_there s calm w.0.kind (kind_low (length n_.kinds) n_.variables x w.0 (program_typed s calm) w.1))),
+      let (u, u_at, typed_as, kind_is) = variable_type s calm x v at d in (
+        ap table_entry typed_as ∙ ap Some (sym kind_is),
+        subst (IsKind p_) (sym kind_is)
+            (there p_.kinds (type_number (numbers_of n_) u.kind)
+            (number_there s calm u.kind (kind_low (length n_.kinds) n_.variables x u (program_typed s calm) u_at))),
       )
 
   pub knows : (answers_ : (f : ℕ) (b : plain.Block) (x : ℕ) (v : plain.Variable)
@@ -219,8 +220,8 @@ module _ (s : syntax.Program) (calm : broken_name_rules s ≡ []) (no_types : ty
     blocks = λ f b at. signatures_at (env_of n_) (starts_of n_.blocks) n_.blocks f b at;
     formals = λ f b at. subst (AreFormals p_) (sym (formals s calm f b at))
         (among_formals p_ f 0 p_.variables (λ i. ap (slice_get p_.variables) (let z : 0 + i ≡ i = omega arith in z)));
-    answers = λ f b x at ans. (let r = results s calm f b x at ans in
-        (r.0, r.1, r.2, r.3, answers_ f b x r.0 at ans r.1));
+    answers = λ f b x at ans. (let (v, v_at, role_is, block_is) = results s calm f b x at ans in
+        (v, v_at, role_is, block_is, answers_ f b x v at ans v_at));
     elements = λ k low high index element e. (
       lower k element (kind.Array low high index element) e (formed k (kind.Array low high index element) e).0,
       index_ordinal p_.kinds refl refl (numbers_of n_) (constants_of n_) n_.kinds known.0 bounds none_in_tables.1 k low

@@ -131,16 +131,18 @@ module _ (Fits : Site → Type 0) (Fine : Use → Type 0) (targets : (x : ℕ) �
     statement_kept (p.Does n at (p.Case e arms)) u h (inr i) =
         arms_kept arms u (fit_right Fits (expression_sites e) (arms_sites arms) h) i
     statement_kept (p.Does n at (p.Parallel ss)) u h (inl e) = subst Fine (sym e) (splits ss h.0)
-    statement_kept (p.Does n at (p.Parallel ss)) u h (inr (inl i)) = statements_kept ss u h.1.1 i
-    statement_kept (p.Does n at (p.Parallel ss)) u h (inr (inr e)) = stop at u h.1.0 e
+    statement_kept (p.Does n at (p.Parallel ss)) u (_, (_, inside)) (inr (inl i)) = statements_kept ss u inside i
+    statement_kept (p.Does n at (p.Parallel ss)) u (_, (stopping, _)) (inr (inr e)) = stop at u stopping e
     statement_kept (p.Does n at (p.Forall x from to s)) u h (inl e) = subst Fine (sym e) (spreads at x s h.0)
-    statement_kept (p.Does n at (p.Forall x from to s)) u h (inr (inl i)) =
-        expression_kept from u (fit_left Fits (expression_sites from) _ h.1.1) i
-    statement_kept (p.Does n at (p.Forall x from to s)) u h (inr (inr (inl i))) =
-        expression_kept to u (fit_left Fits (expression_sites to) _ (fit_right Fits (expression_sites from) _ h.1.1)) i
-    statement_kept (p.Does n at (p.Forall x from to s)) u h (inr (inr (inr (inl i)))) =
-        statement_kept s u (fit_right Fits (expression_sites to) _ (fit_right Fits (expression_sites from) _ h.1.1)) i.0
-    statement_kept (p.Does n at (p.Forall x from to s)) u h (inr (inr (inr (inr e)))) = stop at u h.1.0 e
+    statement_kept (p.Does n at (p.Forall x from to s)) u (_, (_, inside)) (inr (inl i)) =
+        expression_kept from u (fit_left Fits (expression_sites from) _ inside) i
+    statement_kept (p.Does n at (p.Forall x from to s)) u (_, (_, inside)) (inr (inr (inl i))) =
+        expression_kept to u (fit_left Fits (expression_sites to) _ (fit_right Fits (expression_sites from) _ inside)) i
+    statement_kept (p.Does n at (p.Forall x from to s)) u (_, (_, inside)) (inr (inr (inr (inl i)))) =
+        statement_kept s u (fit_right Fits (expression_sites to) _ (fit_right Fits (expression_sites from) _ inside))
+        i.0
+    statement_kept (p.Does n at (p.Forall x from to s)) u (_, (stopping, _)) (inr (inr (inr (inr e)))) =
+        stop at u stopping e
     statement_kept (p.Does n at (p.Assume e)) u h i = expression_kept e u h i
     statement_kept (p.Does n at (p.ReadValue v)) u h (inl e) = aim 0 u e
     statement_kept (p.Does n at (p.ReadValue v)) u h (inr (inl i)) = target_kept v u h.1 i

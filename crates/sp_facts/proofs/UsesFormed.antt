@@ -145,23 +145,25 @@ module _ (p : Program) (input : (v : Variable) × (slice_get p.variables 0 ≡ S
     stands_uses sc q (Call f args) h u (inl e) = subst IsGoodUse (sym e) tt
     stands_uses sc q (Call f args) (b, acts, call, ans, last) u (inr i) = actuals_uses sc q args b.formals acts u i
     stands_uses sc q (Sequence ss) h u i = all_uses sc q ss h u i
-    stands_uses sc q (If e a) h u (inl i) = value_uses sc q e h.0.0 u i
+    stands_uses sc q (If e a) ((condition, _), _, _) u (inl i) = value_uses sc q e condition u i
     stands_uses sc q (If e a) h u (inr i) = stands_uses sc (after_value q e + 1) a h.2 u i
-    stands_uses sc q (IfElse e a b) h u (inl i) = value_uses sc q e h.0.0 u i
+    stands_uses sc q (IfElse e a b) ((condition, _), _, _, _, _) u (inl i) = value_uses sc q e condition u i
     stands_uses sc q (IfElse e a b) h u (inr (inl i)) = stands_uses sc (after_value q e + 1) a h.2 u i
-    stands_uses sc q (IfElse e a b) h u (inr (inr i)) = stands_uses sc (after_statement p (after_value q e + 1) a + 1) b
-        h.4 u i
-    stands_uses sc q (While e s) h u (inl i) = value_uses sc q e h.0.0 u i
-    stands_uses sc q (While e s) h u (inr i) = stands_uses sc (after_value q e + 1 + 1) s h.3 u i
-    stands_uses sc q (Repeat s e) h u (inl i) = value_uses sc (after_statement p (q + 1) s) e h.2.0 u i
+    stands_uses sc q (IfElse e a b) ((_, _), _, _, _, second_body) u (inr (inr i)) =
+        stands_uses sc (after_statement p (after_value q e + 1) a + 1) b second_body u i
+    stands_uses sc q (While e s) ((condition, _), _, _, _, _) u (inl i) = value_uses sc q e condition u i
+    stands_uses sc q (While e s) ((_, _), _, _, body, _) u (inr i) = stands_uses sc (after_value q e + 1 + 1) s body u i
+    stands_uses sc q (Repeat s e) (_, _, (condition, _), _) u (inl i) =
+        value_uses sc (after_statement p (q + 1) s) e condition u i
     stands_uses sc q (Repeat s e) h u (inr i) = stands_uses sc (q + 1) s h.1 u i
     stands_uses sc q (For x from down to s) (f, t, ((v, at, local, level, ordinal), first, tick, body, last)) u
         (inl e) = subst IsGoodUse (sym e) (v, at, λ (z : v.role ≡ role.Index). cc (sym local ∙ z))
-    stands_uses sc q (For x from down to s) h u (inr (inl i)) = value_uses sc q from h.0.0 u i
-    stands_uses sc q (For x from down to s) h u (inr (inr (inl i))) = value_uses sc (after_value q from) to h.1.0 u i
+    stands_uses sc q (For x from down to s) ((start, _), _, _) u (inr (inl i)) = value_uses sc q from start u i
+    stands_uses sc q (For x from down to s) (_, (limit, _), _) u (inr (inr (inl i))) =
+        value_uses sc (after_value q from) to limit u i
     stands_uses sc q (For x from down to s) (f, t, (var, first, tick, body, last)) u (inr (inr (inr i))) =
         stands_uses sc (after_value (after_value q from) to + 1 + 1) s body u i
-    stands_uses sc q (Case e arms) h u (inl i) = value_uses sc q e h.0.0 u i
+    stands_uses sc q (Case e arms) ((selector, _), _, _, _) u (inl i) = value_uses sc q e selector u i
     stands_uses sc q (Case e arms) (o, tests, none, more) u (inr i) =
         arms_uses sc (after_tests (after_value q e) arms + 1) arms _ more u i
     stands_uses sc q (Parallel ss) h u (inl e) = subst IsGoodUse (sym e) tt
@@ -176,7 +178,7 @@ module _ (p : Program) (input : (v : Variable) × (slice_get p.variables 0 ≡ S
     stands_uses sc q (Forall x from to s) (t, table, f, l, fork, jump, body, end, free) u (inr (inr (inr (inl i)))) =
         stands_uses (OfIndex x ∷ sc) (after_value (after_value q from) to + 1 + 1) s body u i.0
     stands_uses sc q (Forall x from to s) h u (inr (inr (inr (inr e)))) = of_stop u e
-    stands_uses sc q (Assume e) h u i = value_uses sc q e h.0.0 u i
+    stands_uses sc q (Assume e) ((condition, _), _) u i = value_uses sc q e condition u i
     stands_uses sc q (ReadValue v) h u (inl e) = of_input u e
     stands_uses sc q (ReadValue v) (k, t, at, target, of_kind, is) u (inr (inl i)) = target_uses sc q v k at target u i
     stands_uses sc q (ReadValue v) h u (inr (inr e)) = of_stop u e

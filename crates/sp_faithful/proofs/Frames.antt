@@ -70,10 +70,10 @@ image_at f (x ∷ xs) (suc i) y e =
 -- the homes of a pair of frames
 block_home : (p : Program) (h : Home) (k : m.Home) (b : ℕ) → HomesAre p h k → k ≡ m.OfBlock b
     → (h ≡ OfBlock b) × ((c : Block) × (slice_get p.blocks b ≡ Some c))
-block_home p (OfBlock a) (m.OfBlock c) b e d =
+block_home p (OfBlock a) (m.OfBlock c) b (same_block, (block, known)) d =
     let same : c ≡ b = cc d in
-    let all : a ≡ b = e.0 ∙ same in
-    (ap OfBlock all, (e.1.0, ap (slice_get p.blocks) (sym all) ∙ e.1.1))
+    let all : a ≡ b = same_block ∙ same in
+    (ap OfBlock all, (block, ap (slice_get p.blocks) (sym all) ∙ known))
 block_home p (OfBlock a) (m.OfIndex x) b e d = absurd e
 block_home p (OfIndex x v) (m.OfBlock c) b e d = absurd e
 block_home p (OfIndex x v) (m.OfIndex y) b e d = absurd (cc d)
@@ -126,8 +126,8 @@ frame_at p Called (j ∷ js) zero f e k = record {
   from = from_here j js;
   paired = k;
 }
-frame_at p Called (j ∷ js) (suc h) f e k =
-    let z = frame_at p Called js h f e k.6 in
+frame_at p Called (j ∷ js) (suc h) f e (_, _, _, _, _, _, others) =
+    let z = frame_at p Called js h f e others in
     record {
       joint = z.joint;
       rest = z.rest;
@@ -246,6 +246,9 @@ module _ (tree : c.Program) (input : List ℕ) (limits : Limits) (moves shares :
           address = ap (λ (y : m.Frame). cell_at y.number k) (sym at.machine_is)
               ∙ ap (cell_at at.joint.machine.number) (sym number)
 
+          number_is : at.joint.source.number ≡ length at.rest
+          number_is = let (_, _, _, number_is, _, _, _) = at.paired in number_is
+
           points : PointsTo p js (in_frame g x (variable_of u) o) (cell_at at.joint.machine.number (slot p x))
           points = record {
             owner = o.owner;
@@ -258,7 +261,7 @@ module _ (tree : c.Program) (input : List ℕ) (limits : Limits) (moves shares :
               owns = owns;
               joint = at.joint;
               rest = at.rest;
-              frame_at = subst (λ z. pairs_from (suc z) js ≡ at.joint ∷ at.rest) (sym at.paired.3) at.from;
+              frame_at = subst (λ z. pairs_from (suc z) js ≡ at.joint ∷ at.rest) (sym number_is) at.from;
               owner_is = refl;
               home = home ∙ ap OfBlock (sym block);
             };
@@ -267,20 +270,22 @@ module _ (tree : c.Program) (input : List ℕ) (limits : Limits) (moves shares :
             typed = formed.kinds x (variable_of u) bare;
           }
       variable_stands b home fs k x u known bare block number (ByReference refers found) =
-          let r = at.paired.5 x (variable_of u) bare (home ∙ ap OfBlock (sym block)) refers in
+          let (_, _, _, _, _, references, _) = at.paired in
+          let (target, target_is, same_kind, (place, place_is, points)) =
+          references x (variable_of u) bare (home ∙ ap OfBlock (sym block)) refers in
           record {
             variable = u;
             known = known;
-            place = r.0;
-            place_is = ap (place_by g o x (variable_of u)) refers ∙ r.1;
-            says = λ may. subst (λ y. Says w u (get_at r.0.path (value_in (s r.0.spot))) joins
+            place = target;
+            place_is = ap (place_by g o x (variable_of u)) refers ∙ target_is;
+            says = λ may. subst (λ y. Says w u (get_at target.path (value_in (s target.spot))) joins
                 (variable_line w n.store x y))
                 (sym (found f ∙ ap (λ (y : m.Frame). m.reference_target k y.references) (sym at.machine_is)
-                ∙ ap (λ y. m.reference_target y at.joint.machine.references) (sym number) ∙ r.3.1))
-                (says u x known r.0 r.3.0
-                (points_in p (suc (length at.rest)) js r.0 r.3.0
-                (subst (λ z. PointsTo p z r.0 r.3.0) (sym at.from)
-                (points_push p at.joint at.rest r.0 r.3.0 r.3.2))) r.2 may);
+                ∙ ap (λ y. m.reference_target y at.joint.machine.references) (sym number) ∙ place_is))
+                (says u x known target place
+                (points_in p (suc (length at.rest)) js target place
+                (subst (λ z. PointsTo p z target place) (sym at.from)
+                (points_push p at.joint at.rest target place points))) same_kind may);
           }
 
       -- one of those of the layout
@@ -288,25 +293,24 @@ module _ (tree : c.Program) (input : List ℕ) (limits : Limits) (moves shares :
           → slice_get l.variables k ≡ Some x
           → VariableStands w g May s n.store joins o f l.formals (first_variable f.home + k) x
       of_layout b l home found k x e =
-          let both = block_home p o.home at.joint.machine.home b at.paired.0
+          let (home_is, (block, block_known)) = block_home p o.home at.joint.machine.home b at.paired.0
           (ap (λ (y : m.Frame). y.home) at.machine_is ∙ home) in
-          let block = both.1.0 in
-          let z = laid b block both.1.1 in
+          let z = laid b block block_known in
           let layout_is : l ≡ emitted.layout_of p b z.0.entry block = same_Some l z.0 (sym found ∙ z.1) ∙ z.2 in
-          let v = variable_at p formed b block both.1.1 k x
+          let v = variable_at p formed b block block_known k x
           (sym (ap (λ (y : Layout). slice_get y.variables k) layout_is) ∙ e) in
           let u = image_at variable_of tree.variables x v.variable v.known in
           let fs = map (λ y. formal_by p (slice_get p.variables y)) block.formals in
           subst (λ y. VariableStands w g May s n.store joins o f l.formals (first_variable y + k) x) (sym home)
           (subst (λ (y : List Formal). VariableStands w g May s n.store joins o f y (first_variable (m.OfBlock b) + k)
           x) (sym (ap (λ (y : Layout). y.formals) layout_is))
-          (variable_stands b both.0 fs (first_variable (m.OfBlock b) + k) x u.of u.there
+          (variable_stands b home_is fs (first_variable (m.OfBlock b) + k) x u.of u.there
           (v.known ∙ ap Some (sym u.image)) (ap (λ (y : Variable). y.block) u.image ∙ v.block) v.slot_is
           (subst (λ y. HowFound fs (first_variable (m.OfBlock b) + k) y) (sym u.image) v.found)))
 
       frame_stands : FrameStands w g May s n.store joins o f
       frame_stands = record {
-        owner = called o.owner at.joint.machine.owner at.paired.4
+        owner = let (_, _, _, _, called_so, _, _) = at.paired in called o.owner at.joint.machine.owner called_so
             ∙ ap (λ (y : m.Frame). (births es).name y.owner) at.machine_is;
         block = λ b e. (block_home p o.home at.joint.machine.home b at.paired.0
             (ap (λ (y : m.Frame). y.home) at.machine_is ∙ e)).0;

@@ -280,33 +280,35 @@ module _ (p : Program) (formed : IsFormed p) (b : ℕ) (k : Block) (eb : slice_g
       parameter : slice_get k.formals i ≡ Some x → IsVariableAt i x
       parameter h =
           let among = member_at k.formals i x h in
-          let a = of is_parameter (subst (λ z. IsMember x z) (formed.formals b k eb) among) in
+          let (variable, known, of_block, fits) = of is_parameter
+          (subst (λ z. IsMember x z) (formed.formals b k eb) among) in
           let none = no_program x among in
           let at : first + i ≡ i = omega (arith, none) in
           record {
-            variable = a.0;
-            known = a.1;
-            block = a.2;
-            slot_is = number a.0 a.1 a.2;
-            found = by_role (first + i) a.0 a.3 (map (λ y. formal_by p (slice_get p.variables y)) k.formals)
+            variable = variable;
+            known = known;
+            block = of_block;
+            slot_is = number variable known of_block;
+            found = by_role (first + i) variable fits (map (λ y. formal_by p (slice_get p.variables y)) k.formals)
                 (ap (slice_get (map (λ y. formal_by p (slice_get p.variables y)) k.formals)) at
                 ∙ get_of_map (λ y. formal_by p (slice_get p.variables y)) k.formals i x h
-                ∙ ap (λ y. Some (formal_by p y)) a.1);
+                ∙ ap (λ y. Some (formal_by p y)) known);
           }
 
       in_frame : length k.formals ≤ i → (v : Variable) × (slice_get p.variables x ≡ Some v) × (v.block ≡ b)
           × Owns v.role → IsVariableAt i x
-      in_frame l a = record {
-        variable = a.0;
-        known = a.1;
-        block = a.2;
-        slot_is = number a.0 a.1 a.2;
-        found = InFrame a.3 (λ f. ap (address_by f (first + i)) (past i l));
+      in_frame l (variable, known, of_block, owns) = record {
+        variable = variable;
+        known = known;
+        block = of_block;
+        slot_is = number variable known of_block;
+        found = InFrame owns (λ f. ap (address_by f (first + i)) (past i l));
       }
 
       other : (length k.formals ≤ i) × IsMember x (some is_answer ++ some is_local) → IsVariableAt i x
       other h = in_frame h.0 (⊎_elim
-          (λ (j : IsMember x (some is_answer)). (let a = of is_answer j in
-          (a.0, a.1, a.2, owned_answer a.0.role a.3)))
-          (λ (j : IsMember x (some is_local)). (let a = of is_local j in (a.0, a.1, a.2, owned_local a.0.role a.3)))
+          (λ (j : IsMember x (some is_answer)). (let (variable, known, of_block, fits) = of is_answer j in
+          (variable, known, of_block, owned_answer variable.role fits)))
+          (λ (j : IsMember x (some is_local)). (let (variable, known, of_block, fits) = of is_local j in
+          (variable, known, of_block, owned_local variable.role fits)))
           (member_either x (some is_answer) (some is_local) h.1))

@@ -219,7 +219,8 @@ module _ (tree : c.Program) (input : List ℕ) (limits : Limits) (moves shares :
       (λ z. absurd (cc z)) in
       let y : Performs_all G along.lives (name i) along.course s (t.births.opens i) (sys.Joins left (At pc stack k)) =
       subst (λ z. Performs_all G along.lives (name i) along.course s (t.births.opens i) z) e (linked.does i there) in
-      joined i y.0 y.1 left y.2 (ap process_in y.3) (At pc stack k) y.4 pc stack k m refl h.1 joins h.0
+      let (fork, count, own, joining, stood, _, _) = y in
+      joined i fork count left own (ap process_in joining) (At pc stack k) stood pc stack k m refl h.1 joins h.0
   process_is_true i joins m (sys.Laid d) e h = absurd h
   process_is_true i joins m sys.Gone e h = absurd h
   process_is_true i joins m (sys.Over d) e h = absurd h

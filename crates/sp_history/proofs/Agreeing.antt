@@ -50,28 +50,23 @@ pending_at p a b m n e h q = go (p == q)
     go true = e
     go false = h q
 
--- who waits goes on when the message has gone over
-waits_runs : (w : Way) (c : ℕ) (x : Phase) → phase (waits_by w c) ≡ x → (x ≢ Running) × (x ≢ Never)
-    × ((n : ℕ) → x ≢ ToJoin n) × (x ≢ Down) × (x ≢ Finished)
-waits_runs way.Send c x e = (
-  (λ f. absurd (cc (e, f))),
-  (λ f. absurd (cc (e, f))),
-  (λ n f. absurd (cc (e, f))),
-  (λ f. absurd (cc (e, f))),
-  (λ f. absurd (cc (e, f))),
-)
-waits_runs way.Receive c x e = (
-  (λ f. absurd (cc (e, f))),
-  (λ f. absurd (cc (e, f))),
-  (λ n f. absurd (cc (e, f))),
-  (λ f. absurd (cc (e, f))),
-  (λ f. absurd (cc (e, f))),
-)
+-- who waits for a message is in no other phase
+abbrev IsToWait : Phase → Type 0
+IsToWait (ToSend c) = Unit
+IsToWait (ToReceive c) = Unit
+IsToWait _ = ⊥
+
+waits_runs : (w : Way) (c : ℕ) (x : Phase) → phase (waits_by w c) ≡ x → IsToWait x
+waits_runs w c x e = subst IsToWait e (to_wait w)
+  where
+    to_wait : (w : Way) → IsToWait (phase (waits_by w c))
+    to_wait way.Send = tt
+    to_wait way.Receive = tt
 
 module _ {S : Type 0} (stores : Stores S) (g : CodeRun) where
   received_runs : (w : Way) (c : ℕ) (cs : List Cell) (x : Condition S) → phase (waits_by w c) ≡ phase_in x
       → phase_in (after_message stores g cs x) ≡ Running
-  received_runs w c cs Absent e = absurd ((waits_runs w c Never e).1 refl)
+  received_runs w c cs Absent e = absurd (waits_runs w c Never e)
   received_runs w c cs (Working d) e = refl
   received_runs w c cs (Waits (Receives ch k a) d) e = refl
   received_runs w c cs (Waits (Sends ch k bs) d) e = refl
@@ -79,10 +74,10 @@ module _ {S : Type 0} (stores : Stores S) (g : CodeRun) where
   received_runs w c cs (Waits (Opens a) d) e = refl
   received_runs w c cs (Waits Ends d) e = refl
   received_runs w c cs (Waits Pauses d) e = refl
-  received_runs w c cs (Joins n d) e = absurd ((waits_runs w c (ToJoin n) e).2 n refl)
-  received_runs w c cs (IsLaid d) e = absurd ((waits_runs w c Down e).3 refl)
-  received_runs w c cs HasGone e = absurd ((waits_runs w c Finished e).4 refl)
-  received_runs w c cs (Over d) e = absurd ((waits_runs w c Finished e).4 refl)
+  received_runs w c cs (Joins n d) e = absurd (waits_runs w c (ToJoin n) e)
+  received_runs w c cs (IsLaid d) e = absurd (waits_runs w c Down e)
+  received_runs w c cs HasGone e = absurd (waits_runs w c Finished e)
+  received_runs w c cs (Over d) e = absurd (waits_runs w c Finished e)
 
 -- ---- one child fewer
 
@@ -401,17 +396,19 @@ agrees_takes k s a w (Some q) i = record {
 
 pub orderly_takes : (k : Control) → IsOrderly k → (w : ℕ) (got : Option ℕ) → IsGot k got → IsOrderly (takes w got k)
 orderly_takes k h w None i = h
-orderly_takes k h w (Some q) i = record {
-  queue = subst (λ r. IsQueue (at_key ◌==◌ q (Out w) k.doing) r) (sym (ap queue_tail i.0.1))
-      (queue_take k.doing q i.0.0 (Out w) (subst (λ r. IsQueue k.doing r) i.0.1 h.queue) (λ e. absurd (cc e)));
+orderly_takes k h w (Some q) ((rest, queue_is), is_ready) = record {
+  queue = subst (λ r. IsQueue (at_key ◌==◌ q (Out w) k.doing) r) (sym (ap queue_tail queue_is))
+      (queue_take k.doing q rest (Out w) (subst (λ r. IsQueue k.doing r) queue_is h.queue) (λ e. absurd (cc e)));
   unborn = λ r l. at_other k.doing q r (Out w) (λ e. absurd (late r e l)) ∙ h.unborn r l;
-  pending = λ c z v e. at_other k.doing q z (Out w) (λ is. no_wait v c (sym i.1 ∙ ap k.doing is ∙ h.pending c z v e))
+  pending =
+      λ c z v e. at_other k.doing q z (Out w) (λ is. no_wait v c (sym is_ready ∙ ap k.doing is ∙ h.pending c z v e))
       ∙ h.pending c z v e;
   parents = h.parents;
 }
   where
     late : (r : ℕ) → q ≡ r → k.births.processes ≤ r → ⊥
-    late r e l = let u : k.doing r ≡ Unborn = h.unborn r l in let t : k.doing r ≡ Ready = ap k.doing (sym e) ∙ i.1 in
+    late r e l =
+        let u : k.doing r ≡ Unborn = h.unborn r l in let t : k.doing r ≡ Ready = ap k.doing (sym e) ∙ is_ready in
         absurd (cc (u, t))
 
     no_wait : (v : Way) (c : ℕ) → Ready ≡ waits_by v c → ⊥

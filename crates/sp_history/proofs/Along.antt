@@ -10,6 +10,6 @@ use Rattle.sp_code.specs.System.{System, EntriesLead}
 pub births_along : (g : memory.CodeRun) (es : List Entry) (s t : System Plain) → EntriesLead plain g s es t
     → t.births ≡ births_from s.births es
 births_along g [] s t h = ap (λ (y : System Plain). y.births) h
-births_along g (e ∷ es) s t h =
-    births_along g es h.0 t h.2 ∙ ap (λ (y : System Plain). births_from y.births es) h.1.5
-    ∙ ap (λ y. births_from (births_after_event s.births e.process y) es) h.1.4
+births_along g (e ∷ es) s t (next, (_, _, _, _, event_is, leads), more) =
+    births_along g es next t more ∙ ap (λ (y : System Plain). births_from y.births es) leads
+    ∙ ap (λ y. births_from (births_after_event s.births e.process y) es) event_is

@@ -432,8 +432,8 @@ module _ (g : CodeRun) (s : System Plain) (q : ℕ) (c0 : Config (Memory Plain))
           })
       by_fault (Some f) w e x is k = laid (config_of x) true (config_mine x k)
       by_fault None w e (Faulted f d) is k = laid d true k
-      by_fault None w e (Stopped stop d) is k =
-          happens_held stop d k.1 k.0.1 (record {
+      by_fault None w e (Stopped stop d) is ((_, aims), holds) =
+          happens_held stop d holds aims (record {
             configuration = c0;
             runs = runs;
             turn = subst (IsTurn (memory plain g) g.code c0) is turn;
@@ -523,13 +523,16 @@ module _ (g : CodeRun) where
   enters_fine : (k : Control) (s t : System Plain) (p w : ℕ) (e : Event) → IsOrderly k → AgreesWithSystem k s
       → HasChildren k
       → k.doing p ≡ Out w → EntryLeads plain g s p e t → SystemInvariant s → SystemInvariant t
-  enters_fine k s t p w e o a c out n f = record {
-    held = subst HasHolder (sym n.5) (after_held g s p n.0 n.1 f.held f.counted f.born (f.safe [] s refl) joins n.2
-        n.3);
-    counted = subst IsCounted (sym n.5) (after_counted g s p n.0 n.1 f.counted n.2);
-    born = subst (λ (y : System Plain). IsBorn y.births) (sym n.5)
-        (born_event s.births p (event_of g.limits s n.2) (there g s p n.0 n.1 f.counted) f.born);
-    safe = λ es u l. f.safe (record { process = p; event = e } ∷ es) u (t, n, l);
+  enters_fine k s t p w e o a c out (configuration, runs, turn, is_turn, event_is, leads) f = record {
+    held =
+        subst HasHolder (sym leads) (after_held g s p configuration runs f.held f.counted f.born (f.safe [] s refl)
+        joins turn is_turn);
+    counted = subst IsCounted (sym leads) (after_counted g s p configuration runs f.counted turn);
+    born = subst (λ (y : System Plain). IsBorn y.births) (sym leads)
+        (born_event s.births p (event_of g.limits s turn) (there g s p configuration runs f.counted) f.born);
+    safe =
+        λ es u l. f.safe (record { process = p; event = e } ∷ es) u
+        (t, (configuration, runs, turn, is_turn, event_is, leads), l);
   }
     where
       joins : (b : Birth) → s.births.birth p ≡ Some b → (i : ℕ) × (d : Config (Memory Plain))

@@ -168,8 +168,8 @@ module _ (k : Control) (l : QueueState) (p w : ℕ) (o : IsOrderly k) (h : HasCh
 line_takes : (k : Control) (l : QueueState) (w : ℕ) (got : Option ℕ) → InLine k l None → IsGot k got
     → InLine (takes w got k) l got
 line_takes k l w None i g = i
-line_takes k l w (Some q) i g = record {
-  ready = i.ready ∙ g.0.1 ∙ ap (λ r. q ∷ r) (sym (ap queue_tail g.0.1));
+line_takes k l w (Some q) i ((_, queue_is), _) = record {
+  ready = i.ready ∙ queue_is ∙ ap (λ r. q ∷ r) (sym (ap queue_tail queue_is));
   pending = i.pending;
   awaited = no_join k.doing l.awaited q (Out w) (λ n f. absurd (cc f)) i.awaited;
 }

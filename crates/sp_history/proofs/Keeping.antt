@@ -346,5 +346,5 @@ module _ {M : Type 0} (ops : Ops M) (code : Parts) (C : ℕ → Type 0) (I : M �
   turn_has c t h turn = go t (turn_does ops code C I Anywhere law c t h turn)
     where
       go : (t : Turn M) → TurnDoes C I Anywhere t → TurnHas C I t
-      go (Stopped stop d) k = (k.0.0, k.1)
+      go (Stopped stop d) ((stops, _), holds) = (stops, holds)
       go (Faulted f d) k = k

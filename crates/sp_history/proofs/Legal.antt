@@ -11,7 +11,7 @@ use Rattle.sp_code.specs.Memory.{CodeRun, Stores, Memory}
 use Rattle.sp_code.specs.Control.{Control, Doing, Ready, Out, Gone, comes_back, abandons, takes, after_give, after_note}
 use Rattle.sp_code.specs.Control.{after_notes, front, front_of, front_while, Standing, Running}
 use Rattle.sp_code.specs.Control.{standing, entry_of, entries_of}
-use Rattle.sp_code.specs.System.{System, Working, system_after_turn, EntryLeads, GiveIsLegal, GetIsLegal, EntriesLead}
+use Rattle.sp_code.specs.System.{System, Working, system_after_turn, GiveIsLegal, GetIsLegal, EntriesLead}
 use Rattle.sp_code.specs.System.{LegalFrom}
 use Rattle.sp_code.proofs.Systems.{enters_same}
 use Rattle.sp_history.specs.Agreement.{EachNumber, IsOrderly, AgreesWithSystem, IsGot, NoteLeads, Reaches, NoneBy}
@@ -84,12 +84,12 @@ module _ {S : Type 0} (stores : Stores S) (g : CodeRun) where
       )
   kept_by w (Some p) None (Some q) k s t h a i j = absurd (cc (i.1))
   kept_by w (Some p) (Some e) got k s t h a i j =
-      let c : EntryLeads stores g s p e t = i.1 in
+      let (_, _, turn, _, event_is, leads) = i.1 in
       let m : Control = comes_back p e k in
       let hm : IsOrderly m = orderly_back k h p w e i.0 in
-      let am : AgreesWithSystem m t = subst (λ x. AgreesWithSystem m x) (sym c.5)
-      (subst (λ x. AgreesWithSystem (comes_back p x k) (system_after_turn stores g p c.2 s)) c.4
-      (agrees_after stores g k s h a p w i.0 c.2)) in
+      let am : AgreesWithSystem m t = subst (λ x. AgreesWithSystem m x) (sym leads)
+      (subst (λ x. AgreesWithSystem (comes_back p x k) (system_after_turn stores g p turn s)) event_is
+      (agrees_after stores g k s h a p w i.0 turn)) in
       let f = got_of m hm got j in
       (orderly_takes m hm w got f, agrees_takes m t am w got f)
 
@@ -115,9 +115,9 @@ module _ {S : Type 0} (stores : Stores S) (g : CodeRun) where
   pub legal_reaches : (k : Control) (s : System S) (ns : List Note) → LegalFrom stores g k s ns → (t : System S)
       × Reaches stores g k s ns t
   legal_reaches k s [] l = (s, refl)
-  legal_reaches k s (n ∷ ns) l =
-      let r = legal_reaches (after_note n k) l.0 ns l.3 in
-      (r.0, (l.0, record { gives = l.1; gets = l.2 }, r.1))
+  legal_reaches k s (n ∷ ns) (next, gives, gets, legal) =
+      let r = legal_reaches (after_note n k) next ns legal in
+      (r.0, (next, record { gives = gives; gets = gets }, r.1))
 
   gives_leads : (w : ℕ) (give : Option ℕ) (e : Option Event) (got : Option ℕ) (k : Control) (s t u : System S)
       (es : List Entry) → GiveIsLegal stores g k s w give e got t → EntriesLead stores g t es u
@@ -193,12 +193,12 @@ module _ {S : Type 0} (stores : Stores S) (g : CodeRun) where
       go (Some q) None (Some r) i j = absurd (cc (i.1))
       go (Some q) (Some e) got i j =
           let other : q ≢ p = λ is. apart (same_worker (k.doing p) v w (ap k.doing (sym is) ∙ i.0) out) in
-          let en : EntryLeads stores g s q e t = i.1 in
+          let (_, _, turn, _, _, leads) = i.1 in
           let m : Control = comes_back q e k in (
             taken m (back_out k h p w q out other e) got (got_of m (orderly_back k h q v e i.0) got j),
-            ap (λ (x : System S). x.condition p) en.5
+            ap (λ (x : System S). x.condition p) leads
                 ∙ after_same stores g s p q c runs
-                (subst (λ (b : Births). p < b.processes) a.births (out_there h p w out)) other en.2,
+                (subst (λ (b : Births). p < b.processes) a.births (out_there h p w out)) other turn,
           )
 
   -- while its worker leaves no note, a process that is out is as it was

@@ -246,19 +246,19 @@ module _ (g : CodeRun) (lim : AreLimits g.limits) where
   leads_nameable : (s : System Plain) (es : List Entry) (t : System Plain) → IsCounted s → NamesChannels s
       → EntriesLead plain g s es t → NameableFrom s.births es
   leads_nameable s [] t h k l = tt {0}
-  leads_nameable s (e ∷ es) t h k l =
-      let n = l.1 in
-      let next : IsCounted l.0 = subst IsCounted (sym n.5) (after_counted g s e.process n.0 n.1 h n.2) in
-      let b : births_after_event s.births e.process e.event ≡ l.0.births =
-      ap (λ (x : Event). births_after_event s.births e.process x) (sym n.4)
-      ∙ ap (λ (x : System Plain). x.births) (sym n.5) in (
+  leads_nameable s (e ∷ es) t h k (u, leads, more) =
+      let (c, runs, turn, is_turn, event_is, after) = leads in
+      let next : IsCounted u = subst IsCounted (sym after) (after_counted g s e.process c runs h turn) in
+      let b : births_after_event s.births e.process e.event ≡ u.births =
+      ap (λ (x : Event). births_after_event s.births e.process x) (sym event_is)
+      ∙ ap (λ (x : System Plain). x.births) (sym after) in (
         (
-          there g s e.process n.0 n.1 h,
-          subst (GivesNumbers s.births e.process) n.4
-              (turn_numbers s e.process n.0 n.2 h k n.1 n.3),
+          there g s e.process c runs h,
+          subst (GivesNumbers s.births e.process) event_is
+              (turn_numbers s e.process c turn h k runs is_turn),
         ),
         subst (λ (x : Births). NameableFrom x es) (sym b)
-            (leads_nameable l.0 es t next (enters_spoken g s e.process e.event l.0 k n) l.2),
+            (leads_nameable u es t next (enters_spoken g s e.process e.event u k leads) more),
       )
 
   pub system_nameable : (es : List Entry) (s : System Plain) → IsSystem plain g es s → NameableFrom first_births es

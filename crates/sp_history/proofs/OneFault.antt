@@ -53,24 +53,24 @@ module _ {S : Type 0} (stores : Stores S) (g : CodeRun) where
       → (i : ℕ) (e : Entry)
       → slice_get es i ≡ Some e → e.event ≡ event.Laid
   laid_after s t [] h l i e w = absurd cc
-  laid_after s t (x ∷ es) h l zero e w =
+  laid_after s t (x ∷ es) h (_, (_, _, turn, _, event_is, _), _) zero e w =
       let is : x ≡ e = cc in
-      ap (λ (y : Entry). y.event) (sym is) ∙ sym l.1.4 ∙ (stands s x.process l.1.2 h).1
-  laid_after s t (x ∷ es) h l (suc i) e w = laid_after l.0 t es
-      (ap (λ (y : System S). y.faulted) l.1.5 ∙ (stands s x.process l.1.2 h).0) l.2 i e w
+      ap (λ (y : Entry). y.event) (sym is) ∙ sym event_is ∙ (stands s x.process turn h).1
+  laid_after s t (x ∷ es) h (u, (_, _, turn, _, _, leads), more) (suc i) e w = laid_after u t es
+      (ap (λ (y : System S). y.faulted) leads ∙ (stands s x.process turn h).0) more i e w
 
   pub one_fault : (s t : System S) (es : List Entry) → EntriesLead stores g s es t → (i j : ℕ) (d e : Entry)
       → slice_get es i ≡ Some d → slice_get es j ≡ Some e → IsFaulty d.event → IsFaulty e.event → i ≡ j
   one_fault s t [] l i j d e w x f h = absurd cc
   one_fault s t (y ∷ es) l zero zero d e w x f h = refl
-  one_fault s t (y ∷ es) l zero (suc j) d e w x f h =
+  one_fault s t (y ∷ es) (u, (_, _, turn, _, event_is, leads), more) zero (suc j) d e w x f h =
       let is : y ≡ d = cc in
-      let stood = begins s y.process l.1.2 f.0 (l.1.4 ∙ ap (λ (z : Entry). z.event) is ∙ f.1) in
-      let laid = laid_after l.0 t es (ap (λ (z : System S). z.faulted) l.1.5 ∙ stood) l.2 j e x in
+      let stood = begins s y.process turn f.0 (event_is ∙ ap (λ (z : Entry). z.event) is ∙ f.1) in
+      let laid = laid_after u t es (ap (λ (z : System S). z.faulted) leads ∙ stood) more j e x in
       let w1 = h.1 in absurd (cc (laid, w1))
-  one_fault s t (y ∷ es) l (suc i) zero d e w x f h =
+  one_fault s t (y ∷ es) (u, (_, _, turn, _, event_is, leads), more) (suc i) zero d e w x f h =
       let is : y ≡ e = cc in
-      let stood = begins s y.process l.1.2 h.0 (l.1.4 ∙ ap (λ (z : Entry). z.event) is ∙ h.1) in
-      let laid = laid_after l.0 t es (ap (λ (z : System S). z.faulted) l.1.5 ∙ stood) l.2 i d w in
+      let stood = begins s y.process turn h.0 (event_is ∙ ap (λ (z : Entry). z.event) is ∙ h.1) in
+      let laid = laid_after u t es (ap (λ (z : System S). z.faulted) leads ∙ stood) more i d w in
       let w1 = f.1 in absurd (cc (laid, w1))
   one_fault s t (y ∷ es) l (suc i) (suc j) d e w x f h = ap suc (one_fault l.0 t es l.2 i j d e w x f h)

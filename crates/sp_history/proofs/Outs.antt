@@ -156,7 +156,7 @@ outs_back k h o p u e out = record {
     kept : (xs : List ℕ) → EachNumber (λ q. IsOut (k.doing q)) xs → EachNumber (λ y. y ≢ p) xs
         → EachNumber (λ q. IsOut ((comes_back p e k).doing q)) xs
     kept [] a b = tt {0}
-    kept (x ∷ xs) a b = ((a.0.0, back_out k h x a.0.0 p a.0.1 (λ i. b.0 (sym i)) e), kept xs a.1 b.1)
+    kept (x ∷ xs) ((w, is_out), others) b = ((w, back_out k h x w p is_out (λ i. b.0 (sym i)) e), kept xs others b.1)
 
 outs_takes : (k : Control) → HasOuts k → (w : ℕ) (got : Option ℕ) → IsGot k got → HasOuts (takes w got k)
 outs_takes k o w None i = record { outs = o.outs; count = o.count; distinct = o.distinct; each = o.each; all = o.all }
@@ -200,7 +200,8 @@ outs_gives_up k o p u out = record {
     kept : (xs : List ℕ) → EachNumber (λ q. IsOut (k.doing q)) xs → EachNumber (λ y. y ≢ p) xs
         → EachNumber (λ q. IsOut (at_key ◌==◌ p Gone k.doing q)) xs
     kept [] a b = tt {0}
-    kept (x ∷ xs) a b = ((a.0.0, at_other k.doing p x Gone (λ i. b.0 (sym i)) ∙ a.0.1), kept xs a.1 b.1)
+    kept (x ∷ xs) ((w, is_out), others) b =
+        ((w, at_other k.doing p x Gone (λ i. b.0 (sym i)) ∙ is_out), kept xs others b.1)
 
 module _ {S : Type 0} (stores : Stores S) (g : CodeRun) where
   -- a legal note keeps the count

@@ -61,7 +61,8 @@ module _ (C D : ℕ → Type 0) (weaker : (c : ℕ) → C c → D c) where
   stop_weak _ _ = tt
 
   config_weak : (q : ℕ) (c : Config (Memory Plain)) → ConfigHas C (MemoryHas C q) c → ConfigHas D (MemoryHas D q) c
-  config_weak q (At pc st n) h = (entries_weak st h.0, (h.1.0, λ p. cells_weak (cells_at plain n.store p) (h.1.1 p)))
+  config_weak q (At pc st n) (entries, (number_is, store)) =
+      (entries_weak st entries, (number_is, λ p. cells_weak (cells_at plain n.store p) (store p)))
 
   condition_weak : (q : ℕ) (x : Condition Plain) → ConditionHas C q x → ConditionHas D q x
   condition_weak q Absent h = tt
@@ -91,11 +92,11 @@ module _ (g : CodeRun) (C : ℕ → Type 0) where
       go false e = a r
 
   store_has : (q : ℕ) (c : Config (Memory Plain)) → Mine q c → StoreHas C plain (store_of c)
-  store_has q (At pc st n) h = h.1.1
+  store_has q (At pc st n) (_, (_, store)) = store
 
   on_has : (q : ℕ) (f : Plain → Plain) (c : Config (Memory Plain))
       → (StoreHas C plain (store_of c) → StoreHas C plain (f (store_of c))) → Mine q c → Mine q (on_store f c)
-  on_has q f (At pc st n) k h = (h.0, (h.1.0, k h.1.1))
+  on_has q f (At pc st n) k (entries, (number_is, store)) = (entries, (number_is, k store))
 
   entered_has : (q : ℕ) (c : Config (Memory Plain)) → Mine q c → Mine q (process_at_entry c)
   entered_has q (At pc st n) h = h
@@ -275,7 +276,8 @@ module _ (g : CodeRun) where
   pub enters_spoken : (s : System Plain) (q : ℕ) (e : Event) (t : System Plain) → NamesChannels s
       → EntryLeads plain g s q e t
       → NamesChannels t
-  enters_spoken s q e t h n = subst NamesChannels (sym n.5) (after_spoken s q n.2 h (turn_spoken s q n.0 n.2 h n.1 n.3))
+  enters_spoken s q e t h (configuration, runs, turn, is_turn, _, leads) =
+      subst NamesChannels (sym leads) (after_spoken s q turn h (turn_spoken s q configuration turn h runs is_turn))
 
   leads_spoken : (s : System Plain) (es : List Entry) (t : System Plain) → NamesChannels s → EntriesLead plain g s es t
       → NamesChannels t
