@@ -12,7 +12,7 @@ use Rattle.sp_code.specs.declared.code.Parts.{Parts}
 use Rattle.sp_verify_rules.specs.Areas.{Body, instr_at}
 use Rattle.sp_verify_rules.specs.Shapes.{Shape, instr_shapes}
 use Rattle.sp_verify_rules.specs.Reach.{BringsShapes, LeadsWith}
-use Rattle.sp_verify_rules.specs.Named.{BreaksV1, OutOfRange, in_range}
+use Rattle.sp_verify_rules.specs.NameRules.{BreaksV1, OutOfRange, in_range}
 use Rattle.sp_verify_rules.specs.Rules.{BreaksV5, AnswersByReference}
 use Rattle.sp_verify_rules.specs.Verdict.{is_stop, HasStop, BreaksV8}
 

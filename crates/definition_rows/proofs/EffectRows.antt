@@ -12,7 +12,8 @@ use Rattle.sp_code.specs.Machine.{layout_of}
 use Rattle.sp_verify_rules.specs.Areas.{Area, Body, instr_at, child_at}
 use Rattle.sp_verify_rules.specs.Shapes.{Shape, O, A}
 use Rattle.sp_verify_rules.specs.Reach.{IsIn, Reaches}
-use Rattle.sp_verify_rules.specs.Effects.{Kind, Stored, Loaded, Does, does_at, EffectBy, IsEffect, HasEffect, IsCalled}
+use Rattle.sp_verify_rules.specs.Effects.{EffectKind, Stored, Loaded, Does, does_at, EffectBy, IsEffect, HasEffect}
+use Rattle.sp_verify_rules.specs.Effects.{IsCalled}
 use Rattle.sp_verify_rules.specs.Effects.{Becomes}
 use Rattle.sp_verify_rules.specs.Forks.{BreaksV7Inside}
 use Rattle.sp_verify_rules.specs.Verdict.{HasStop, Inside, BreaksV7, BreaksV8}
@@ -106,7 +107,7 @@ called_at (suc (suc zero)) f up e = let z : 1 ≡ f = cc e in sym z
 called_at (suc (suc (suc zero))) f up e = absurd (cc e)
 called_at (suc (suc (suc (suc p)))) f up e = absurd (cc e)
 
-done_at : (e : Kind) (p : ℕ) (ss : List Shape) (x : ℕ) → IsIn x (does_at writing e (Body 1) p ss) → x ≡ 1
+done_at : (e : EffectKind) (p : ℕ) (ss : List Shape) (x : ℕ) → IsIn x (does_at writing e (Body 1) p ss) → x ≡ 1
 done_at Stored zero ss x h = absurd h
 done_at Stored (suc zero) ss x (inl h) = h
 done_at Stored (suc zero) ss x (inr h) = absurd h
@@ -135,7 +136,7 @@ becomes_output l ss y x is h (inr z) = absurd (none z.0 (subst (λ w. slice_get 
     none zero e = cc e
     none (suc k) e = cc e
 
-only_output : (bs : List Area) (e : Kind) (x : ℕ) → EffectBy writing (Does writing) bs e (Body 1) x → x ≡ 1
+only_output : (bs : List Area) (e : EffectKind) (x : ℕ) → EffectBy writing (Does writing) bs e (Body 1) x → x ≡ 1
 only_output [] e x (inl d) = done_at e d.0 d.1 x d.3
 only_output [] e x (inr d) = let none = no_child d.0 d.1 in let some = d.3.1 in absurd (cc (none, some))
 only_output (b ∷ bs) e x (inl d) = let none = no_child d.0 d.1 in let some = d.4.1 in absurd (cc (none, some))

@@ -31,13 +31,13 @@ mod listings;
 #[cfg(test)]
 mod longest;
 #[cfg(test)]
-mod made;
-#[cfg(test)]
 mod names;
 #[cfg(test)]
 mod phases;
 #[cfg(test)]
 mod rows;
+#[cfg(test)]
+mod text_code;
 #[cfg(test)]
 mod tokens;
 #[cfg(test)]

@@ -1,6 +1,6 @@
 //! The code of each form of statement and expression, instruction by instruction, beside the tables of docs/CODE.md.
 
-use crate::made::is_listed;
+use crate::text_code::is_listed;
 use std::alloc::Global;
 use std::process::Abort;
 

@@ -1,7 +1,7 @@
 //! Texts whose code is as long as code may be, and longer.
 
-use crate::made::instructions;
 use crate::rows::{is_given, is_refused, repeated};
+use crate::text_code::instructions;
 use sp_base::Rule;
 use sp_front::{accepts, accepts_apart, compiled, compiled_apart};
 use std::alloc::Global;

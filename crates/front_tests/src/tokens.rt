@@ -1,9 +1,9 @@
-//! Tokens, the rules of characters, and the lesser of two broken rules.
+//! Tokens, the rules of characters, and the earlier_refusal of two broken rules.
 
 use crate::rows::{is_refused, repeated};
 use sp_base::{Place, Refusal, Rule};
 use sp_scan::{first_breach, scan, spelling};
-use sp_tree::{Kind, MAX_TEXT, Token, lesser, sign, word};
+use sp_tree::{Kind, MAX_TEXT, Token, earlier_refusal, sign, word};
 use std::alloc::Global;
 
 fn refuses(alloc: Global, text: &[u8], rule: Rule, line: u32, column: u32) -> bool {
@@ -171,8 +171,8 @@ fn takes_the_earlier_place_and_then_the_earlier_row(rt: HostRuntime) {
         rule: Rule::N1,
         at: later,
     };
-    assert!(rt; lesser(Some(n5), Some(n3)) == Some(n3));
-    assert!(rt; lesser(Some(n5), Some(n1)) == Some(n5));
-    assert!(rt; lesser(None, Some(n1)) == Some(n1));
-    assert!(rt; lesser(Some(n1), None) == Some(n1));
+    assert!(rt; earlier_refusal(Some(n5), Some(n3)) == Some(n3));
+    assert!(rt; earlier_refusal(Some(n5), Some(n1)) == Some(n5));
+    assert!(rt; earlier_refusal(None, Some(n1)) == Some(n1));
+    assert!(rt; earlier_refusal(Some(n1), None) == Some(n1));
 }

@@ -1,6 +1,6 @@
 //! The top call over a library, with an input and sinks in memory, and what it gives beside what is expected.
 
-ghost use Rattle.sp_report.specs.Telling.{AreFresh};
+ghost use Rattle.sp_report.specs.WatcherReports.{AreFresh};
 
 use sp_base::List;
 use sp_outside::{Library, MemorySink, MemorySource, OpenGate, Sink, Source};

@@ -1,6 +1,6 @@
 //! V1 of instructions, layouts and tables in themselves.
 
-use crate::verified::{File, Says, expect};
+use crate::verify_answers::{File, Says, expect};
 use sp_codefile::VRule;
 
 const FILES: [File; 7] = [

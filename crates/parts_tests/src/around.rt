@@ -1,6 +1,6 @@
 //! V1 by what is around instructions: levels, variables, homes, and what forks hand on.
 
-use crate::verified::{File, Says, expect};
+use crate::verify_answers::{File, Says, expect};
 use sp_codefile::VRule;
 
 const FILES: [File; 9] = [

@@ -1,6 +1,6 @@
 //! The code that code files hold: its listing, and each reader of code once.
 
-use crate::made::is_text;
+use crate::byte_lists::is_text;
 use sp_base::List;
 use sp_code::{Code, ForkTable, Instr, Parts, listing};
 use sp_codefile::decode;

@@ -1,7 +1,7 @@
 //! V6 to V8: what children are handed, variables that parameters stand for, and what blocks with a result may do. Where
 //! a child or a block breaks a rule as a whole, its first instruction is named.
 
-use crate::verified::{File, Says, expect};
+use crate::verify_answers::{File, Says, expect};
 use sp_codefile::VRule;
 
 const FILES: [File; 6] = [

@@ -6,8 +6,8 @@
 //!   with the table of offers.
 //! - `stores` tests `sp_store`: cells that are made own, stored, put and copied; the output; 10,000 frames pushed and
 //!   popped; a frame of 4,096 variables; what moves to a child and comes back; a fork of 100,000 children that share
-//!   one piece. `proofs/Rooted.antt` is what these tests know of a store that was just made, by which they meet what
-//!   the calls ask.
+//!   one piece. `proofs/FreshStores.antt` is what these tests know of a store that was just made, by which they meet
+//!   what the calls ask.
 //! - `journals` has worked journals and their texts, and long ones. `verdicts` has clocks (what a new, a raised and a
 //!   merged one knows), and the verdicts on journals written by hand; `witnesses` has the witness of a race. Both call
 //!   the laws of their crates once.
@@ -33,6 +33,8 @@ mod around;
 #[cfg(test)]
 mod base;
 #[cfg(test)]
+mod byte_lists;
+#[cfg(test)]
 mod cells;
 #[cfg(test)]
 mod channels;
@@ -43,17 +45,15 @@ mod code_files;
 #[cfg(test)]
 mod effects;
 #[cfg(test)]
-mod generated;
+mod gen_text;
+#[cfg(test)]
+mod instruction_places;
 #[cfg(test)]
 mod journals;
-#[cfg(test)]
-mod made;
 #[cfg(test)]
 mod operands;
 #[cfg(test)]
 mod outside;
-#[cfg(test)]
-mod placed;
 #[cfg(test)]
 mod reports;
 #[cfg(test)]
@@ -65,7 +65,7 @@ mod traces;
 #[cfg(test)]
 mod verdicts;
 #[cfg(test)]
-mod verified;
+mod verify_answers;
 #[cfg(test)]
 mod witnesses;
 #[cfg(test)]

@@ -1,6 +1,6 @@
 //! V2 to V5, on operands.
 
-use crate::verified::{File, Says, expect};
+use crate::verify_answers::{File, Says, expect};
 use sp_codefile::VRule;
 
 const FILES: [File; 8] = [

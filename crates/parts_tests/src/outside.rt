@@ -1,6 +1,6 @@
 //! The tests of `sp_outside`: its calls, with failing ones among them, and one run of each real adapter.
 
-use crate::made::add;
+use crate::byte_lists::add;
 use sp_base::{List, Text};
 use sp_outside::*;
 use std::alloc::Global;

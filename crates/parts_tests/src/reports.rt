@@ -2,7 +2,7 @@
 
 ghost use Rattle.sp_journal.specs.Births.{IsNameable};
 
-use crate::made::{add, is_text};
+use crate::byte_lists::{add, is_text};
 use sp_base::{List, Memory, Show};
 use sp_journal::{Entry, Event, Journal, read_journal};
 use sp_report::{Census, ProcessTree, Timeline, Waiting, Watcher, in_order, tell};

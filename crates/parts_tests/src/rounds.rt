@@ -1,6 +1,6 @@
 //! V9: ways back with no tick and no call.
 
-use crate::verified::{File, Says, expect};
+use crate::verify_answers::{File, Says, expect};
 use sp_codefile::VRule;
 
 const FILES: [File; 6] = [

@@ -1,6 +1,6 @@
 //! The tests of `sp_words`: what words ask for, row by row. Words that are refused are rows of `gallery/data/rows/`.
 
-use crate::made::add;
+use crate::byte_lists::add;
 use sp_base::{Limits, Show, Word, put_decimal};
 use sp_words::{Command, View, WordsError, read_words};
 use std::alloc::Global;

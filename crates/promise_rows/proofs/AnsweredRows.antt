@@ -3,7 +3,7 @@ use Rattle.std.proofs.Common.{◌≡◌, ◌≢◌, ◌⊎◌, inl, inr, ℕ, Li
 use Rattle.superpascal.specs.declared.ending.Answer.{Answer}
 use Rattle.superpascal.specs.Answers.{notes_of, output_of, status_of}
 use Rattle.superpascal.specs.Calls.{Call, Failed, IsUnwritten, WroteAll}
-use Rattle.promise_rows.specs.Observed.{Observed}
+use Rattle.promise_rows.specs.Observations.{Observed}
 use Rattle.promise_rows.proofs.Seen.{no_notes, no_rise, part_of_notes, part_of_output, whole_notes, whole_output}
 
 module _ {c : Call} {words : List (List ℕ)} {input out notes : List ℕ} (o : Observed c words input out notes) where

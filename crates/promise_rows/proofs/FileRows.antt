@@ -12,11 +12,11 @@ use Rattle.sp_code.specs.declared.instr.Instr.TheVariants as i
 use Rattle.sp_codefile.specs.CodeText.{AreLines, BeginsCode, FormalFits, InstrFits, IsByte, IsInteger, IsCode}
 use Rattle.sp_codefile.specs.CodeText.{IsFirstBad, IsNumber, IsText}
 use Rattle.sp_codefile.specs.CodeText.{IsTextOf, LayoutFits, TableFits, code_text}
-use Rattle.sp_codefile.specs.Verifying.{rule_of}
+use Rattle.sp_codefile.specs.VerifyAnswers.{rule_of}
 use Rattle.sp_codefile.specs.declared.verifier.VRule.TheVariants as v
 use Rattle.sp_kernel.specs.declared.closed.Closed.{Closed}
 use Rattle.sp_verify_rules.specs.Areas.{Body}
-use Rattle.sp_verify_rules.specs.Named.{BreaksV1, OutOfRange}
+use Rattle.sp_verify_rules.specs.NameRules.{BreaksV1, OutOfRange}
 use Rattle.sp_verify_rules.specs.Reach.{IsInCodeOf}
 use Rattle.sp_verify_rules.specs.Verdict.{IsRejected, IsVerified, Rule, V1, number}
 use Rattle.sp_words.specs.Words.{command_of}
@@ -24,11 +24,11 @@ use Rattle.superpascal.specs.declared.ending.Ending.{Ending}
 use Rattle.superpascal.specs.declared.ending.Ending.TheVariants as e
 use Rattle.superpascal.specs.Answers.{line_of, status_of}
 use Rattle.superpascal.specs.Calls.{Call, IsAnswered, IsFinal, IsOutside, SaysEnding}
-use Rattle.superpascal.specs.Executing.{IsFaultyFile}
+use Rattle.superpascal.specs.ExecPromise.{IsFaultyFile}
 use Rattle.superpascal.specs.Texts.{command_of_execution}
 use Rattle.promise_rows.specs.Files.{main, no_variable}
-use Rattle.promise_rows.specs.Observed.{Ends, Holds, IsQuiet, Observed}
-use Rattle.promise_rows.proofs.Asked.{an_execution, exec_words}
+use Rattle.promise_rows.specs.Observations.{Ends, Holds, IsQuiet, Observed}
+use Rattle.promise_rows.proofs.AskedWords.{an_execution, exec_words}
 use Rattle.promise_rows.proofs.Lines.{bad_code_line, rejected_line}
 use Rattle.promise_rows.proofs.RunRows.{six_is_no_end}
 use Rattle.promise_rows.proofs.Seen.{memory, short_input, silent, whole_notes, whole_output}

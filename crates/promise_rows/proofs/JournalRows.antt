@@ -10,7 +10,7 @@ use Rattle.sp_journal.specs.declared.outcome.End.{End}
 use Rattle.sp_journal.specs.declared.outcome.End.TheVariants as end
 use Rattle.sp_journal.specs.declared.version.Version.{Version}
 use Rattle.sp_journal.specs.declared.version.Version.TheVariants as version
-use Rattle.sp_journal.specs.Reading.{IsText}
+use Rattle.sp_journal.specs.ReadAnswers.{IsText}
 use Rattle.sp_journal.specs.Texts.{IsFirstBad, IsTextOf, bad_entry, bad_heading, heading, journal_text}
 use Rattle.sp_front.specs.Checks.{IsChecked}
 use Rattle.sp_meaning.specs.Ends.{EndsSo}
@@ -24,24 +24,24 @@ use Rattle.sp_words.specs.Ranges.{default_limits}
 use Rattle.sp_words.specs.Words.{command_of}
 use Rattle.sp_words.specs.declared.command.Command.{Command}
 use Rattle.sp_words.specs.declared.command.View.TheVariants as view
-use Rattle.superpascal.specs.declared.asked.Followed.{Followed}
+use Rattle.superpascal.specs.declared.requests.ReplayRequest.{ReplayRequest}
 use Rattle.superpascal.specs.declared.ending.Ending.{Ending}
 use Rattle.superpascal.specs.declared.ending.Ending.TheVariants as e
 use Rattle.superpascal.specs.Answers.{line_of, status_of}
 use Rattle.superpascal.specs.Calls.{Call, IsFinal, IsOutside, SaysEnding}
 use Rattle.superpascal.specs.Causes.{HasRead}
-use Rattle.superpascal.specs.Following.{IsMeantAlong, IsNoJournal, PrintsReplay}
+use Rattle.superpascal.specs.ReplayPromise.{IsMeantAlong, IsNoJournal, PrintsReplay}
 use Rattle.superpascal.specs.Replays.{IsJournalOf, IsUnfitFor, ending_of_replay, replay_notes}
 use Rattle.superpascal.specs.Texts.{IsAcceptedText, command_of_replay, command_of_run}
 use Rattle.promise_rows.specs.Files.{one_end, two_ends}
-use Rattle.promise_rows.specs.Observed.{Ends, Holds, IsQuiet, Observed}
+use Rattle.promise_rows.specs.Observations.{Ends, Holds, IsQuiet, Observed}
 use Rattle.promise_rows.specs.Programs.{checked, writes_42}
-use Rattle.promise_rows.proofs.Asked.{a_journal, a_run, replay_words, run_words}
-use Rattle.promise_rows.proofs.Known.{program_is}
+use Rattle.promise_rows.proofs.AskedWords.{a_journal, a_run, replay_words, run_words}
+use Rattle.promise_rows.proofs.RowTexts.{program_is}
 use Rattle.promise_rows.proofs.Lines.{bad_journal_line, unfit_line}
 use Rattle.promise_rows.proofs.Seen.{memory, short_input, silent, whole_notes, whole_output}
 use Rattle.promise_rows.proofs.Trees.{is_accepted_text, is_checked}
-use Rattle.promise_rows.proofs.Written.{at_end, ended, ends_done, g, meant, not_twice}
+use Rattle.promise_rows.proofs.OutputRuns.{at_end, ended, ends_done, g, meant, not_twice}
 
 abbrev first_byte : List ℕ → ℕ
 first_byte [] = 0
@@ -88,7 +88,7 @@ One = (v w : Version) (j k : Journal) (bytes : List ℕ) → IsTextOf v j bytes 
 abbrev pub OneTree : Type 0
 OneTree = (text : List ℕ) (p q : Program) → IsTree text p → IsTree text q → p ≡ q
 
-same_followed : (b d : Followed) → b.file ≡ d.file → b.journal ≡ d.journal → b.limits ≡ d.limits → b.view ≡ d.view
+same_followed : (b d : ReplayRequest) → b.file ≡ d.file → b.journal ≡ d.journal → b.limits ≡ d.limits → b.view ≡ d.view
     → b ≡ d
 same_followed b d p q r s =
     ap (λ x. record { file = x; journal = b.journal; limits = b.limits; view = b.view }) p
@@ -96,7 +96,8 @@ same_followed b d p q r s =
     ∙ ap (λ x. record { file = d.file; journal = d.journal; limits = x; view = b.view }) r
     ∙ ap (λ x. record { file = d.file; journal = d.journal; limits = d.limits; view = x }) s
 
-same_command : (b d : Followed) → ◌≡◌ {A = Option Command} (Some (command_of_replay b)) (Some (command_of_replay d))
+same_command : (b d : ReplayRequest) → ◌≡◌ {A =
+    Option Command} (Some (command_of_replay b)) (Some (command_of_replay d))
     → b ≡ d
 same_command b d e = same_followed b d (cc e) (cc e) (cc e) (cc e)
 
@@ -221,16 +222,16 @@ module _ {c : Call} {out notes : List ℕ}
     pub fit_journals_are_not_refused : c.outcome.status ≡ 9 → ⊥
     fit_journals_are_not_refused e = go (o.promise.following.only e)
       where
-        same : (b : Followed) → command_of c.words ≡ Some (command_of_replay b) → b ≡ a_journal view.Output
+        same : (b : ReplayRequest) → command_of c.words ≡ Some (command_of_replay b) → b ≡ a_journal view.Output
         same b e = same_command b (a_journal view.Output) (sym e ∙ asked)
 
         not_read : IsNoJournal bytes → ⊥
         not_read (inl long) = omega (arith, short, long)
         not_read (inr none) = none (version.Two, one_end, is_one_end bytes is)
 
-        stands : (b : Followed) → b ≡ a_journal view.Output → IfSome (c.files.held b.journal) IsNoJournal
+        stands : (b : ReplayRequest) → b ≡ a_journal view.Output → IfSome (c.files.held b.journal) IsNoJournal
             ⊎ ((h : HasRead c.files c.source b) × (n : ℕ) × IsUnfitFor h.text h.input b.limits h.journal n) → ⊥
-        stands b e h = here (subst (λ (x : Followed). IfSome (c.files.held x.journal) IsNoJournal
+        stands b e h = here (subst (λ (x : ReplayRequest). IfSome (c.files.held x.journal) IsNoJournal
             ⊎ ((h : HasRead c.files c.source x) × (n : ℕ) × IsUnfitFor h.text h.input x.limits h.journal n)) e h)
           where
             here : IfSome (c.files.held (codes "j")) IsNoJournal
@@ -239,7 +240,7 @@ module _ {c : Call} {out notes : List ℕ}
             here (inl h) = not_read (subst (λ x. IfSome x IsNoJournal) journal h)
             here (inr (h, n, u)) = fits h n u
 
-        go : (b : Followed) × (command_of c.words ≡ Some (command_of_replay b))
+        go : (b : ReplayRequest) × (command_of c.words ≡ Some (command_of_replay b))
             × IfSome (c.files.held b.file) IsAcceptedText
             × (IfSome (c.files.held b.journal) IsNoJournal
             ⊎ ((h : HasRead c.files c.source b) × (n : ℕ) × IsUnfitFor h.text h.input b.limits h.journal n)) → ⊥
@@ -251,5 +252,6 @@ runs_follow_none {c} o e =
     let h = o.promise.following.only e in
     clash h.0 (sym (ap command_of o.words ∙ run_words) ∙ h.1)
   where
-    clash : (b : Followed) → ◌≡◌ {A = Option Command} (Some (command_of_run a_run)) (Some (command_of_replay b)) → ⊥
+    clash : (b : ReplayRequest) → ◌≡◌ {A = Option Command} (Some (command_of_run a_run)) (Some (command_of_replay b))
+        → ⊥
     clash b e = cc e

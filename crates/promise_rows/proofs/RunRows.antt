@@ -27,12 +27,12 @@ use Rattle.superpascal.specs.Headline.{IsMeant, Prints}
 use Rattle.superpascal.specs.Runs.{ending_of}
 use Rattle.superpascal.specs.Statuses.{IsRegularStatus}
 use Rattle.superpascal.specs.Texts.{command_of_run}
-use Rattle.promise_rows.specs.Observed.{Ends, Holds, IsQuiet, Observed}
+use Rattle.promise_rows.specs.Observations.{Ends, Holds, IsQuiet, Observed}
 use Rattle.promise_rows.specs.Programs.{calls_unknown, waits, writes_42}
-use Rattle.promise_rows.proofs.Asked.{a_run, run_words}
-use Rattle.promise_rows.proofs.Known.{keeps_rules, program_is}
+use Rattle.promise_rows.proofs.AskedWords.{a_run, run_words}
+use Rattle.promise_rows.proofs.RowTexts.{keeps_rules, program_is}
 use Rattle.promise_rows.proofs.Lines.{unknown_name_line}
-use Rattle.promise_rows.proofs.Ran.{WaitsForever, Writes42, waits_forever, writes}
+use Rattle.promise_rows.proofs.RunFacts.{WaitsForever, Writes42, waits_forever, writes}
 use Rattle.promise_rows.proofs.Seen.{memory, part_of_output, short_input, silent, whole_notes, whole_output, works}
 use Rattle.promise_rows.proofs.Trees.{breaks_names, is_accepted_text, unknown_name, waits_accepted}
 use Rattle.promise_rows.proofs.WritingRows.{a_deadlock_is_told}

@@ -11,7 +11,7 @@ use Rattle.superpascal.specs.Causes.{IsTooLong}
 use Rattle.superpascal.specs.Promise.{Promise}
 use Rattle.superpascal.specs.Statuses.{InputIsTooLong, OutsideWorks, ReadsFail}
 use Rattle.sp_words.specs.declared.command.Command.{Command}
-use Rattle.promise_rows.specs.Observed.{IsQuiet, Observed}
+use Rattle.promise_rows.specs.Observations.{IsQuiet, Observed}
 
 -- a count that is 0 in the end did not rise
 pub no_rise : (m n : ℕ) → n ≡ 0 → Rose m n → ⊥

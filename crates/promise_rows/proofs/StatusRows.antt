@@ -9,9 +9,9 @@ use Rattle.sp_tree.specs.Breaches.{IsTree}
 use Rattle.superpascal.specs.Calls.{Call, IsOutside}
 use Rattle.superpascal.specs.Statuses.{InputIsTooLong}
 use Rattle.superpascal.specs.Texts.{CanRead}
-use Rattle.promise_rows.specs.Observed.{Ends, Holds, IsQuiet, Observed}
+use Rattle.promise_rows.specs.Observations.{Ends, Holds, IsQuiet, Observed}
 use Rattle.promise_rows.specs.Programs.{writes_42}
-use Rattle.promise_rows.proofs.Asked.{a_run, check_words, refused_words, run_words}
+use Rattle.promise_rows.proofs.AskedWords.{a_run, check_words, refused_words, run_words}
 use Rattle.promise_rows.proofs.Lines.{line_of_2, line_of_7}
 use Rattle.promise_rows.proofs.Seen.{long_or_memory, memory, told_line, whole_notes, whole_output}
 use Rattle.promise_rows.proofs.Trees.{is_accepted_text}

@@ -21,10 +21,10 @@ use Rattle.sp_journal.specs.Births.{Births, births}
 use Rattle.sp_journal.specs.Queue.{numbers}
 use Rattle.sp_journal.specs.Texts.{journal_text}
 use Rattle.sp_lines.specs.declared.mark.Mark.{Mark}
-use Rattle.sp_lines.specs.declared.told.Told.{Told}
+use Rattle.sp_lines.specs.declared.entry_place.Told.{Told}
 use Rattle.sp_lines.specs.Marks.{marks}
-use Rattle.sp_lines.specs.Telling.{IsTold, lasts_after}
-use Rattle.sp_replay.specs.Tracing.{never}
+use Rattle.sp_lines.specs.EntryPlaces.{DescribesEntries, lasts_after}
+use Rattle.sp_replay.specs.TraceAnswers.{never}
 use Rattle.sp_report.specs.InOrder.{sorted_by_name}
 use Rattle.sp_shown.specs.Constants.{by_kind, constants_of}
 use Rattle.sp_tree.specs.declared.checked.KindOf.{KindOf}
@@ -39,8 +39,8 @@ use Rattle.superpascal.specs.Calls.{Call}
 use Rattle.superpascal.specs.Replays.{IsJournalOf}
 use Rattle.superpascal.specs.Traces.{IsStateOf, IsTraceOf}
 use Rattle.promise_rows.specs.Files.{one_end}
-use Rattle.promise_rows.specs.Observed.{Holds, Observed}
-use Rattle.promise_rows.proofs.Asked.{a_journal, trace_words, where_words}
+use Rattle.promise_rows.specs.Observations.{Holds, Observed}
+use Rattle.promise_rows.proofs.AskedWords.{a_journal, trace_words, where_words}
 use Rattle.promise_rows.proofs.JournalRows.{One, is_one_end}
 use Rattle.promise_rows.proofs.Lines.{zero_text}
 use Rattle.promise_rows.proofs.Seen.{whole_output}
@@ -84,7 +84,8 @@ module _ (g : CodeRun) where
   gone (Stopped (Sends d k cs) c) e = absurd (not_end _ (Sends d k cs) c (λ x. cc x) e)
   gone (Stopped (Receives d k a) c) e = absurd (not_end _ (Receives d k a) c (λ x. cc x) e)
 
-  behind : (ws : List Told) (s : System Plain) → IsTold g one_end.entries ws s → is_live (s.condition 0) ≡ false
+  behind : (ws : List Told) (s : System Plain) → DescribesEntries g one_end.entries ws s
+      → is_live (s.condition 0) ≡ false
   behind [] s h = absurd h
   behind (w ∷ []) s (u, tells, e) =
       subst (λ (x : System Plain). is_live (x.condition 0) ≡ false) (sym e)

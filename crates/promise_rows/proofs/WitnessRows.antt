@@ -19,14 +19,14 @@ use Rattle.sp_judge.specs.Races.{IsFault}
 use Rattle.sp_meaning.specs.Along.{IsAlong}
 use Rattle.sp_tree.specs.Plain.{Program}
 use Rattle.sp_witness.specs.Contention.{NeverContends}
-use Rattle.sp_witness.specs.Numbered.{witness_journal}
+use Rattle.sp_witness.specs.OccurrenceNumbers.{witness_journal}
 use Rattle.sp_words.specs.Ranges.{default_limits}
 use Rattle.sp_words.specs.Words.{command_of}
 use Rattle.superpascal.specs.Calls.{Call}
 use Rattle.superpascal.specs.Runs.{witness_text}
 use Rattle.superpascal.specs.Texts.{command_of_run}
-use Rattle.promise_rows.specs.Observed.{Holds, Observed}
-use Rattle.promise_rows.proofs.Asked.{a_run, a_witness, run_words, witness_words}
+use Rattle.promise_rows.specs.Observations.{Holds, Observed}
+use Rattle.promise_rows.proofs.AskedWords.{a_run, a_witness, run_words, witness_words}
 use Rattle.promise_rows.proofs.Seen.{whole_output}
 
 abbrev text_by : Ran → Verdict → List ℕ

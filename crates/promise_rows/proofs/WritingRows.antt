@@ -17,8 +17,8 @@ use Rattle.superpascal.specs.Answers.{status_of}
 use Rattle.superpascal.specs.Calls.{Call}
 use Rattle.superpascal.specs.Runs.{end_lines, ending_of, generated_output}
 use Rattle.promise_rows.specs.Files.{one_end, root_waits}
-use Rattle.promise_rows.specs.Observed.{Observed}
-use Rattle.promise_rows.proofs.Asked.{a_run, a_shown_run, gen_words, run_words, show_words}
+use Rattle.promise_rows.specs.Observations.{Observed}
+use Rattle.promise_rows.proofs.AskedWords.{a_run, a_shown_run, gen_words, run_words, show_words}
 use Rattle.promise_rows.proofs.Lines.{line_of_5, seven_text, three_text, zero_text}
 use Rattle.promise_rows.proofs.Seen.{told_line, whole_notes, whole_output}
 

@@ -1,3 +1,3 @@
 pub mod Files
-pub mod Observed
+pub mod Observations
 pub mod Programs

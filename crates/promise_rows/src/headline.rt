@@ -14,7 +14,7 @@ ghost use Rattle.sp_tree.specs.Breaches.{IsTree};
 ghost use Rattle.sp_tree.specs.Plain.{Program};
 ghost use Rattle.sp_words.specs.Ranges.{default_limits};
 ghost use Rattle.superpascal.specs.Calls.{Call};
-ghost use Rattle.promise_rows.specs.Observed.{Ends, Holds, IsQuiet, Observed};
+ghost use Rattle.promise_rows.specs.Observations.{Ends, Holds, IsQuiet, Observed};
 ghost use Rattle.promise_rows.specs.Programs.{calls_unknown, waits, writes_42};
 
 use sp_grammar::one_verdict;

@@ -3,7 +3,7 @@
 ghost use Rattle.std.specs.Prelude.{◌≡◌, ◌<◌, ℕ, List, [], ◌∷◌, codes, length};
 ghost use Rattle.sp_tree.specs.Breaches.{IsTree};
 ghost use Rattle.superpascal.specs.Calls.{Call};
-ghost use Rattle.promise_rows.specs.Observed.{Ends, Holds, IsQuiet, Observed};
+ghost use Rattle.promise_rows.specs.Observations.{Ends, Holds, IsQuiet, Observed};
 ghost use Rattle.promise_rows.specs.Programs.{writes_42};
 
 /// No command has this name: status 2, a line, and no output.

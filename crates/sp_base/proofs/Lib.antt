@@ -1,2 +1,2 @@
 pub mod Facts
-mod Kept
+mod ListFronts

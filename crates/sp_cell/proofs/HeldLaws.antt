@@ -12,9 +12,9 @@ use Rattle.sp_cell.specs.declared.spot.Handing.{Handing}
 use Rattle.sp_cell.specs.Map.{Map, Content, Own, Shared, Output, Away, Plain, IsPiece, cells_of, cells_at}
 use Rattle.sp_cell.specs.Fork.{child_map, children_of, map_after_fork, map_after_join, moved_of, shared_of, index_frame}
 use Rattle.sp_cell.proofs.FrameLaws.{is_same, is_other}
-use Rattle.sp_cell.specs.Held.{View, IsNotHeld, ContentsAgree, HasUniqueSpots, AgreeOnAll, IsPartition, child_means}
-use Rattle.sp_cell.specs.Held.{child_views}
-use Rattle.sp_cell.specs.Held.{IsFresh, KeepsPartition, RejoinsPartition}
+use Rattle.sp_cell.specs.Holders.{View, IsNotHeld, ContentsAgree, HasUniqueSpots, AgreeOnAll, IsPartition, child_means}
+use Rattle.sp_cell.specs.Holders.{child_views}
+use Rattle.sp_cell.specs.Holders.{IsFresh, KeepsPartition, RejoinsPartition}
 use Rattle.sp_cell.proofs.Laws.{known_of_held, known_of_piece}
 use Rattle.sp_cell.proofs.Partition.{parent_moved, parent_shared, parent_rest, child_moved, child_shared, child_rest}
 use Rattle.sp_cell.proofs.Partition.{below_above}

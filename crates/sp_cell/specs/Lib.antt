@@ -1,7 +1,7 @@
 pub mod Codes
 pub mod Fork
 pub mod Frame
-pub mod Held
+pub mod Holders
 pub mod Lists
 pub mod Map
 pub mod Spots

@@ -12,7 +12,7 @@
 //!   numbers the frame of its index without regard to frames of its parent that it does not know; so *held* speaks of
 //!   what the numbers mean (`View`), never of the numbers.
 //! - The definitions stand in `specs/Map.antt` (the map), `Frame.antt` (push and pop), `Fork.antt` (split and join)
-//!   and `Held.antt` (all stores of a run side by side). The laws over them, which have no representation in view,
+//!   and `Holders.antt` (all stores of a run side by side). The laws over them, which have no representation in view,
 //!   stand in `proofs/`: `Laws`, `FrameLaws`, `HeldLaws`, `Partition`, `Plan`, `Steps`.
 //!
 //! Lemmas for others, in `proofs`:
@@ -26,7 +26,7 @@
 //!
 //! To change:
 //! - What a store means: `specs/Map.antt`, `specs/Frame.antt`, `specs/Fork.antt`.
-//! - What all stores of a run keep: `specs/Held.antt`.
+//! - What all stores of a run keep: `specs/Holders.antt`.
 #![tactic(auto)]
 
 mod cell;

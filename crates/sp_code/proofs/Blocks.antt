@@ -16,11 +16,11 @@ use Rattle.sp_code.specs.declared.code.Parts.{Parts}
 use Rattle.sp_code.specs.Scopes.{scopes_of}
 use Rattle.sp_code.specs.Places.{after_statement, after_block}
 use Rattle.sp_code.specs.Lengths.{stmt_length, tree_length}
-use Rattle.sp_code.specs.Emitted.{tables_in, texts_in, texts_of, end_instr, code, tables, block_code, blocks_code}
-use Rattle.sp_code.specs.Emitted.{blocks_texts, layout_of, layouts_from, blocks_tables, program_code}
+use Rattle.sp_code.specs.TreeCode.{tables_in, texts_in, texts_of, end_instr, code, tables, block_code, blocks_code}
+use Rattle.sp_code.specs.TreeCode.{blocks_texts, layout_of, layouts_from, blocks_tables, program_code}
 use Rattle.sp_code.specs.CodeOfTree.{HasAt, BlockAt, BlocksAt, IsSoundBlock}
 use Rattle.sp_code.proofs.Counts.{last_count, blocks_count, code_count, stmt_after}
-use Rattle.sp_code.proofs.Standing.{has_front, has_back, stands, code_stop, tables_stop, texts_stop}
+use Rattle.sp_code.proofs.CodePositions.{has_front, has_back, stands, code_stop, tables_stop, texts_stop}
 
 -- a list stands in itself
 has_shift : {X : Type 0} (x : X) (xs ys : List X) (q : ℕ) → HasAt xs q ys → HasAt (x ∷ xs) (q + 1) ys

@@ -24,12 +24,12 @@ use Rattle.sp_code.specs.Places.{after_children, after_arms, after_block}
 use Rattle.sp_code.specs.Lengths.{unary_length, standard_length, value_length, form_length, var_length}
 use Rattle.sp_code.specs.Lengths.{selectors_length, actuals_length, width_length, right_length, tests_length}
 use Rattle.sp_code.specs.Lengths.{stmt_length, all_length, children_length, arms_length, blocks_length}
-use Rattle.sp_code.specs.Emitted.{unary_code, binary_instr, standard_code, write_instr, assign_instr, test_code}
-use Rattle.sp_code.specs.Emitted.{tables_in, tables_in_all, tables_in_arms, texts_of, texts_of_all, texts_of_arms}
-use Rattle.sp_code.specs.Emitted.{texts_in, texts_in_all, texts_in_arms, end_instr, value_code, form_code, var_code}
-use Rattle.sp_code.specs.Emitted.{selectors_code, actuals_code, width_code, right_code, tests_code, code, code_all}
-use Rattle.sp_code.specs.Emitted.{code_children, code_arms, block_code, blocks_code, tables, tables_all}
-use Rattle.sp_code.specs.Emitted.{tables_children, tables_arms}
+use Rattle.sp_code.specs.TreeCode.{unary_code, binary_instr, standard_code, write_instr, assign_instr, test_code}
+use Rattle.sp_code.specs.TreeCode.{tables_in, tables_in_all, tables_in_arms, texts_of, texts_of_all, texts_of_arms}
+use Rattle.sp_code.specs.TreeCode.{texts_in, texts_in_all, texts_in_arms, end_instr, value_code, form_code, var_code}
+use Rattle.sp_code.specs.TreeCode.{selectors_code, actuals_code, width_code, right_code, tests_code, code, code_all}
+use Rattle.sp_code.specs.TreeCode.{code_children, code_arms, block_code, blocks_code, tables, tables_all}
+use Rattle.sp_code.specs.TreeCode.{tables_children, tables_arms}
 
 -- ---- places
 

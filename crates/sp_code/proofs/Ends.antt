@@ -5,9 +5,9 @@ use Rattle.sp_code.specs.Turns.{Turn, TurnProgress, Ended, Lacks, GoesOn, IsTurn
 use Rattle.sp_code.specs.Memory.{CodeRun, Stores, Memory, memory}
 use Rattle.sp_code.specs.Ranks.{IsRankedAlong}
 use Rattle.sp_code.specs.Budgets.{IsOver, ticks_left, most_steps}
-use Rattle.sp_code.proofs.Turning.{within_ended, within_lacks}
+use Rattle.sp_code.proofs.OneTurn.{within_ended, within_lacks}
 use Rattle.sp_code.proofs.Falls.{turn_over}
-use Rattle.sp_code.proofs.Spending.{spends}
+use Rattle.sp_code.proofs.TickCounts.{spends}
 
 module _ {S : Type 0} (stores : Stores S) (g : CodeRun) where
   pub ranked_over : (c : Config (Memory S)) → IsRankedAlong (memory stores g) g.code c

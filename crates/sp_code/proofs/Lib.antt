@@ -1,14 +1,14 @@
 pub mod Members
-pub mod Numbered
+pub mod LineNumbers
 mod Small
 mod Rows
 mod Runs
 pub mod Counts
-pub mod Standing
-pub mod Turning
+pub mod CodePositions
+pub mod OneTurn
 pub mod Falls
 pub mod Systems
-pub mod Spending
+pub mod TickCounts
 mod Ends
 pub mod Blocks
 pub mod StoreLaws

@@ -6,7 +6,7 @@ use Rattle.sp_code.specs.Machine.{Config}
 use Rattle.sp_code.specs.Turns.{Turn, IsTurn}
 use Rattle.sp_code.specs.Memory.{CodeRun, Stores, Memory, memory}
 use Rattle.sp_code.specs.System.{System, Condition, Working, event_of, system_after_turn, EntryLeads, EntriesLead}
-use Rattle.sp_code.proofs.Turning.{turn_same}
+use Rattle.sp_code.proofs.OneTurn.{turn_same}
 
 module _ {S : Type 0} (stores : Stores S) (g : CodeRun) where
   same_runs : (c d : Config (Memory S)) → ◌≡◌ {A = Condition S} (Working c) (Working d) → c ≡ d

@@ -28,7 +28,7 @@ use Rattle.sp_code.specs.Scopes.{Sort, Ordinals, Channels, Many, NoSort, kind_of
 use Rattle.sp_code.specs.Scopes.{is_index, level, is_given, kind_at, sort, size, slot, field_offset, scopes_of}
 use Rattle.sp_code.specs.Places.{after_value, after_form, after_var, after_actuals, after_width, after_test}
 use Rattle.sp_code.specs.Places.{after_tests, after_statement, after_children, after_arms}
-use Rattle.sp_code.specs.Emitted.{binary_instr, write_instr, children_tables, child_table, end_instr, layout_of}
+use Rattle.sp_code.specs.TreeCode.{binary_instr, write_instr, children_tables, child_table, end_instr, layout_of}
 
 -- no index of a forall
 abbrev pub NoIndex : Role → Type 0

@@ -14,7 +14,7 @@ pub mod Sound
 pub mod Scopes
 pub mod Places
 pub mod Lengths
-pub mod Emitted
+pub mod TreeCode
 pub mod CodeOfTree
 pub mod Shares
 pub mod Budgets

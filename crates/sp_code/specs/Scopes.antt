@@ -9,7 +9,7 @@ use Rattle.sp_tree.specs.declared.checked.Role.{Role}
 use Rattle.sp_tree.specs.declared.checked.Role.TheVariants as role
 pub use Rattle.sp_tree.specs.Around.{Scope, OfBlock, OfIndex, is_block, is_index, one_more, level, parent_of, scopes_by}
 pub use Rattle.sp_tree.specs.Around.{scopes_of}
-pub use Rattle.sp_tree.specs.Formed.{as_list}
+pub use Rattle.sp_tree.specs.TreeShape.{as_list}
 use Rattle.sp_tree.specs.Cells.{sizes, first_or, variables_of}
 use Rattle.sp_tree.specs.Plain.{Expr, Typed, Var, Entire, Selectors, Whole, Select, Index, Field, Program, Variable}
 use Rattle.sp_tree.specs.Plain.{Block}

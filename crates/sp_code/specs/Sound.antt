@@ -15,7 +15,7 @@ use Rattle.sp_cell.specs.Map.{Plain, IsOwn, HasCells}
 use Rattle.sp_cell.specs.Frame.{HasNextFrame}
 use Rattle.sp_cell.specs.Fork.{moved_of, shared_of, HasIndex}
 use Rattle.sp_cell.specs.Spots.{In, NotIn, IsDistinct, AllHeld, AllPieces, AllAway}
-use Rattle.sp_cell.specs.Held.{View, IsPartition}
+use Rattle.sp_cell.specs.Holders.{View, IsPartition}
 use Rattle.sp_journal.specs.declared.entry.Entry.{Entry}
 use Rattle.sp_journal.specs.declared.entry.Birth.{Birth}
 use Rattle.sp_journal.specs.Queue.{numbers}

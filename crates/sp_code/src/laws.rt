@@ -16,7 +16,7 @@ ghost use Rattle.sp_code.specs.Ranks.{IsRanked, IsRankedAlong};
 ghost use Rattle.sp_code.specs.Budgets.{IsOver, most_steps};
 ghost use Rattle.sp_code.specs.Scopes.{Scope};
 ghost use Rattle.sp_code.specs.Lengths.{stmt_length, tree_length};
-ghost use Rattle.sp_code.specs.Emitted.{code, program_code};
+ghost use Rattle.sp_code.specs.TreeCode.{code, program_code};
 ghost use Rattle.sp_code.specs.CodeOfTree.{IsSoundBlock, BlocksAt};
 ghost use Rattle.sp_code.specs.NeverStops.{NeverStops};
 

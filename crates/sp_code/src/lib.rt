@@ -32,9 +32,9 @@
 //! - The code of a tree: `specs/Scopes`, `Places`, `Lengths`, `Emitted`, `CodeOfTree`, `NeverStops`.
 //! - What code of any origin is asked: `specs/Sizes`, `Formals` (frames begin with their parameters), `Ranks`,
 //!   `Sound`.
-//! - Of the proofs, `Turning` and `Falls` are for turns, `Systems` for journals, `Counts`, `Standing` and `Blocks` for
-//!   the code of a tree. `Plans` (what a fork hands over) and `Pieces` (a new frame in a store) are for the crates
-//!   above.
+//! - Of the proofs, `OneTurn` and `Falls` are for turns, `Systems` for journals, `Counts`, `CodePositions` and
+//!   `Blocks` for the code of a tree. `Plans` (what a fork hands over) and `Pieces` (a new frame in a store) are for
+//!   the crates above.
 //! - `call BLOCK` names a layout by its block and not by its place in the list, since code that was not generated may
 //!   have layouts in any order.
 //! - `index` and `field` ask for no cell behind the address that they select, only for an offset below 2^32: what uses
@@ -53,14 +53,14 @@
 //!
 //! Lemmas for others, in `proofs`:
 //! - `Members`: members of lists of numbers: where they stand, and what is above them.
-//! - `Numbered`: lines put one after another, each with its number.
+//! - `LineNumbers`: lines put one after another, each with its number.
 //! - `Counts`: the places of a tree's code agree with its lengths, and its code has exactly its length.
-//! - `Standing`: where the list of a statement's instructions stands, with its fork tables and texts, the statement
-//!   stands.
-//! - `Turning`: one turn is a function, and what is computed of it is so.
+//! - `CodePositions`: where the list of a statement's instructions stands, with its fork tables and texts, the
+//!   statement stands.
+//! - `OneTurn`: one turn is a function, and what is computed of it is so.
 //! - `Falls`: a number falls with each instruction whose ways make the rank fall.
 //! - `Systems`: the system along a journal is one.
-//! - `Spending`: the memory of a process has as many ticks left as its limit and its count say.
+//! - `TickCounts`: the memory of a process has as many ticks left as its limit and its count say.
 //! - `Blocks`: the code of a program has exactly the tree's length, and all its blocks stand in it.
 //! - `StoreLaws`: what the tests of a plain store say.
 //! - `Plans`: what the handings of a fork are: which spots move and which are shared, and that none comes twice
@@ -71,7 +71,7 @@
 //! - An instruction: `src/instr.rt`, `src/words.rt`, `specs/Listing`, `Machine`, `Ranks`, and a clause in
 //!   `proofs/Falls`.
 //! - A form of statement: `specs/Places`, `Lengths`, `Emitted`, `CodeOfTree`, and a clause in `proofs/Counts` and
-//!   `Standing`.
+//!   `CodePositions`.
 #![tactic(auto)]
 
 mod code;

@@ -17,7 +17,7 @@ use Rattle.sp_codefile.specs.declared.item.Item.TheVariants as item
 use Rattle.sp_codefile.specs.CodeText.{line, layout_text, text_text, child_of, table_text, code_text, LayoutFits}
 use Rattle.sp_codefile.specs.CodeText.{ChildFits, TableFits, InstrFits, IsByte, IsCode}
 use Rattle.sp_codefile.specs.Items.{last_children, with_child, item_text, CanFollow, after_item}
-use Rattle.sp_codefile.proofs.Printing.{instr_is_line}
+use Rattle.sp_codefile.proofs.TextLaws.{instr_is_line}
 
 numbered_last : {X : Type 0} (text : ℕ → X → List ℕ) (n : ℕ) (xs : List X) (x : X)
     → numbered_texts text n (xs ++ x ∷ []) ≡ numbered_texts text n xs ++ text (n + length xs) x

@@ -19,14 +19,14 @@ use Rattle.sp_code.specs.Listing.{instr_text}
 use Rattle.sp_code.specs.Sizes.{HasChild}
 use Rattle.sp_codefile.specs.declared.item.Item.{Item}
 use Rattle.sp_codefile.specs.declared.item.Item.TheVariants as item
-use Rattle.sp_codefile.specs.declared.reading.Kind.{Kind}
-use Rattle.sp_codefile.specs.declared.reading.Kind.TheVariants as kind
+use Rattle.sp_codefile.specs.declared.line_reader.LineKind.{LineKind}
+use Rattle.sp_codefile.specs.declared.line_reader.LineKind.TheVariants as kind
 use Rattle.sp_codefile.specs.CodeText.{byte_text, child_text, index_text, IsByte, IsCode, LayoutFits, ChildFits}
 use Rattle.sp_codefile.specs.CodeText.{InstrFits}
 use Rattle.sp_codefile.specs.Cuts.{blank_cut}
 use Rattle.sp_codefile.specs.Items.{item_text, last_children, CanFollow}
 use Rattle.sp_codefile.specs.Lines.{layout_words, child_words, digit_value, bytes_of, kind_of}
-use Rattle.sp_codefile.proofs.Printing.{child_body}
+use Rattle.sp_codefile.proofs.TextLaws.{child_body}
 use Rattle.sp_codefile.proofs.WordLaws.{blank_at, digits_no_blank}
 use Rattle.sp_codefile.proofs.LayoutLaws.{layout_behind, child_behind}
 
@@ -60,7 +60,7 @@ bytes_back (b ∷ bs) a =
 
 -- kinds
 
-abbrev pub kind_of_item : Item → Kind
+abbrev pub kind_of_item : Item → LineKind
 kind_of_item (item.Layout l) = kind.Layout
 kind_of_item (item.Text t) = kind.Text
 kind_of_item (item.Instr x) = kind.Instr

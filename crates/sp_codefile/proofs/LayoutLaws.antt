@@ -11,7 +11,7 @@ use Rattle.sp_codefile.specs.CodeText.{parent_text, answer_text, formal_text, la
 use Rattle.sp_codefile.specs.CodeText.{IsNumber, MayBeNumber, FormalFits, LayoutFits, ChildFits}
 use Rattle.sp_codefile.specs.Cuts.{word_of, class_cut}
 use Rattle.sp_codefile.specs.Lines.{parent_word, answer_word, layout_words, child_words}
-use Rattle.sp_codefile.proofs.Printing.{child_body}
+use Rattle.sp_codefile.proofs.TextLaws.{child_body}
 use Rattle.sp_codefile.proofs.WordLaws.{AtBlank, AtClass, blank_at, class_at, digits_no_blank, numbers_no_letter}
 use Rattle.sp_codefile.proofs.WordLaws.{follow, word_shorter, at_blank}
 

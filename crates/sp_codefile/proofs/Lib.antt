@@ -1,4 +1,4 @@
-mod Printing
+mod TextLaws
 mod WordLaws
 mod LeftLaws
 mod InstrLaws
@@ -9,4 +9,4 @@ mod ReadLaws
 mod LayoutLaws
 mod KindLaws
 mod OneLaws
-mod Judging
+mod KeptRules

@@ -24,7 +24,7 @@ use Rattle.sp_codefile.specs.CodeText.{parent_text, answer_text, formal_text, la
 use Rattle.sp_codefile.specs.CodeText.{index_text, child_text, IsNumber, MayBeNumber, FormalFits, LayoutFits, ChildFits}
 use Rattle.sp_codefile.specs.CodeText.{IsByte, InstrFits, IsCode, IsOneLine}
 use Rattle.sp_codefile.specs.Items.{item_text, last_children, CanFollow}
-use Rattle.sp_codefile.proofs.Printing.{child_body}
+use Rattle.sp_codefile.proofs.TextLaws.{child_body}
 use Rattle.sp_codefile.proofs.InstrLaws.{AreSmall, operands_small}
 
 -- bytes that are printed

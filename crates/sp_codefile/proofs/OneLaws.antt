@@ -20,7 +20,7 @@ use Rattle.sp_code.specs.Listing.{operands, operand_text, number_text, instr_tex
 use Rattle.sp_codefile.specs.declared.item.Item.{Item}
 use Rattle.sp_codefile.specs.declared.item.Item.TheVariants as item
 use Rattle.sp_codefile.specs.declared.opcodes.Operand.{Operand}
-use Rattle.sp_codefile.specs.declared.reading.Kind.TheVariants as kind
+use Rattle.sp_codefile.specs.declared.line_reader.LineKind.TheVariants as kind
 use Rattle.sp_codefile.specs.CodeText.{formal_text, index_text, IsNumber, MayBeNumber, FormalFits, LayoutFits}
 use Rattle.sp_codefile.specs.CodeText.{ChildFits, InstrFits, IsCode, IsTextOf}
 use Rattle.sp_codefile.specs.Cuts.{blank_cut, word_of, class_cut}

@@ -1,7 +1,7 @@
 pub mod CodeText
 pub mod Cuts
-pub mod Decoding
+pub mod DecodeAnswers
 pub mod Items
 pub mod Lines
 pub mod Opcodes
-pub mod Verifying
+pub mod VerifyAnswers

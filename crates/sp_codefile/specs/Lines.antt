@@ -7,8 +7,8 @@ use Rattle.std.specs.List.{flat_map}
 use Rattle.sp_code.specs.declared.code.ChildTable.{ChildTable}
 use Rattle.sp_code.specs.declared.code.Layout.{Layout}
 use Rattle.sp_code.specs.Listing.{number_text}
-use Rattle.sp_codefile.specs.declared.reading.Kind.{Kind}
-use Rattle.sp_codefile.specs.declared.reading.Kind.TheVariants as kind
+use Rattle.sp_codefile.specs.declared.line_reader.LineKind.{LineKind}
+use Rattle.sp_codefile.specs.declared.line_reader.LineKind.TheVariants as kind
 use Rattle.sp_codefile.specs.CodeText.{parent_text, answer_text, formal_text, index_text}
 
 -- the block around a block as a word
@@ -47,6 +47,6 @@ bytes_of (x ∷ []) = []
 bytes_of (x ∷ (y ∷ ys)) = (digit_value x * 16 + digit_value y) ∷ bytes_of ys
 
 -- what a line says, by its first bytes: `l`, `ta`, `t`, or another
-abbrev pub kind_of : List ℕ → Kind
+abbrev pub kind_of : List ℕ → LineKind
 kind_of line = cond (get_or line 0 0 == 108) kind.Layout
     (cond (get_or line 0 0 == 116) (cond (get_or line 1 0 == 97) kind.Child kind.Text) kind.Instr)

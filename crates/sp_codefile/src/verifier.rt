@@ -3,7 +3,7 @@
 
 ghost use Rattle.std.specs.Prelude.{◌≡◌, ◌+◌, IfOk, IfErr, OnOk};
 ghost use Rattle.sp_code.specs.Sound.{IsSound};
-ghost use Rattle.sp_verify_rules.specs.Named.{OrphanBlock};
+ghost use Rattle.sp_verify_rules.specs.NameRules.{OrphanBlock};
 ghost use Rattle.sp_verify_rules.specs.Verdict.{BreaksRuleAt, IsVerified, number};
 ghost use Rattle.sp_verify_areas.specs.Blocks.{IsNumbered};
 ghost use Rattle.sp_verify_areas.specs.Homes.{AreHomes};
@@ -13,22 +13,22 @@ ghost use Rattle.sp_verify_shapes.specs.Shapes.{AreShapes};
 ghost use Rattle.sp_verify_effects.specs.Effects.{AreEffects};
 ghost use Rattle.sp_verify_effects.specs.PassContexts.{IsPassContext};
 ghost use Rattle.sp_codefile.specs.declared.verifier.Rejected.TheVariants.{Memory as OutOfMemory};
-ghost use Rattle.sp_codefile.specs.Verifying.{IsRefused, KeepsBefore, Verifies, rule_of};
+ghost use Rattle.sp_codefile.specs.VerifyAnswers.{IsRefused, KeepsBefore, Verifies, rule_of};
 
 use crate::have;
 use sp_base::{List, Memory};
 use sp_code::Code;
 use sp_verify_areas::around::homes;
+use sp_verify_areas::block_nodes::led;
 use sp_verify_areas::blocks::Blocks;
 use sp_verify_areas::homes::Homes;
-use sp_verify_areas::led::led;
 use sp_verify_areas::orphan_block::first_orphan_block;
 use sp_verify_areas::owners::{Owner, owners};
 use sp_verify_areas::rounds::first_round;
 use sp_verify_areas::whole::first_v1;
+use sp_verify_effects::child_effects::first_ill_handed;
 use sp_verify_effects::clash::first_clash;
 use sp_verify_effects::effects::{Effects, find_effects};
-use sp_verify_effects::handed::first_ill_handed;
 use sp_verify_effects::pass_context::PassContext;
 use sp_verify_effects::side_effects::first_side_effect;
 use sp_verify_rules::laws::verified_code_is_sound;

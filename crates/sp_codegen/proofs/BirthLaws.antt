@@ -5,7 +5,7 @@ use Rattle.std.proofs.Common.{sym, ap, subst, arith, true, ◌++◌}
 use Rattle.std.specs.Prelude.{◌+ℤ◌, pos, IsSome, slice_get}
 use Rattle.std.specs.FinMap as fin
 use Rattle.sp_tree.specs.declared.checked.Role.TheVariants as role
-use Rattle.sp_tree.specs.Formed.{IsFormedUse}
+use Rattle.sp_tree.specs.TreeShape.{IsFormedUse}
 use Rattle.sp_tree.specs.Plain.{Variable, Block, Expr, Stmt, Stmts, Parallel, Forall}
 use Rattle.sp_tree.specs.Sets.{Reach, IsTarget, IsUsed}
 use Rattle.sp_tree.specs.Uses.{Use, Seen, In_stmt}
@@ -21,7 +21,7 @@ use Rattle.sp_meaning.specs.Run.{Store}
 use Rattle.sp_meaning.specs.SuperPascal.{root, first_store}
 use Rattle.sp_code.specs.declared.code.ChildTable.{ChildTable}
 use Rattle.sp_code.specs.declared.instr.Instr.TheVariants as i
-use Rattle.sp_code.specs.Emitted.{program_code, child_table}
+use Rattle.sp_code.specs.TreeCode.{program_code, child_table}
 use Rattle.sp_code.specs.Machine.{Entry, At, layout_of}
 use Rattle.sp_code.specs.Memory.{Memory, first_process, first_memory, entry_of}
 use Rattle.sp_code.specs.Places.{after_statement}
@@ -32,7 +32,7 @@ use Rattle.sp_code.specs.Shares.{SetsAre}
 use Rattle.sp_code.specs.CodeOfTree.{BlockAt, BlocksAt, StatementAt, CodeAt as Instr_at, HasFork, HasWords}
 use Rattle.sp_code.specs.System.{child_process, handing_of}
 use Rattle.sp_code.proofs.Blocks.{blocks_stand, layout_found}
-use Rattle.sp_codegen.specs.Following.{CodeFollows}
+use Rattle.sp_codegen.specs.CodePositions.{CodeFollows}
 use Rattle.sp_codegen.specs.FramePairs.{FramePair, sources, pairs_from}
 use Rattle.sp_codegen.specs.ProcessInfos.{IsCompilable, ProcessInfo, IsProcessInfo, Named, Called, IsWritableLoc}
 use Rattle.sp_codegen.specs.ProcessInfos.{IsReadable, Indexes, MemoryMatches, Laws}
@@ -42,14 +42,14 @@ use Rattle.sp_codegen.specs.ProcessInfos.{IsAway}
 use Rattle.sp_codegen.specs.TurnAgrees.{code_run}
 use Rattle.sp_codegen.specs.Parents.{ChildIs, JoiningStands, GivesBack}
 use Rattle.sp_codegen.specs.Relation.{Placed}
-use Rattle.sp_codegen.specs.Standing.{Agrees}
+use Rattle.sp_codegen.specs.MemoryRelation.{Agrees}
 use Rattle.sp_codegen.proofs.Begins.{child_begins, index_child_begins, memory_in}
 use Rattle.sp_codegen.proofs.Birth.{low_small}
-use Rattle.sp_codegen.proofs.Born.{child_follows}
-use Rattle.sp_codegen.proofs.Closing.{Laid}
+use Rattle.sp_codegen.proofs.ChildIndexes.{child_follows}
+use Rattle.sp_codegen.proofs.Returns.{Laid}
 use Rattle.sp_codegen.proofs.FirstTurn.{laid_of}
 use Rattle.sp_codegen.proofs.Follows.{push_follows, slides}
-use Rattle.sp_codegen.proofs.Joining.{all_joined, stand_same, joining_more, handed_joining, joined_joining}
+use Rattle.sp_codegen.proofs.Joins.{all_joined, stand_same, joining_more, handed_joining, joined_joining}
 use Rattle.sp_codegen.proofs.ProcessInfoLaws.{reads_all}
 use Rattle.sp_codegen.proofs.Root.{j0, root_stands, root_placed}
 

@@ -8,7 +8,7 @@ use Rattle.sp_tree.specs.Uses.{In_stmt, In_call}
 use Rattle.sp_meaning.specs.LocalWork.{OfBlock, Frame, LocalState, Item, Leave, WorkOutcome, Computed, EndsInFault}
 use Rattle.sp_meaning.specs.LocalWork.{IllFormed, OutOfFuel, Work, bind, give, who}
 use Rattle.sp_meaning.specs.LocalWork.{is_block, seek}
-use Rattle.sp_meaning.specs.Owning.{frame_found, Linked, Sound, Gave}
+use Rattle.sp_meaning.specs.Rights.{frame_found, Linked, Sound, AreArgumentsOf}
 use Rattle.sp_meaning.specs.Eval.{ArgumentValue}
 use Rattle.sp_meaning.specs.Actions.{Action, Ticked, push, enter, references}
 use Rattle.sp_meaning.specs.Run.{Store, run}
@@ -24,11 +24,11 @@ use Rattle.sp_code.specs.Machine as m
 use Rattle.sp_code.specs.Scopes.{Scope, level, is_given, scopes_of, scopes_by}
 use Rattle.sp_code.specs.Scopes as places
 use Rattle.sp_code.specs.Places.{after_statement}
-use Rattle.sp_code.specs.Emitted.{end_instr}
+use Rattle.sp_code.specs.TreeCode.{end_instr}
 use Rattle.sp_code.specs.CodeOfTree.{CodeAt, HasFork, HasWords, CallAt, Around, IsCallable, BlockAt, BlocksAt}
 use Rattle.sp_codegen.specs.FramePairs.{FramePair, sources, pairs_from, HomeIs, Chain}
 use Rattle.sp_codegen.specs.Executions.{Execution}
-use Rattle.sp_codegen.specs.Following.{StandsFor}
+use Rattle.sp_codegen.specs.CodePositions.{StandsFor}
 use Rattle.sp_codegen.specs.Relation.{CallMatches, GivensAre, frame_for}
 use Rattle.sp_codegen.proofs.Runs.{stays, goes, breaks, holds_when}
 use Rattle.sp_codegen.proofs.FramePairs.{sources_length, up_from}
@@ -138,7 +138,7 @@ module _ {M : Type 0} (ex : Execution M) where
       (sc : List Scope) (q : ℕ) (stack : List Entry) (gs : List ArgumentValue) (es : List Entry) → rel.Agrees fs o s n
       → Pl ex sc fs (In_call f args)
       → CallAt p moves shares (CodeAt code) (HasFork code) (HasWords code) callable sc q f b
-      → (z : BlockIs f b) → GivensAre rel p fs b.formals gs es → Gave p (sources fs) args gs
+      → (z : BlockIs f b) → GivensAre rel p fs b.formals gs es → AreArgumentsOf p (sources fs) args gs
       → CallFinds fs f b q stack gs es o s n z.layout
   call_finds {fs} {o} {s} {n} f args b sc q stack gs es t pl (level, known, within, calls) z gv ga =
       by_parent b.parent refl within
@@ -218,7 +218,7 @@ module _ {M : Type 0} (ex : Execution M) where
       (fs : List FramePair) (o : LocalState) (s : Store) (n : M) → rel.Agrees fs o s n → Pl ex sc fs (In_call f args)
       → CallAt p moves shares (CodeAt code) (HasFork code) (HasWords code) callable sc q f b → b.answer ≡ None
       → IsCallable callable (is_in_no_function stack) f → GivensAre rel p fs b.formals gs es
-      → Gave p (sources fs) args gs
+      → AreArgumentsOf p (sources fs) args gs
       → After ex end base below todo fs (q + 1) stack
       → K ex (m.At q (pushed es stack) n) o s (After ex end base below)
       (bind (enter g f gs) (λ y. give (Ticked (push y.body (Leave ∷ todo)))))

@@ -19,18 +19,18 @@ use Rattle.sp_code.specs.Memory.{Memory, memory, first_process, first_memory, en
 use Rattle.sp_code.specs.PlainStore.{plain}
 use Rattle.sp_code.specs.Places.{after_statement}
 use Rattle.sp_code.specs.Scopes.{scopes_of}
-use Rattle.sp_code.specs.Emitted.{program_code}
+use Rattle.sp_code.specs.TreeCode.{program_code}
 use Rattle.sp_code.specs.CodeOfTree.{BlockAt, BlocksAt, IsSoundBlock}
 use Rattle.sp_code.specs.NeverStops.{NeverStops}
 use Rattle.sp_code.proofs.Blocks.{blocks_stand, layout_found}
-use Rattle.sp_tree.specs.Formed.{IsFormed}
+use Rattle.sp_tree.specs.TreeShape.{IsFormed}
 use Rattle.sp_code.specs.Sizes.{HasSmallTypes}
 use Rattle.sp_codegen.specs.FramePairs.{FramePair}
 use Rattle.sp_codegen.specs.Executions.{Execution}
 use Rattle.sp_codegen.specs.Relation.{KeepsRelation}
-use Rattle.sp_codegen.specs.Standing.{relation}
+use Rattle.sp_codegen.specs.MemoryRelation.{relation}
 use Rattle.sp_codegen.specs.TurnAgrees.{code_run, due_after, EndsAlike}
-use Rattle.sp_codegen.proofs.Closing.{Laid}
+use Rattle.sp_codegen.proofs.Returns.{Laid}
 use Rattle.sp_codegen.proofs.Instance.{instance}
 use Rattle.sp_codegen.proofs.Follows.{push_follows, slides}
 use Rattle.sp_codegen.proofs.Turn.{Turned, turn_meets}

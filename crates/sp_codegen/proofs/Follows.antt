@@ -23,9 +23,9 @@ use Rattle.sp_code.specs.Places.{after_statement, after_all}
 use Rattle.sp_code.specs.CodeOfTree.{CodeAt, HasFork, HasWords, StatementAt, AllAt}
 use Rattle.sp_codegen.specs.FramePairs.{FramePair}
 use Rattle.sp_codegen.specs.Executions.{Execution}
-use Rattle.sp_codegen.specs.Following as following
-pub use Rattle.sp_codegen.specs.Following.{cells_in}
-use Rattle.sp_codegen.specs.Following.{StandsFor}
+use Rattle.sp_codegen.specs.CodePositions as following
+pub use Rattle.sp_codegen.specs.CodePositions.{cells_in}
+use Rattle.sp_codegen.specs.CodePositions.{StandsFor}
 use Rattle.sp_codegen.specs.Relation.{Alike}
 use Rattle.sp_codegen.proofs.Runs.{Realizes, HasKnownValue, RealizesResult, stays, goes, comes_on, breaks, breaks_after}
 use Rattle.sp_codegen.proofs.ValueForms.{P, within}

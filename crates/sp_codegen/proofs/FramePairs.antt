@@ -7,7 +7,7 @@ use Rattle.sp_meaning.specs.Model.{Name}
 use Rattle.sp_code.specs.Memory.{last_frames, frames_up}
 use Rattle.sp_tree.specs.Plain.{Program}
 use Rattle.sp_codegen.specs.FramePairs.{FramePair, sources, machines, pairs_from, up_at}
-use Rattle.sp_codegen.specs.Standing.{Paired}
+use Rattle.sp_codegen.specs.MemoryRelation.{Paired}
 
 -- where it ends so, it is so long
 pub from_length : (n : ℕ) (js : List FramePair) (k : FramePair) (rest : List FramePair) → pairs_from n js ≡ k ∷ rest

@@ -15,7 +15,7 @@ use Rattle.sp_meaning.specs.LocalWork.{OfBlock, Frame, LocalState, Item, WorkOut
 use Rattle.sp_meaning.specs.LocalWork.{OutOfFuel, Work, bind, give, fetch}
 use Rattle.sp_meaning.specs.LocalWork.{value_in, is_block}
 use Rattle.sp_meaning.specs.LocalWork as own
-use Rattle.sp_meaning.specs.Owning.{Gave}
+use Rattle.sp_meaning.specs.Rights.{AreArgumentsOf}
 use Rattle.sp_meaning.specs.Eval.{AtAddress, ArgumentValue, checked_value, ordinal_read, kind_at, read_at, place_of}
 use Rattle.sp_meaning.specs.Eval.{in_frame, place_by}
 use Rattle.sp_meaning.specs.Actions.{Action, Stepped, Ticked, Opened, Forked, Offered, Ended, push, enter, leave}
@@ -37,7 +37,7 @@ use Rattle.sp_code.specs.CodeOfTree.{CodeAt, HasFork, HasWords, CallAt, Around}
 use Rattle.sp_codegen.specs.FramePairs.{FramePair, sources, Chain}
 use Rattle.sp_codegen.specs.Shapes.{CellIs}
 use Rattle.sp_codegen.specs.Executions.{Execution}
-use Rattle.sp_codegen.specs.Following.{StandsFor}
+use Rattle.sp_codegen.specs.CodePositions.{StandsFor}
 use Rattle.sp_codegen.specs.Relation.{StackHolds, OneCell, CallMatches, GivensAre, frame_for}
 use Rattle.sp_codegen.proofs.Runs.{HasKnownValue, RealizesResult, ends_after, goes, comes_on, breaks, gives_after}
 use Rattle.sp_codegen.proofs.Runs.{gives_bind}
@@ -228,7 +228,7 @@ module _ {M : Type 0} (ex : Execution M) where
           → CallAt p moves shares (CodeAt code) (HasFork code) (HasWords code) callable sc q f b
           → ((x : ℕ) × (b.answer ≡ Some x)) → sort p k ≡ Ordinals
           → (gs : List ArgumentValue) (es : List Entry) → GivensAre rel p fs b.formals gs es
-          → Gave p (sources fs) args gs
+          → AreArgumentsOf p (sources fs) args gs
           → (z : BlockIs ex f b) → G ex fs (m.At q (pushed es stack) n) o s (q + 1) (Top ex stack) (StK k)
           (call_by g go f gs)
       function_gives f args b sc q k stack fs o s n t pl ca ans ek gs es gv ga z =

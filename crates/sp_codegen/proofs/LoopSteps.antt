@@ -9,7 +9,7 @@ use Rattle.sp_cell.specs.declared.cell.Cell.TheVariants as cell
 use Rattle.sp_cell.specs.declared.spot.Address.{Address as Ptr}
 use Rattle.sp_meaning.specs.Values.{Ordinal}
 use Rattle.sp_meaning.specs.LocalWork.{Address, LocalState, Item, First, Again, bind, give, who, assign, tick, is_block}
-use Rattle.sp_meaning.specs.Owning.{location_of, location_at, location_by, cell_of as cell_in}
+use Rattle.sp_meaning.specs.Rights.{location_of, location_at, location_by, cell_of as cell_in}
 use Rattle.sp_meaning.specs.Eval.{AtAddress, place_of, address, in_frame, place_by}
 use Rattle.sp_meaning.specs.Actions.{Stepped, Ticked, push, is_range, turn_of}
 use Rattle.sp_meaning.specs.Run.{Store}

@@ -22,11 +22,11 @@ use Rattle.sp_code.specs.Machine.{Entry, Config, Goes, on_some, on_result, next_
 use Rattle.sp_code.specs.Machine as m
 use Rattle.sp_code.specs.Scopes.{Sort, Ordinals, Channels, Many, NoSort, sort}
 use Rattle.sp_code.specs.Places.{after_unary, after_standard}
-use Rattle.sp_code.specs.Emitted.{binary_instr}
+use Rattle.sp_code.specs.TreeCode.{binary_instr}
 use Rattle.sp_code.specs.CodeOfTree.{CodeAt, HasFork, HasWords, UnaryAt, Operands, StandardAt, InputAt, TakesChannels}
 use Rattle.sp_codegen.specs.FramePairs.{FramePair}
 use Rattle.sp_codegen.specs.Executions.{Execution}
-use Rattle.sp_codegen.specs.Following.{StandsFor}
+use Rattle.sp_codegen.specs.CodePositions.{StandsFor}
 use Rattle.sp_codegen.specs.Relation.{StackHolds}
 use Rattle.sp_codegen.proofs.Runs.{stays, goes, gives_bind, gives_known, gives_give, gives_fail, gives_by}
 use Rattle.sp_codegen.proofs.ValueForms.{G, at_one, Top, St, NumberTop, Nothing_more, ordinal_known, channel_known}

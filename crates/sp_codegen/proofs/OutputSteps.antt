@@ -19,11 +19,11 @@ use Rattle.sp_code.specs.Machine.{Entry, Config, Fails, on_some, next_step}
 use Rattle.sp_code.specs.Machine as m
 use Rattle.sp_code.specs.Scopes.{Scope, is_given}
 use Rattle.sp_code.specs.Places.{after_value, after_width}
-use Rattle.sp_code.specs.Emitted.{write_instr}
+use Rattle.sp_code.specs.TreeCode.{write_instr}
 use Rattle.sp_code.specs.CodeOfTree.{CodeAt, HasFork, HasWords, WidthAt, IsWritten}
 use Rattle.sp_codegen.specs.FramePairs.{FramePair}
 use Rattle.sp_codegen.specs.Executions.{Execution}
-use Rattle.sp_codegen.specs.Following.{StandsFor}
+use Rattle.sp_codegen.specs.CodePositions.{StandsFor}
 use Rattle.sp_codegen.proofs.Runs.{stays, breaks, gives_alike, holds_when}
 use Rattle.sp_codegen.proofs.Values.{ordinal_gives}
 use Rattle.sp_codegen.proofs.Follows.{makes_bind, makes_known, makes_went}

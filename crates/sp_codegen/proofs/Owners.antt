@@ -2,7 +2,7 @@
 use Rattle.std.proofs.Common.{◌≡◌, ⊎_elim, ℕ, suc, ◌≤◌, List, [], ◌∷◌, length, subst, arith, ap}
 use Rattle.sp_meaning.specs.Model.{Name}
 use Rattle.sp_codegen.specs.FramePairs.{FramePair, pairs_from}
-use Rattle.sp_codegen.specs.Standing.{OwnersWithin}
+use Rattle.sp_codegen.specs.MemoryRelation.{OwnersWithin}
 use Rattle.sp_codegen.proofs.FramePairs.{from_cases}
 
 pub within_more : (a b : ℕ) (js : List FramePair) → a ≤ b → OwnersWithin a js → OwnersWithin b js

@@ -17,7 +17,7 @@ use Rattle.sp_meaning.specs.Values.{Value, Undefined, Ordinal, Chan, Parts, get_
 use Rattle.sp_meaning.specs.LocalWork.{Address, Home, OfBlock, OfIndex, Frame, LocalState, Work, bind, give, fail}
 use Rattle.sp_meaning.specs.LocalWork.{ill_formed, or_ill_formed}
 use Rattle.sp_meaning.specs.LocalWork.{visible_frame, fetch, is_block, is_index, value_in, reference_target}
-use Rattle.sp_meaning.specs.Owning.{location_of, location_at, location_by, cell_of, reference_of, spot_of, frame_found}
+use Rattle.sp_meaning.specs.Rights.{location_of, location_at, location_by, cell_of, reference_of, spot_of, frame_found}
 use Rattle.sp_meaning.specs.Eval.{Place, AtAddress, Fixed, ordinal_read, channel_read, checked_value, element_at}
 use Rattle.sp_meaning.specs.Eval.{field_kind}
 use Rattle.sp_meaning.specs.Eval.{element_place, field_place, read_at, in_frame, index_in, place_by, place_of}
@@ -32,7 +32,7 @@ use Rattle.sp_code.specs.CodeOfTree.{CodeAt, HasFork, HasWords, VarRole, VarAt, 
 use Rattle.sp_codegen.specs.FramePairs.{FramePair, sources, Chain}
 use Rattle.sp_codegen.specs.Shapes.{CellIs, Flat}
 use Rattle.sp_codegen.specs.Executions.{Execution}
-use Rattle.sp_codegen.specs.Following.{StandsFor}
+use Rattle.sp_codegen.specs.CodePositions.{StandsFor}
 use Rattle.sp_codegen.specs.Relation.{StackHolds, Owns, OneCell}
 use Rattle.sp_codegen.proofs.Runs.{goes, gives_known, gives_give, gives_fail, gives_by, holds_when}
 use Rattle.sp_codegen.proofs.Chains.{block_agrees, index_agrees, found, seek_all, find_in}

@@ -20,7 +20,7 @@ use Rattle.sp_code.specs.Memory.{Memory}
 use Rattle.sp_code.specs.NeverStops.{NeverStops}
 use Rattle.sp_code.specs.CodeOfTree.{BlocksAt}
 use Rattle.sp_code.proofs.Blocks.{blocks_stand, layout_found}
-use Rattle.sp_codegen.specs.Following.{Turned}
+use Rattle.sp_codegen.specs.CodePositions.{Turned}
 use Rattle.sp_codegen.specs.FramePairs.{FramePair}
 use Rattle.sp_codegen.specs.ProcessInfos.{IsCompilable, Inheritance, Consoles, Handed, writes_by, reads_by, ProcessInfo}
 use Rattle.sp_codegen.specs.ProcessInfos.{IsProcessInfo, code_of}

@@ -23,7 +23,7 @@ use Rattle.sp_code.specs.CodeOfTree.{StatementAt}
 use Rattle.sp_code.specs.CodeOfTree.{AllAt, ChildrenAt, ArmsAt, CodeAt, HasFork, HasWords, BlocksAt}
 use Rattle.sp_codegen.specs.FramePairs.{FramePair}
 use Rattle.sp_codegen.specs.Executions.{Execution}
-use Rattle.sp_codegen.specs.Following.{CodeFollows}
+use Rattle.sp_codegen.specs.CodePositions.{CodeFollows}
 
 module _ (p : Program) (values : DoFunctionsTakeValues p) (moves shares : Stmt → List ℕ) (Is : ℕ → Instr → Type 0)
     (HasTable : ℕ → ForkTable → Type 0) (HasText : ℕ → List ℕ → Type 0) (callable : ℕ → Type 0) where

@@ -32,11 +32,11 @@ use Rattle.sp_code.specs.Machine as m
 use Rattle.sp_code.specs.Scopes.{Sort, Ordinals, Channels, Many, NoSort, Scope, sort, sort_by, kind_of}
 use Rattle.sp_code.specs.Places.{after_value, after_form, after_var, after_actuals, after_test, after_tests}
 use Rattle.sp_code.specs.Places.{after_statement}
-use Rattle.sp_code.specs.Emitted as emitted
+use Rattle.sp_code.specs.TreeCode as emitted
 use Rattle.sp_code.specs.CodeOfTree.{CodeAt, HasFork, HasWords, ArmsAt, TestAt, TestsAt, ReadsAt}
 use Rattle.sp_codegen.specs.FramePairs.{FramePair, pairs_from}
 use Rattle.sp_codegen.specs.Executions.{Execution}
-use Rattle.sp_codegen.specs.Following.{StandsFor}
+use Rattle.sp_codegen.specs.CodePositions.{StandsFor}
 use Rattle.sp_codegen.specs.Relation.{StackHolds, OneCell}
 use Rattle.sp_codegen.proofs.Runs.{stays, goes, comes_on, gives_fail, holds_when}
 use Rattle.sp_codegen.proofs.Values.{at_console, value_gives, form_gives, address_gives, ordinal_gives, actuals_gives}

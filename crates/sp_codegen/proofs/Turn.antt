@@ -12,7 +12,7 @@ use Rattle.sp_code.specs.Machine.{Entry, Stop, Config, Goes, Stops, is_in_no_fun
 use Rattle.sp_code.specs.Machine as m
 use Rattle.sp_codegen.specs.FramePairs.{FramePair}
 use Rattle.sp_codegen.specs.Executions.{Execution}
-use Rattle.sp_codegen.specs.Following as following
+use Rattle.sp_codegen.specs.CodePositions as following
 use Rattle.sp_codegen.proofs.Runs.{goes, comes_on, breaks_after}
 use Rattle.sp_codegen.proofs.Follows.{outside_follows, Made, made_after}
 use Rattle.sp_codegen.proofs.StepForms.{C, After}

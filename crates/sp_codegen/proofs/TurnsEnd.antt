@@ -9,7 +9,7 @@ use Rattle.sp_meaning.specs.SuperPascal.{weight_of}
 use Rattle.sp_meaning.specs.Run.{Store, run}
 use Rattle.sp_meaning.specs.Turn as source
 use Rattle.sp_meaning.proofs.EnoughSteps.{ActionFalls, budget}
-use Rattle.sp_meaning.proofs.Reached.{Result, action_is}
+use Rattle.sp_meaning.proofs.StepLaws.{Result, action_is}
 use Rattle.sp_meaning.proofs.Run.{then_run, run_bind}
 use Rattle.sp_meaning.proofs.Weights.{AreLight, weights}
 

@@ -14,7 +14,7 @@ use Rattle.sp_meaning.specs.Values.{Value, Ordinal, Chan, get_at}
 use Rattle.sp_meaning.specs.LocalWork.{RunInput, Loc, Input, Address, Home, LocalState, Work, or_ill_formed}
 use Rattle.sp_meaning.specs.LocalWork.{visible_frame, fetch, is_index, seek}
 use Rattle.sp_meaning.specs.LocalWork.{top_frame, value_in, position_in}
-use Rattle.sp_meaning.specs.Owning.{location_of}
+use Rattle.sp_meaning.specs.Rights.{location_of}
 use Rattle.sp_meaning.specs.Eval.{Place, AtAddress, Fixed, ordinal, channel, kind_at, input_left}
 use Rattle.sp_meaning.specs.Run.{Store, run}
 use Rattle.sp_meaning.proofs.Within.{part}

@@ -10,7 +10,7 @@ use Rattle.sp_tree.specs.Plain.{Pass, Program, Variable, Block}
 use Rattle.sp_tree.specs.Uses.{Use, Seen, In_expr, In_form, In_target, In_selectors, In_actuals, In_call}
 use Rattle.sp_cell.specs.declared.spot.Address.{Address as Ptr}
 use Rattle.sp_meaning.specs.LocalWork.{Input, Address, LocalState}
-use Rattle.sp_meaning.specs.Owning.{location_of, location_at, location_by, console, Gave}
+use Rattle.sp_meaning.specs.Rights.{location_of, location_at, location_by, console, AreArgumentsOf}
 use Rattle.sp_meaning.specs.Eval.{Place, AtAddress, Fixed, ArgumentValue, ValueOf, PlaceOf, Calls, standard_op}
 use Rattle.sp_meaning.specs.Eval.{input_op, address_of}
 use Rattle.sp_meaning.specs.Eval.{value, form_value, place, component_place, actuals, address, ordinal_of}
@@ -57,7 +57,8 @@ module _ {M : Type 0} (ex : Execution M) where
         (o : LocalState) (s : Store) (n : M) → rel.Agrees js o s n → P ex sc js (In_call f args)
         → CallAt p moves shares (CodeAt code) (HasFork code) (HasWords code) callable sc q f b
         → ((x : ℕ) × (b.answer ≡ Some x)) → sort p k ≡ Ordinals
-        → (gs : List ArgumentValue) (es : List Entry) → GivensAre rel p js b.formals gs es → Gave p (sources js) args gs
+        → (gs : List ArgumentValue) (es : List Entry) → GivensAre rel p js b.formals gs es
+        → AreArgumentsOf p (sources js) args gs
         → G ex js (m.At q (pushed es stack) n) o s (q + 1) (Top ex stack) (St ex k) (call f gs)
 
   -- it is no index
@@ -169,7 +170,7 @@ module _ {M : Type 0} (ex : Execution M) where
         → ActualsAt p moves shares (CodeAt code) (HasFork code) (HasWords code) callable sc q args xs
         → G ex js (m.At q stack n) o s (after_actuals q args)
         (λ (gs : List ArgumentValue) (es : List Entry). pushed es stack)
-        (λ gs es. GivensAre rel p js xs gs es × Gave p (sources js) args gs) (actuals g call args)
+        (λ gs es. GivensAre rel p js xs gs es × AreArgumentsOf p (sources js) args gs) (actuals g call args)
     actuals_gives call ok Nothing [] sc q stack js o s n t pl h =
         gives_give ops rel w code [] [] (stays ops rel w code _) t (tt, tt)
     actuals_gives call ok Nothing (x ∷ xs) sc q stack js o s n t pl h = absurd h

@@ -2,7 +2,7 @@
 -- A process at a fork, a child of a parallel statement or of a forall there, and where this child begins.
 use Rattle.std.specs.Prelude.{◌≡◌, ℕ, suc, ◌+◌, ◌≤◌, ℤ, pos, ◌+ℤ◌, List, [], ◌∷◌, length, Option, Some, None, true}
 use Rattle.std.specs.Prelude.{slice_get}
-use Rattle.sp_tree.specs.Formed.{IsFormedUse}
+use Rattle.sp_tree.specs.TreeShape.{IsFormedUse}
 use Rattle.sp_tree.specs.Plain.{Expr, Stmt, Stmts, Parallel, Forall}
 use Rattle.sp_tree.specs.Uses.{Use, In_stmt}
 use Rattle.sp_cell.specs.declared.spot.Handing.{Handing}
@@ -12,7 +12,7 @@ use Rattle.sp_meaning.specs.Actions.{Birth, push}
 use Rattle.sp_meaning.specs.Run.{Store}
 use Rattle.sp_code.specs.declared.code.ChildTable.{ChildTable}
 use Rattle.sp_code.specs.declared.instr.Instr.TheVariants as i
-use Rattle.sp_code.specs.Emitted.{child_table}
+use Rattle.sp_code.specs.TreeCode.{child_table}
 use Rattle.sp_code.specs.Machine.{Entry, At}
 use Rattle.sp_code.specs.Memory.{Memory}
 use Rattle.sp_code.specs.Places.{after_statement}

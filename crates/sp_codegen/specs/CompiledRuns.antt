@@ -9,12 +9,12 @@ use Rattle.sp_meaning.specs.LocalWork.{RunInput, Loc, LocalState, Item, WorkOutc
 use Rattle.sp_meaning.specs.Run.{Store, run}
 use Rattle.sp_meaning.specs.Turn as source
 use Rattle.sp_code.specs.declared.code.Parts.{Parts}
-use Rattle.sp_code.specs.Emitted.{program_code}
+use Rattle.sp_code.specs.TreeCode.{program_code}
 use Rattle.sp_code.specs.Machine.{Entry, Config, At}
 use Rattle.sp_code.specs.Memory.{Memory}
 use Rattle.sp_code.specs.Memory as m
 use Rattle.sp_code.specs.Turns.{IsSafe}
-use Rattle.sp_codegen.specs.Following.{Turned}
+use Rattle.sp_codegen.specs.CodePositions.{Turned}
 use Rattle.sp_codegen.specs.FramePairs.{FramePair}
 use Rattle.sp_codegen.specs.ProcessInfos.{IsCompilable, ProcessInfo, IsReadable, MemoryMatches, Laws, execution_of}
 use Rattle.sp_codegen.specs.ProcessInfos.{IsAt, code_of, due_of, operations_of}

@@ -2,7 +2,7 @@
 -- One process that runs the code of a tree: all that the simulation of its turns speaks of, and what it asks of it. The
 -- simulation is proved over this record, and `ProcessInfos` gives one for each process of a run.
 use Rattle.std.specs.Prelude.{◌≡◌, ℕ, List, Some, Bool, slice_get}
-use Rattle.sp_tree.specs.Formed.{IsFormedUse}
+use Rattle.sp_tree.specs.TreeShape.{IsFormedUse}
 use Rattle.sp_tree.specs.Plain.{Block, Stmt}
 use Rattle.sp_tree.specs.Uses.{Use, In_stmt}
 use Rattle.sp_tree.specs.Interference.{IsFreeOfInterference}

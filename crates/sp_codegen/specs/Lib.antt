@@ -2,8 +2,8 @@ pub mod FramePairs
 pub mod Shapes
 pub mod Relation
 pub mod Executions
-pub mod Following
-pub mod Standing
+pub mod CodePositions
+pub mod MemoryRelation
 pub mod TurnAgrees
 pub mod ProcessInfos
 pub mod Parents

@@ -18,7 +18,7 @@ use Rattle.sp_meaning.specs.LocalWork.{Identity}
 use Rattle.sp_meaning.specs.Run.{Store}
 use Rattle.sp_code.specs.declared.code.Parts.{Parts as Code}
 use Rattle.sp_code.specs.declared.instr.Instr.TheVariants as i
-use Rattle.sp_code.specs.Emitted.{children_tables, child_table}
+use Rattle.sp_code.specs.TreeCode.{children_tables, child_table}
 use Rattle.sp_code.specs.Memory.{Memory, position_at}
 use Rattle.sp_code.specs.Places.{after_statement}
 use Rattle.sp_code.specs.PlainStore.{piece_of}
@@ -26,7 +26,7 @@ use Rattle.sp_code.specs.Scopes.{Scope, slot}
 use Rattle.sp_code.specs.CodeOfTree.{CodeAt, HasFork, HasWords, StatementAt}
 use Rattle.sp_codegen.specs.FramePairs.{FramePair, pairs_from}
 use Rattle.sp_codegen.specs.ProcessInfos.{ProcessInfo, code_of, Named, Called, IsWritableLoc, IsReadable, Indexes}
-use Rattle.sp_codegen.specs.Standing.{spot_at, Live, HeldAt, Agrees}
+use Rattle.sp_codegen.specs.MemoryRelation.{spot_at, Live, HeldAt, Agrees}
 
 module _ (p : Program) (moves shares : Stmt → List ℕ) (code : Code) (callable : ℕ → Type 0) (free : Bool)
     (sc : List Scope) where

@@ -10,20 +10,20 @@ use Rattle.sp_cell.specs.declared.spot.Spot.{Spot}
 use Rattle.sp_cell.specs.Fork.{index_frame, moved_of}
 use Rattle.sp_cell.specs.Map.{Plain}
 use Rattle.sp_cell.specs.Spots.{In, NotIn}
-use Rattle.sp_tree.specs.Formed.{IsFormed, IsFormedUse}
+use Rattle.sp_tree.specs.TreeShape.{IsFormed, IsFormedUse}
 use Rattle.sp_tree.specs.Interference.{IsFreeOfInterference}
 use Rattle.sp_tree.specs.Plain.{Program, Block, Stmt}
 use Rattle.sp_tree.specs.Uses.{Use, In_stmt}
 use Rattle.sp_tree.specs.Uses as use_of
 use Rattle.sp_meaning.specs.Model.{Name, Channel, same_channel}
 use Rattle.sp_meaning.specs.LocalWork.{RunInput, Loc, Cell, OfIndex as Home_of, Frame, LocalState, Identity, Item}
-use Rattle.sp_meaning.specs.Owning.{Aimed, Used}
+use Rattle.sp_meaning.specs.Rights.{Aimed, Used}
 use Rattle.sp_meaning.specs.Run.{Store}
 use Rattle.sp_meaning.proofs.Rights.{OwnLocation, OwnOrGiven}
-use Rattle.sp_meaning.proofs.Started.{First}
+use Rattle.sp_meaning.proofs.RuleKeepers.{First}
 use Rattle.sp_code.specs.declared.code.Layout.{Layout}
 use Rattle.sp_code.specs.declared.code.Parts.{Parts}
-use Rattle.sp_code.specs.Emitted.{program_code}
+use Rattle.sp_code.specs.TreeCode.{program_code}
 use Rattle.sp_code.specs.declared.instr.Instr.TheVariants as i
 use Rattle.sp_code.specs.Machine.{Entry, Ops, Config, At, is_in_no_function, layout_of}
 use Rattle.sp_code.specs.Memory.{Memory, memory}
@@ -33,11 +33,11 @@ use Rattle.sp_code.specs.Scopes.{Scope, level, is_index}
 use Rattle.sp_code.specs.Sizes.{HasSmallTypes}
 use Rattle.sp_code.specs.CodeOfTree.{IsSoundBlock}
 use Rattle.sp_codegen.specs.Executions.{Execution}
-use Rattle.sp_codegen.specs.Following.{CodeFollows}
+use Rattle.sp_codegen.specs.CodePositions.{CodeFollows}
 use Rattle.sp_codegen.specs.FramePairs.{FramePair, sources, up_at}
 use Rattle.sp_codegen.specs.TurnAgrees.{code_run, due_after}
 use Rattle.sp_codegen.specs.Relation.{Relation, KeepsRelation, Placed}
-use Rattle.sp_codegen.specs.Standing.{Agrees, relation}
+use Rattle.sp_codegen.specs.MemoryRelation.{Agrees, relation}
 
 -- a tree that the code of a program may be made of
 pub record IsCompilable (p : Program) (moves shares : Stmt → List ℕ) : Type 0 where

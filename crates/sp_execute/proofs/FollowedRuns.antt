@@ -33,7 +33,7 @@ use Rattle.sp_replay.specs.declared.replayer.ReplayError.TheVariants as error
 use Rattle.sp_replay.specs.Replays as machine
 use Rattle.sp_execute.specs.Runs.{run_input, IsCodeOf}
 use Rattle.sp_execute.specs.Follows.{FollowsTo}
-use Rattle.sp_execute.proofs.Concluding.{names, means, same_output, same_end}
+use Rattle.sp_execute.proofs.Conclusions.{names, means, same_output, same_end}
 
 -- the first entries of a journal that gives names give names
 nameable_front : (s : Births) (n : ℕ) (es : List Entry) → NameableFrom s es → NameableFrom s (take n es)

@@ -1,9 +1,9 @@
-mod Waiting
+mod DeadlockWaiters
 mod Races
-mod Concluding
-mod Executing
+mod Conclusions
+mod CodeRuns
 mod FollowedRuns
-mod Judged
+mod VerdictFacts
 mod Prefixes
 mod Readiness
 mod TextTold

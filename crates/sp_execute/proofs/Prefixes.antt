@@ -10,17 +10,17 @@ use Rattle.sp_journal.specs.Names.{Happening, Laid, Paused, Occurrence}
 use Rattle.sp_meaning.specs.Model.{Name}
 use Rattle.sp_meaning.specs.LocalWork.{RunInput}
 use Rattle.sp_meaning.specs.Runs.{StateOf, start}
-use Rattle.sp_meaning.specs.Along.{Course, no_course, Along, EntryStep}
+use Rattle.sp_meaning.specs.Along.{JournalState, before_entries, Along, EntryStep}
 use Rattle.sp_execute.specs.Follows.{IsMeant, IsUnfitAt}
 
 module _ (g : RunInput) (turn : ℕ) where
   -- the meaning is defined along these occurrences from here on
-  abbrev Defined : List Occurrence → Course → StateOf g → Type 0
+  abbrev Defined : List Occurrence → JournalState → StateOf g → Type 0
   Defined os c s = (n : ℕ) × (t : StateOf g) × Along g turn c s os n t
 
-  module _ (os ps : List Occurrence) (shorter : (c : Course) (s : StateOf g) (n : ℕ) (t : StateOf g)
+  module _ (os ps : List Occurrence) (shorter : (c : JournalState) (s : StateOf g) (n : ℕ) (t : StateOf g)
       → Along g turn c s os n t → Defined ps c s) where
-    entered : (c : Course) (m : StateOf g) (paused : Bool) (q : Name) (what : Happening) (n : ℕ) (t : StateOf g)
+    entered : (c : JournalState) (m : StateOf g) (paused : Bool) (q : Name) (what : Happening) (n : ℕ) (t : StateOf g)
         → EntryStep g (λ c1 u r. Along g turn c1 u os r t) c m paused q what n
         → (k : ℕ) × (z : StateOf g) × EntryStep g (λ c1 u r. Along g turn c1 u ps r z) c m paused q what k
     entered c m paused q Laid n t h = let r = shorter _ _ n t h.1 in (r.0, r.1, (h.0, r.2))
@@ -28,7 +28,7 @@ module _ (g : RunInput) (turn : ℕ) where
     entered _ _ _ _ _ _ t (a, b, u, rest, e, i, l) = let r = shorter _ _ rest t l in
         (suc r.0, r.1, (a, b, u, r.0, refl, i, r.2))
 
-  first_part : (b : Births) (xs ys : List Entry) (c : Course) (s : StateOf g) (n : ℕ) (t : StateOf g)
+  first_part : (b : Births) (xs ys : List Entry) (c : JournalState) (s : StateOf g) (n : ℕ) (t : StateOf g)
       → Along g turn c s (occurrences_from b (xs ++ ys)) n t → Defined (occurrences_from b xs) c s
   first_part b [] ys c s n t h = (0, s, (refl, refl))
   first_part b (x ∷ xs) ys c s n t (laid, k, rest, m, paused, e, made, h) =
@@ -50,8 +50,8 @@ whole_take (suc n) [] = ([], refl)
 whole_take (suc n) (e ∷ es) = let r = whole_take n es in (r.0, ap (λ xs. e ∷ xs) r.1)
 
 meant_part : (g : RunInput) (xs ys es : List Entry) → es ≡ xs ++ ys → IsMeant g es → IsMeant g xs
-meant_part g xs ys es e (n, s, h) = first_part g TURN_TICKS first_births xs ys no_course (start g) n s
-    (subst (λ zs. Along g TURN_TICKS no_course (start g) (occurrences_from first_births zs) n s) e h)
+meant_part g xs ys es e (n, s, h) = first_part g TURN_TICKS first_births xs ys before_entries (start g) n s
+    (subst (λ zs. Along g TURN_TICKS before_entries (start g) (occurrences_from first_births zs) n s) e h)
 
 pub not_both : (g : RunInput) (es : List Entry) (n : ℕ) → IsMeant g es → IsUnfitAt g es n → ⊥
 not_both g es n m u = let r = whole_take (suc n) es in u.unfit (meant_part g (take (suc n) es) r.0 es r.1 m)

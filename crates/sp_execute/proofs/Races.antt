@@ -23,8 +23,8 @@ use Rattle.sp_meaning.specs.Runs.{StateOf}
 use Rattle.sp_judge.specs.Prefixes.{WaitersAreSilent}
 use Rattle.sp_numbered.specs.Journals.{IsWitness}
 use Rattle.sp_witness.specs.Contention.{NeverContends}
-use Rattle.sp_witness.specs.Moved.{IsPlain}
-use Rattle.sp_witness.specs.Numbered.{witness_journal}
+use Rattle.sp_witness.specs.TableNumbers.{IsPlain}
+use Rattle.sp_witness.specs.OccurrenceNumbers.{witness_journal}
 use Rattle.sp_witness.specs.Witness.{who_at, witness}
 use Rattle.sp_execute.specs.declared.execution.Ran.{Ran}
 use Rattle.sp_execute.specs.Runs.{Executes}

@@ -7,7 +7,7 @@ use Rattle.sp_base.specs.declared.rule.Rule.TheVariants as rule
 use Rattle.sp_tree.specs.declared.checked.Role.TheVariants as role
 use Rattle.sp_tree.specs.declared.checked.Variable.{Variable as Placed}
 use Rattle.sp_tree.specs.Bare.{without_places, variable_of}
-use Rattle.sp_tree.specs.Formed.{IsFormed}
+use Rattle.sp_tree.specs.TreeShape.{IsFormed}
 use Rattle.sp_tree.specs.Interference.{IsFreeOfInterference, IsFunction, IsMember}
 use Rattle.sp_tree.specs.Plain.{Stmt, Block, Variable}
 use Rattle.sp_tree.specs.PlainChecked as c
@@ -16,7 +16,7 @@ use Rattle.sp_tree.proofs.NoBreach.{block_at}
 use Rattle.sp_code.specs.Shares.{SetsAre}
 use Rattle.sp_code.specs.Sound.{AreLimits}
 use Rattle.sp_facts.specs.AcceptedTree.{KeepsInterference, IsAccepted}
-use Rattle.sp_facts.proofs.Joining.{accepted_fine, accepted_free, accepted_formed, accepted_small}
+use Rattle.sp_facts.proofs.AcceptedFacts.{accepted_fine, accepted_free, accepted_formed, accepted_small}
 use Rattle.sp_link.specs.Premises.{IsReady}
 
 variable_at : (vs : List Placed) (x : ℕ) (v : Variable) → slice_get (map variable_of vs) x ≡ Some v → (i : Placed)

@@ -16,7 +16,7 @@ use Rattle.sp_journal.specs.declared.entry.Event.TheVariants as event
 use Rattle.sp_code.specs.declared.instr.Instr.{Instr}
 use Rattle.sp_code.specs.declared.instr.Instr.TheVariants as i
 use Rattle.sp_code.specs.declared.code.Parts.{Parts}
-use Rattle.sp_code.specs.Emitted.{program_code}
+use Rattle.sp_code.specs.TreeCode.{program_code}
 use Rattle.sp_code.specs.Machine.{Stop, Forks, Opens, Sends, Receives, Ends, Pauses, Config}
 use Rattle.sp_code.specs.Memory.{CodeRun, Memory, memory}
 use Rattle.sp_code.specs.PlainStore.{plain as plain_store}
@@ -24,11 +24,11 @@ use Rattle.sp_code.specs.System.{System, event_or, fault_of}
 use Rattle.sp_code.specs.Turns.{Turn, Stopped, Faulted, BeginsOrFaults, Runs, IsTurn, frames_fit}
 use Rattle.sp_lines.specs.AtTurn.{at_turn, StopStands}
 use Rattle.sp_lines.specs.Kinds.{HasStatement}
-use Rattle.sp_lines.specs.declared.told.Told.{Told}
-use Rattle.sp_lines.specs.Telling.{EntryTells, EntriesTell}
-use Rattle.sp_lines.proofs.Faulting.{fault_marked}
-use Rattle.sp_lines.proofs.Shown.{at_mark, shown}
-use Rattle.sp_lines.proofs.Stopping.{turn_stands}
+use Rattle.sp_lines.specs.declared.entry_place.Told.{Told}
+use Rattle.sp_lines.specs.EntryPlaces.{EntryTells, EntriesTell}
+use Rattle.sp_lines.proofs.FaultMarks.{fault_marked}
+use Rattle.sp_lines.proofs.EntryStatements.{at_mark, shown}
+use Rattle.sp_lines.proofs.StopInstructions.{turn_stands}
 use Rattle.sp_execute.specs.TextTold.{HasMark}
 
 module _ (p : Program) (moves shares : plain.Stmt → List ℕ) (g : CodeRun)

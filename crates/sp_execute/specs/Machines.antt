@@ -1,6 +1,6 @@
 -- None of this belongs to what the program promises: it is for contracts between crates.
--- What a run of code says without a program that the code is of: the contract of `run_code`. The top call promises of
--- it what the machine gives (`EndsWith`), and what the program means where `build` wrote the code.
+-- What a run of code says without a program that the code is of: the contract of `run_code_file`. The top call
+-- promises of it what the machine gives (`EndsWith`), and what the program means where `build` wrote the code.
 use Rattle.std.specs.Prelude.{ℕ, List}
 use Rattle.sp_base.specs.declared.limits.Limits.{Limits}
 use Rattle.sp_tree.specs.Plain.{Program, Stmt}

@@ -1,6 +1,6 @@
 -- Some of this belongs to what the program promises (docs/promise.txt).
--- What a run of the code of a program says of the program. The contracts of `execute` promise it, and the headline is
--- made of it: machine, kernel and meaning put together for one run.
+-- What a run of the code of a program says of the program. The contracts of `run_program` promise it, and the headline
+-- is made of it: machine, kernel and meaning put together for one run.
 use Rattle.std.specs.Prelude.{◌≡◌, ℕ, List}
 use Rattle.sp_base.specs.declared.limits.Limits.{Limits}
 use Rattle.sp_base.specs.declared.limits.TheConstants.{TURN_TICKS}
@@ -14,7 +14,7 @@ use Rattle.sp_meaning.specs.Runs.{StateOf, output_of}
 use Rattle.sp_meaning.specs.Along.{IsAlong}
 use Rattle.sp_meaning.specs.Ends.{EndIs}
 use Rattle.sp_code.specs.declared.code.Parts.{Parts}
-use Rattle.sp_code.specs.Emitted.{program_code}
+use Rattle.sp_code.specs.TreeCode.{program_code}
 use Rattle.sp_judge.specs.Races.{IsVerdict}
 use Rattle.sp_judge.specs.Runs.{AllEndAlike}
 use Rattle.sp_kernel.specs.declared.closed.Closed.{Closed}

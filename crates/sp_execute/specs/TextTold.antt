@@ -16,14 +16,14 @@ use Rattle.sp_code.specs.Turns.{frames_fit}
 use Rattle.sp_kernel.specs.Kernels.{system_of}
 use Rattle.sp_lines.specs.AtTurn.{next_of}
 use Rattle.sp_lines.specs.declared.mark.Mark.{Mark}
-use Rattle.sp_lines.specs.declared.told.Told.{Told}
+use Rattle.sp_lines.specs.declared.entry_place.Told.{Told}
 use Rattle.sp_lines.specs.Kinds.{HasStatement}
 use Rattle.sp_lines.specs.Marks.{marks}
-use Rattle.sp_lines.specs.Telling.{lasts_after}
-use Rattle.sp_lines.specs.Waiting.{IsShown}
-use Rattle.sp_replay.specs.declared.tracing.Traced.{Traced}
-use Rattle.sp_replay.specs.Tracing.{never}
-use Rattle.sp_shown.specs.Landing.{landing}
+use Rattle.sp_lines.specs.EntryPlaces.{lasts_after}
+use Rattle.sp_lines.specs.WaitPlaces.{IsShown}
+use Rattle.sp_replay.specs.declared.trace.Traced.{Traced}
+use Rattle.sp_replay.specs.TraceAnswers.{never}
+use Rattle.sp_shown.specs.JumpTargets.{landing}
 
 -- the instruction with this number has a mark
 abbrev pub HasMark : Program → ℕ → Type 0

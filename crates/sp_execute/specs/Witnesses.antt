@@ -19,7 +19,7 @@ use Rattle.sp_meaning.specs.LocalWork.{RunInput}
 use Rattle.sp_numbered.specs.Journals.{IsWitness}
 use Rattle.sp_replay.specs.declared.replayer.Replayed.{Replayed}
 use Rattle.sp_witness.specs.Contention.{NeverContends}
-use Rattle.sp_witness.specs.Numbered.{witness_journal}
+use Rattle.sp_witness.specs.OccurrenceNumbers.{witness_journal}
 use Rattle.sp_witness.specs.Witness.{who_at}
 use Rattle.sp_execute.specs.declared.execution.Ran.{Ran}
 use Rattle.sp_execute.specs.Follows.{IsFollowed, IsMeant}

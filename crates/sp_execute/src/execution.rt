@@ -1,4 +1,4 @@
-//! The call `execute`: a program's code from its start to the verdict.
+//! The call `run_program`: a program's code from its start to the verdict.
 
 ghost use Rattle.std.specs.Prelude.{◌<◌, ◌≤◌, ℕ, List, IfOk};
 ghost use Rattle.sp_tree.specs.Plain.{Program, Stmt};
@@ -18,7 +18,7 @@ use std::alloc::Global;
 use std::sync::{Arc, Wait};
 use std::thread::Threads;
 
-/// A run of a program with the verdict on it, as `execute` gives it.
+/// A run of a program with the verdict on it, as `run_program` gives it.
 #[derive(Drop)]
 pub struct Ran {
     /// The run: its end, its journal and its output.
@@ -35,7 +35,7 @@ pub struct Ran {
 /// the end; where it is ordered, every lawful schedule ends alike. The journal of one worker is first in, first out.
 ///
 /// The error is want of memory alone.
-pub fn execute<R: Threads + Wait + Sync, G: Gate>(
+pub fn run_program<R: Threads + Wait + Sync, G: Gate>(
     rt: &R,
     alloc: Global,
     code: Arc<Code>,

@@ -2,8 +2,8 @@
 //! are given. Code that has no source is run too, to its end alone.
 //!
 //! Calls:
-//! - `execute`: a run of a ready program's code by 1 to 64 workers, with its exact verdict: for each program with this
-//!   code the meaning is defined along the journal, with that end and output (`Executes`).
+//! - `run_program`: a run of a ready program's code by 1 to 64 workers, with its exact verdict: for each program with
+//!   this code the meaning is defined along the journal, with that end and output (`Executes`).
 //! - `conclude`: takes a run of code as one of each ready program that has the code (`IsAbout`), where the machine
 //!   gives that end and output along its journal. The run stays as it is.
 //! - `judge`: exactly the verdict of the journal and the end, with what it promises of each such program that is free
@@ -14,10 +14,10 @@
 //!   `sp_replay`).
 //! - `witness`: the witness of a run's race, a journal that gives names (`witness_of`); none exactly where the verdict
 //!   names no race.
-//! - `run_code`: a run of sound code by 1 to 64 workers, without a verdict; end and output are the machine's along the
-//!   journal, and the meaning's for each ready program with this code (`RunsCode`).
-//! - `Ran`: a run with its verdict, as `execute` makes one. `Concluded`: a run of a program, as `conclude` makes one.
-//!   `Replayed`, `Traced`, `Followed`, `ReplayError`, `lasts`: those of `sp_replay`.
+//! - `run_code_file`: a run of sound code by 1 to 64 workers, without a verdict; end and output are the machine's
+//!   along the journal, and the meaning's for each ready program with this code (`RunsCode`).
+//! - `Ran`: a run with its verdict, as `run_program` makes one. `Concluded`: a run of a program, as `conclude` makes
+//!   one. `Replayed`, `Traced`, `FollowedRun`, `ReplayError`, `lasts`: those of `sp_replay`.
 //!
 //! Laws:
 //! - `accepted_programs_are_ready`: the program of a text that breaks no rule is ready (`IsReady` of `sp_link`), on
@@ -31,14 +31,14 @@
 //!   and a run without a fault is ordered exactly where no lawful schedule meets contention.
 //!
 //! To know:
-//! - `execute` runs the code (`run` of `sp_runner`), `conclude` takes the run as one of the program, `judge` judges it.
-//!   `follow` runs it along a given journal (`replay` of `sp_replay`). `witness` makes the journal of a run's race
-//!   (`witness` of `sp_witness`). `run_code` runs code that need have no program, and judges nothing.
+//! - `run_program` runs the code (`run` of `sp_runner`), `conclude` takes the run as one of the program, `judge`
+//!   judges it. `follow` runs it along a given journal (`replay` of `sp_replay`). `witness` makes the journal of a
+//!   run's race (`witness` of `sp_witness`). `run_code_file` runs code that need have no program, and judges nothing.
 //! - `specs/Runs.antt` says what is asked (`IsCodeOf`), what a run says of the program (`IsAbout`) and what is promised
 //!   (`Executes`); `Follows.antt`, `Witnesses.antt` and `Machines.antt` have the contracts of `follow`, `witness` and
-//!   `run_code`, `TextTold.antt` what it means that a journal is told in a text.
-//! - `proofs/Concluding.antt` leads from the machine's end and output along a journal to the program's, with
-//!   `proofs/Waiting.antt` for those that wait; `proofs/FollowedRuns.antt` leads from `replay` to the
+//!   `run_code_file`, `TextTold.antt` what it means that a journal is told in a text.
+//! - `proofs/Conclusions.antt` leads from the machine's end and output along a journal to the program's, with
+//!   `proofs/DeadlockWaiters.antt` for those that wait; `proofs/FollowedRuns.antt` leads from `replay` to the
 //!   program, `proofs/Races.antt` from a run's verdict to its witness.
 //! - No call takes the tree: a program is named in the contracts alone, and each clause holds of every program that has
 //!   the code.
@@ -46,25 +46,25 @@
 //! To change:
 //! - What is asked of a program: `specs/Premises.antt` of `sp_link`, and a line in `accepted_ready` of
 //!   `proofs/Readiness.antt`.
-//! - What is promised of a run: `Executes`, and `executed` of `proofs/Executing.antt`.
-//! - An end: its clause in `same_end` of `proofs/Concluding.antt`.
+//! - What is promised of a run: `Executes`, and `executed` of `proofs/CodeRuns.antt`.
+//! - An end: its clause in `same_end` of `proofs/Conclusions.antt`.
 #![tactic(auto)]
 
 mod conclusion;
 mod execution;
-mod following;
+mod follow;
 mod law;
 mod machine;
 mod verdict;
-mod witnessing;
+mod witness;
 
 pub use conclusion::{Concluded, conclude};
-pub use execution::{Ran, execute};
-pub use following::{follow, follow_told};
+pub use execution::{Ran, run_program};
+pub use follow::{follow, follow_told};
 pub use law::{
     accepted_programs_are_ready, journals_are_told_in_the_text, one_unfit_entry, races_are_shown,
 };
-pub use machine::run_code;
-pub use sp_replay::{Followed, ReplayError, Replayed, Traced, lasts};
+pub use machine::run_code_file;
+pub use sp_replay::{FollowedRun, ReplayError, Replayed, Traced, lasts};
 pub use verdict::judge;
-pub use witnessing::witness;
+pub use witness::witness;

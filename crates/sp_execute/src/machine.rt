@@ -1,4 +1,4 @@
-//! The call `run_code`: code of any origin from its start to its end, without a verdict.
+//! The call `run_code_file`: code of any origin from its start to its end, without a verdict.
 
 ghost use Rattle.std.specs.Prelude.{◌<◌, ◌≤◌, IfOk};
 ghost use Rattle.sp_code.specs.Sound.{AreLimits, IsSound};
@@ -21,7 +21,7 @@ use std::thread::Threads;
 /// every program that has this code and is ready for it, they are those of its meaning along that journal too.
 ///
 /// The error is want of memory alone.
-pub fn run_code<R: Threads + Wait + Sync, G: Gate>(
+pub fn run_code_file<R: Threads + Wait + Sync, G: Gate>(
     rt: &R,
     alloc: Global,
     code: Arc<Code>,

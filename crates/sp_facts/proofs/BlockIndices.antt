@@ -16,12 +16,12 @@ use Rattle.sp_tree.specs.Scopes.{Local, inner_env, local_of_inner, next_variable
 use Rattle.sp_tree.specs.NameWalk.{blocks_around}
 use Rattle.sp_tree.specs.NamedTree.{named_statement, indices}
 use Rattle.sp_tree.specs.PlainSyntax.{Statement}
-use Rattle.sp_facts.proofs.Numbering.{statement_adds}
+use Rattle.sp_facts.proofs.DeclarationNumbers.{statement_adds}
 use Rattle.sp_tree.specs.Scopes.{next_block}
 use Rattle.sp_tree.specs.NameWalk.{formals_local, title_local, heading_local, parts_local, part_local}
 use Rattle.sp_tree.specs.NamedTree.{formals_named, answer_named, parts_named, part_named}
 use Rattle.sp_tree.specs.PlainSyntax.{Part, Const, Kind, Var, Proc, Parts, NoPart, Declare}
-use Rattle.sp_facts.proofs.Numbering.{answer_adds, parts_move, part_moves}
+use Rattle.sp_facts.proofs.DeclarationNumbers.{answer_adds, parts_move, part_moves}
 use Rattle.sp_facts.proofs.NameStatements.{HoldsVariables, holds_parts}
 use Rattle.sp_tree.specs.Bare.{variable_of}
 use Rattle.sp_facts.proofs.Blocks.{none_in_pieces, title_moves, formals_move, head_blocks, head_number}
@@ -31,7 +31,7 @@ use Rattle.sp_tree.specs.Scopes.{empty_local, standard_scope}
 use Rattle.sp_types.specs.Tables.{env_of, numbers_of}
 use Rattle.sp_types.specs.TypeWalk.{starts_of, blocks_after}
 use Rattle.sp_types.specs.CheckedTree.{checked_variables, or_zero}
-use Rattle.sp_facts.specs.Numbered.{index_after, IsNumbered}
+use Rattle.sp_facts.specs.IndexNumbers.{index_after, IsNumbered}
 use Rattle.sp_facts.specs.TypedBlocks.{AreBlocksTyped}
 use Rattle.sp_facts.specs.ForEach.{HoldsOfEach}
 use Rattle.sp_facts.proofs.Variables.{indices_each}

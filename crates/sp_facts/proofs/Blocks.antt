@@ -29,8 +29,8 @@ use Rattle.sp_tree.specs.Scopes.{next_variable}
 use Rattle.sp_tree.specs.NameWalk.{blocks_around}
 use Rattle.sp_tree.specs.NamedTree.{named_statement, indices}
 use Rattle.sp_tree.specs.PlainSyntax.{Statement}
-use Rattle.sp_facts.specs.Scoped.{IsInForall, InStatement}
-use Rattle.sp_facts.proofs.Numbering.{room_at, counted, AddsVariables}
+use Rattle.sp_facts.specs.ScopeFacts.{IsInForall, InStatement}
+use Rattle.sp_facts.proofs.DeclarationNumbers.{room_at, counted, AddsVariables}
 use Rattle.sp_tree.specs.declared.meaning.Counts.{Counts}
 use Rattle.sp_tree.specs.declared.syntax.SynFormal.{SynFormal}
 use Rattle.sp_tree.specs.declared.syntax.SynKind.{SynKind}
@@ -45,8 +45,9 @@ use Rattle.sp_tree.specs.NamedTree.{enumeration_constants, constants_named, part
 use Rattle.sp_tree.specs.PlainSyntax.{Part, Const, Kind, Var, Proc, Parts, NoPart, Declare}
 use Rattle.sp_types.specs.Tables.{answer_variable}
 use Rattle.sp_facts.specs.PartsInTables.{HoldsBlocks, AreScoped, AreBelow}
-use Rattle.sp_facts.proofs.Numbering.{Moved, declared_counts, one_variable, names_adds, formals_adds, answer_adds}
-use Rattle.sp_facts.proofs.Numbering.{parts_move, part_moves}
+use Rattle.sp_facts.proofs.DeclarationNumbers.{Moved, declared_counts, one_variable, names_adds, formals_adds}
+use Rattle.sp_facts.proofs.DeclarationNumbers.{answer_adds}
+use Rattle.sp_facts.proofs.DeclarationNumbers.{parts_move, part_moves}
 use Rattle.sp_facts.proofs.NameStatements.{HoldsVariables, holds_parts, more_all, more_valid, all_behind, IsPlace}
 use Rattle.sp_facts.proofs.NameStatements.{statement_in}
 

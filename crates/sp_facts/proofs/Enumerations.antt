@@ -17,7 +17,7 @@ use Rattle.sp_tree.specs.NameWalk.{formals_local, title_local, heading_local}
 use Rattle.sp_tree.specs.NameWalk.{parts_local, part_local}
 use Rattle.sp_tree.specs.NamedTree.{enumeration_constants, parts_named, part_named}
 use Rattle.sp_tree.specs.PlainSyntax.{Part, Const, Kind, Var, Proc, Parts, NoPart, Declare}
-use Rattle.sp_facts.proofs.Numbering.{answer_adds, part_moves}
+use Rattle.sp_facts.proofs.DeclarationNumbers.{answer_adds, part_moves}
 use Rattle.sp_tree.specs.NamedTree.{program_named}
 use Rattle.sp_facts.proofs.Blocks.{none_in_pieces, title_moves, formals_move}
 use Rattle.sp_tree.specs.declared.named.NamedKind.{NamedKind}

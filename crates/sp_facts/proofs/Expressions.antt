@@ -46,8 +46,9 @@ use Rattle.sp_tree.specs.Bare.{bare_expression, bare_form, bare_variable, bare_s
 use Rattle.sp_facts.specs.MatchingTables.{IsKind, AreFormals, TablesMatch, HasIndices}
 use Rattle.sp_code.specs.CodeOfTree.{ValueAt, FormAt, PlaceAt, VarAt, VarRole, SelectedAt, ActualsAt, ReadAt, UnaryAt}
 use Rattle.sp_code.specs.CodeOfTree.{Operands, NoIndex, IsTarget, CallAt, Around, AnyInstr, AnyTable, AnyText}
-use Rattle.sp_facts.specs.Scoped.{SeenIn, SeenRole, AimedExpression, CallIn, AroundIn, InExpression, InForm, InVariable}
-use Rattle.sp_facts.specs.Scoped.{InSelectors, InActuals, InArguments}
+use Rattle.sp_facts.specs.ScopeFacts.{SeenIn, SeenRole, AimedExpression, CallIn, AroundIn, InExpression, InForm}
+use Rattle.sp_facts.specs.ScopeFacts.{InVariable}
+use Rattle.sp_facts.specs.ScopeFacts.{InSelectors, InActuals, InArguments}
 use Rattle.sp_facts.proofs.NoBreachInParts.{none_in_parts, none_at_site, none_with_site, none_of_earlier, not_if_none}
 use Rattle.sp_facts.proofs.NoBreachInParts.{takes_if_none, same_if_none}
 use Rattle.sp_facts.proofs.NoBreachInParts.{nat_eq_is}

@@ -26,11 +26,11 @@ use Rattle.sp_tree.specs.NameWalk.{part_local}
 use Rattle.sp_tree.specs.NamedTree.{kind_number, variables_named, formals_named, numbers, answer_named, parts_named}
 use Rattle.sp_tree.specs.NamedTree.{part_named}
 use Rattle.sp_tree.specs.PlainSyntax.{Part, Const, Kind, Var, Proc, Parts, NoPart, Declare}
-use Rattle.sp_facts.proofs.Numbering.{answer_adds, part_moves}
+use Rattle.sp_facts.proofs.DeclarationNumbers.{answer_adds, part_moves}
 use Rattle.sp_tree.specs.NamedTree.{Inside, inside_with, procedure_block}
 use Rattle.sp_tree.specs.Bare.{variable_of}
 use Rattle.sp_tree.specs.Cells.{variables_of}
-use Rattle.sp_tree.specs.Formed.{numbers_with_role}
+use Rattle.sp_tree.specs.TreeShape.{numbers_with_role}
 use Rattle.sp_facts.specs.ForEach.{HoldsOfEach}
 use Rattle.sp_facts.proofs.Variables.{each_join, names_each, formals_each, answer_each, indices_each}
 use Rattle.sp_facts.proofs.Blocks.{none_in_pieces, title_moves, formals_move, head_blocks}

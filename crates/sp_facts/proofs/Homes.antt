@@ -26,7 +26,7 @@ use Rattle.sp_facts.specs.RealBlocks.{NoConsole, AreInRealBlocks}
 use Rattle.sp_facts.specs.PartsInTables.{HoldsBlocks}
 use Rattle.sp_facts.proofs.NoBreachInParts.{none_in_parts}
 use Rattle.sp_facts.proofs.Variables.{each_join, names_each, formals_each, answer_each, indices_each}
-use Rattle.sp_facts.proofs.Numbering.{part_moves}
+use Rattle.sp_facts.proofs.DeclarationNumbers.{part_moves}
 use Rattle.sp_facts.proofs.Blocks.{part_block, none_in_pieces, head_blocks, head_number}
 use Rattle.sp_facts.proofs.TablesKnow.{variable_from}
 use Rattle.sp_facts.proofs.Program.{named, tree, held_blocks}

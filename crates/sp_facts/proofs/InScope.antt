@@ -20,7 +20,7 @@ use Rattle.sp_tree.specs.declared.meaning.Sort.{Sort}
 use Rattle.sp_tree.specs.declared.meaning.Sort.TheVariants as sort
 use Rattle.sp_tree.specs.NameRules.{Declares}
 use Rattle.sp_tree.specs.Scopes.{Local, inner_env, with_declaration, declaration_limit, variable}
-use Rattle.sp_facts.proofs.Numbering.{room_at}
+use Rattle.sp_facts.proofs.DeclarationNumbers.{room_at}
 use Rattle.sp_tree.specs.declared.meaning.Counts.{Counts}
 use Rattle.sp_tree.specs.declared.syntax.SynFormal.{SynFormal}
 use Rattle.sp_tree.specs.declared.syntax.SynKind.{SynKind}
@@ -30,11 +30,11 @@ use Rattle.sp_tree.specs.Scopes.{put, next_constant, next_kind}
 use Rattle.sp_tree.specs.NameWalk.{names_local, formals_local, answer_local}
 use Rattle.sp_tree.specs.NameWalk.{constants_local, kind_local, block_meaning}
 use Rattle.sp_tree.specs.NamedTree.{kind_number, enumeration_constants, constants_named}
-use Rattle.sp_facts.proofs.Numbering.{declared_counts}
+use Rattle.sp_facts.proofs.DeclarationNumbers.{declared_counts}
 use Rattle.sp_tree.specs.declared.syntax.SynGroup.{SynGroup}
 use Rattle.sp_tree.specs.NameRules.{UsesIn, own_rule, use_rule}
 use Rattle.sp_tree.specs.NamedTree.{kind_named, groups_named, fields_named}
-use Rattle.sp_tree.specs.Formed.{AreBefore}
+use Rattle.sp_tree.specs.TreeShape.{AreBefore}
 use Rattle.sp_tree.specs.declared.syntax.SynValue.{SynValue}
 use Rattle.sp_tree.specs.declared.syntax.SynValue.TheVariants as value
 use Rattle.sp_tree.specs.NameRules.{AsConstant}

@@ -21,11 +21,11 @@ use Rattle.sp_tree.specs.NamedTree.{named_arms, named_branches}
 use Rattle.sp_tree.specs.PlainSyntax.{Statement, Does, Form, Empty, Assign, Call, Sequence, If, While, Repeat, Case}
 use Rattle.sp_tree.specs.PlainSyntax.{For, Parallel, Forall, Assume, NoElse, Else, Statements, NoStatement, AndThen, On}
 use Rattle.sp_tree.specs.PlainSyntax.{Arms, NoArm, Or, Branches, NoBranch, Beside}
-use Rattle.sp_facts.proofs.Numbering.{room_at}
-use Rattle.sp_facts.specs.Numbered.{index_after, index_after_form, index_after_all, index_after_arms}
-use Rattle.sp_facts.specs.Numbered.{index_after_branches, IsNumbered, IsNumberedForm}
-use Rattle.sp_facts.specs.Numbered.{AreNumbered, AreNumberedArms, AreNumberedBranches}
-use Rattle.sp_facts.proofs.Numbering.{one_variable}
+use Rattle.sp_facts.proofs.DeclarationNumbers.{room_at}
+use Rattle.sp_facts.specs.IndexNumbers.{index_after, index_after_form, index_after_all, index_after_arms}
+use Rattle.sp_facts.specs.IndexNumbers.{index_after_branches, IsNumbered, IsNumberedForm}
+use Rattle.sp_facts.specs.IndexNumbers.{AreNumbered, AreNumberedArms, AreNumberedBranches}
+use Rattle.sp_facts.proofs.DeclarationNumbers.{one_variable}
 
 call_numbered : (k : ℕ) (o : Option Meaning) (args : n.Arguments) → IsNumberedForm k (procedure_named o args)
     × (index_after_form k (procedure_named o args) ≡ k)

@@ -4,7 +4,7 @@ use Rattle.sp_tree.specs.Plain.{Program}
 use Rattle.sp_tree.specs.PlainNamed as n
 use Rattle.sp_tree.specs.Interference.{IsIndexOf}
 use Rattle.sp_code.specs.Scopes.{Scope, OfIndex, scopes_of}
-use Rattle.sp_facts.specs.Scoped.{InStatement, InStatementForm, InOther, InStatements, InArms, InBranches}
+use Rattle.sp_facts.specs.ScopeFacts.{InStatement, InStatementForm, InOther, InStatements, InArms, InBranches}
 use Rattle.sp_facts.specs.PartsInTables.{AreScoped}
 use Rattle.sp_facts.specs.ForkWalk.{ForksSatisfy, FormSatisfies, ElseSatisfies, AllSatisfy, ArmsSatisfy}
 use Rattle.sp_facts.specs.ForkWalk.{BranchesSatisfy, BlocksSatisfy, AnyBranches}

@@ -19,9 +19,9 @@ use Rattle.sp_types.specs.CheckedTree.{or_zero}
 use Rattle.sp_facts.specs.MatchingTables.{IsTyped, IsTypedForm, AreTyped, AreTypedArms, AreTypedBranches}
 use Rattle.sp_code.specs.CodeOfTree.{NoIndex}
 use Rattle.sp_facts.specs.TypedBlocks.{AreBlocksTyped}
-use Rattle.sp_facts.specs.Numbered.{index_after, index_after_form, index_after_all, index_after_arms}
-use Rattle.sp_facts.specs.Numbered.{index_after_branches, IsNumbered, IsNumberedForm}
-use Rattle.sp_facts.specs.Numbered.{AreNumbered, AreNumberedArms, AreNumberedBranches}
+use Rattle.sp_facts.specs.IndexNumbers.{index_after, index_after_form, index_after_all, index_after_arms}
+use Rattle.sp_facts.specs.IndexNumbers.{index_after_branches, IsNumbered, IsNumberedForm}
+use Rattle.sp_facts.specs.IndexNumbers.{AreNumbered, AreNumberedArms, AreNumberedBranches}
 use Rattle.sp_facts.proofs.Statements.{get_set, get_other}
 use Rattle.sp_facts.proofs.Tree.{statement_length, statements_length}
 

@@ -26,7 +26,7 @@ use Rattle.sp_tree.specs.PlainSyntax.{Arguments, NoArgument, AndArgument}
 use Rattle.sp_tree.specs.Plain as plain
 use Rattle.sp_code.specs.Scopes.{Scope, OfBlock, OfIndex, is_block, level, scopes_of}
 use Rattle.sp_code.specs.CodeOfTree.{NoIndex}
-use Rattle.sp_facts.specs.Scoped.{SeenIn, SeenRole, AimedIn}
+use Rattle.sp_facts.specs.ScopeFacts.{SeenIn, SeenRole, AimedIn}
 use Rattle.sp_facts.specs.Visible.{IsScope, IsAround, IsValid, AreValid, AllValid, IsVisible, IsChain}
 use Rattle.sp_facts.proofs.NoBreachInParts.{none_in_parts, none_at_site, none_of_earlier, not_if_none, nat_eq_is}
 use Rattle.sp_tree.specs.declared.checked.Variable as checked
@@ -44,12 +44,12 @@ use Rattle.sp_tree.specs.NamedTree.{other_indices, statements_indices, arms_indi
 use Rattle.sp_tree.specs.PlainSyntax.{Statement, Does, Form, Empty, Assign, Call, Sequence, If, While, Repeat, Case}
 use Rattle.sp_tree.specs.PlainSyntax.{For, Parallel, Forall, Assume, ElsePart, NoElse, Else, Statements, NoStatement}
 use Rattle.sp_tree.specs.PlainSyntax.{AndThen, On, Arms, NoArm, Or, Branches, NoBranch, Beside}
-use Rattle.sp_facts.specs.Scoped.{IsInForall, ForIn, AreAimed, AreAimedLater, AimsOf, InStatement, InStatementForm}
-use Rattle.sp_facts.specs.Scoped.{InOther, InStatements, InArms, InBranches}
+use Rattle.sp_facts.specs.ScopeFacts.{IsInForall, ForIn, AreAimed, AreAimedLater, AimsOf, InStatement, InStatementForm}
+use Rattle.sp_facts.specs.ScopeFacts.{InOther, InStatements, InArms, InBranches}
 use Rattle.sp_facts.proofs.Names.{level_block, IsValidMeaning, find_valid, seen, aimed, called, target_in}
 use Rattle.sp_facts.proofs.Names.{expression_in}
 use Rattle.sp_facts.proofs.Names.{selectors_in, arguments_in, actuals_in, counts}
-use Rattle.sp_facts.proofs.Numbering.{room_at, statement_adds, statements_adds}
+use Rattle.sp_facts.proofs.DeclarationNumbers.{room_at, statement_adds, statements_adds}
 
 -- ---- a statement leaves the block's own declarations as they are
 

@@ -33,8 +33,9 @@ use Rattle.sp_tree.specs.Plain as plain
 use Rattle.sp_code.specs.Scopes.{Scope, OfBlock, OfIndex, is_block, is_index, level, one_more, scopes_of}
 use Rattle.sp_types.specs.TypeWalk.{count, is_variable}
 use Rattle.sp_code.specs.CodeOfTree.{NoIndex}
-use Rattle.sp_facts.specs.Scoped.{SeenIn, SeenRole, AimedIn, AimedExpression, CallIn, AroundIn, InExpression, InForm}
-use Rattle.sp_facts.specs.Scoped.{InSelectors, InActuals, InArguments, InWidth}
+use Rattle.sp_facts.specs.ScopeFacts.{SeenIn, SeenRole, AimedIn, AimedExpression, CallIn, AroundIn, InExpression}
+use Rattle.sp_facts.specs.ScopeFacts.{InForm}
+use Rattle.sp_facts.specs.ScopeFacts.{InSelectors, InActuals, InArguments, InWidth}
 use Rattle.sp_facts.specs.Visible.{IsScope, AreFlags, IsAround, IsBlockIn, IsValid, AreValid, AllValid, IsVisible}
 use Rattle.sp_facts.specs.Visible.{IsChain}
 use Rattle.sp_facts.proofs.NoBreachInParts.{none_in_parts, none_at_site, none_with_site, not_if_none, nat_eq_is}

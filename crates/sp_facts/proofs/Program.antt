@@ -23,7 +23,7 @@ use Rattle.sp_tree.specs.declared.checked.Variable as checked
 use Rattle.sp_tree.specs.Scopes.{Local, inner_env, local_of_inner, next_variable}
 use Rattle.sp_tree.specs.NamedTree.{named_statement, indices}
 use Rattle.sp_tree.specs.PlainSyntax.{Statement}
-use Rattle.sp_facts.specs.Scoped.{InStatement}
+use Rattle.sp_facts.specs.ScopeFacts.{InStatement}
 use Rattle.sp_tree.specs.declared.syntax.SynFormal.{SynFormal}
 use Rattle.sp_tree.specs.Scopes.{next_block}
 use Rattle.sp_tree.specs.NameWalk.{formals_local, title_local, answer_local, heading_local}
@@ -32,12 +32,12 @@ use Rattle.sp_tree.specs.NamedTree.{formals_named, numbers, answer_named, answer
 use Rattle.sp_tree.specs.PlainSyntax.{Parts}
 use Rattle.sp_types.specs.Tables.{answer_variable}
 use Rattle.sp_facts.specs.PartsInTables.{HoldsBlocks, AreScoped, AreBelow}
-use Rattle.sp_facts.proofs.Numbering.{parts_move}
+use Rattle.sp_facts.proofs.DeclarationNumbers.{parts_move}
 use Rattle.sp_facts.proofs.NameStatements.{HoldsVariables, holds_parts, IsPlace, statement_in}
 use Rattle.sp_tree.specs.NamedTree.{Inside, procedure_block, program_named}
 use Rattle.sp_tree.specs.Cells.{variables_of}
 use Rattle.sp_code.specs.Scopes.{as_list}
-use Rattle.sp_tree.specs.Formed.{is_parameter, is_answer, numbers_with_role}
+use Rattle.sp_tree.specs.TreeShape.{is_parameter, is_answer, numbers_with_role}
 use Rattle.sp_tree.specs.Scopes.{empty_local, standard_scope}
 use Rattle.sp_tree.specs.NameFirst.{broken_name_rules}
 use Rattle.sp_tree.specs.NamedTree.{program_block, inside_named}
@@ -46,7 +46,7 @@ use Rattle.sp_types.specs.Tables.{env_of}
 use Rattle.sp_types.specs.TypeWalk.{starts_of, blocks_after}
 use Rattle.sp_types.specs.CheckedTree.{program_checked, checked_variables}
 use Rattle.sp_tree.specs.Bare.{without_places}
-use Rattle.sp_tree.proofs.Certified.{answer_is}
+use Rattle.sp_tree.proofs.SetCertificates.{answer_is}
 use Rattle.sp_facts.proofs.Headings.{own, in_blocks, among_own, own_join, own_none, own_all, blocks_below, formals_of_}
 use Rattle.sp_facts.proofs.Headings.{formals_fit, answer_of_, answer_fit, indices_fit, same_formals, parts_own}
 use Rattle.sp_facts.proofs.Blocks.{parts_below, parts_scoped, IsOpen}

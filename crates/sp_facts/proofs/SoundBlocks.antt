@@ -24,7 +24,7 @@ use Rattle.sp_types.specs.CheckedTree.{checked_statement, checked_block, checked
 use Rattle.sp_tree.specs.Bare.{bare_block, bare_statement}
 use Rattle.sp_facts.specs.MatchingTables.{TablesMatch}
 use Rattle.sp_facts.specs.TypedBlocks.{AreBlocksTyped}
-use Rattle.sp_facts.specs.Scoped.{IsInForall}
+use Rattle.sp_facts.specs.ScopeFacts.{IsInForall}
 use Rattle.sp_facts.specs.PartsInTables.{AreScoped}
 use Rattle.sp_code.specs.CodeOfTree.{IsCallable, StatementAt, IsSoundBlock, AnyInstr, AnyTable, AnyText}
 use Rattle.sp_facts.proofs.NoBreachInParts.{none_in_parts}

@@ -25,7 +25,7 @@ use Rattle.sp_tree.specs.CheckedOf as of_
 use Rattle.sp_tree.specs.Bare.{bare_expression, bare_variable}
 use Rattle.sp_facts.specs.MatchingTables.{IsKind}
 use Rattle.sp_code.specs.CodeOfTree.{ValueAt, PlaceAt, AnyInstr, AnyTable, AnyText}
-use Rattle.sp_facts.specs.Scoped.{InExpression, InVariable, InArguments, InWidth}
+use Rattle.sp_facts.specs.ScopeFacts.{InExpression, InVariable, InArguments, InWidth}
 use Rattle.sp_facts.proofs.NoBreachInParts.{none_in_parts, none_with_site, takes_if_none, nat_eq_is}
 use Rattle.sp_tree.specs.declared.meaning.StandardProcedure.{StandardProcedure}
 use Rattle.sp_tree.specs.Uses.{In_stmt, In_stmts}
@@ -42,24 +42,24 @@ use Rattle.sp_types.specs.CheckedTree.{receives}
 use Rattle.sp_types.specs.CheckedTree.{singles, numbered_statements, expanded_form}
 use Rattle.sp_tree.specs.Bare.{bare_width}
 use Rattle.sp_code.specs.CodeOfTree.{ReadsAt, WidthAt, IsWritten}
-use Rattle.sp_facts.specs.Scoped.{AreAimed, AimsOf}
+use Rattle.sp_facts.specs.ScopeFacts.{AreAimed, AimsOf}
 use Rattle.sp_facts.proofs.Expressions.{channel_is, integer_is}
 use Rattle.sp_facts.proofs.Statements.{MatchesWithIndices, StatementHasCode, KeepsRulesHere, within, free_is, Performs}
 
 module _ (p : Program) (m : ℕ) (moves shares : Stmt → List ℕ) (callable : ℕ → Type 0) (free : Bool) where
-  abbrev pub Fine : List Scope → c.Form → Type 0
-  Fine sc f = KeepsRulesHere p m moves shares callable free sc (In_stmt (bare_statement_form f))
+  abbrev pub FormHasCode : List Scope → c.Form → Type 0
+  FormHasCode sc f = KeepsRulesHere p m moves shares callable free sc (In_stmt (bare_statement_form f))
       → StatementHasCode p m moves shares callable free sc (bare_statement_form f)
 
-  abbrev pub AllFine : List Scope → List c.Form → Type 0
-  AllFine sc [] = Unit {0}
-  AllFine sc (f ∷ fs) = Fine sc f × AllFine sc fs
+  abbrev pub AllHaveCode : List Scope → List c.Form → Type 0
+  AllHaveCode sc [] = Unit {0}
+  AllHaveCode sc (f ∷ fs) = FormHasCode sc f × AllHaveCode sc fs
 
-  all_join : (sc : List Scope) (fs gs : List c.Form) → AllFine sc fs → AllFine sc gs → AllFine sc (fs ++ gs)
+  all_join : (sc : List Scope) (fs gs : List c.Form) → AllHaveCode sc fs → AllHaveCode sc gs → AllHaveCode sc (fs ++ gs)
   all_join sc [] gs x y = y
   all_join sc (f ∷ fs) gs x y = (x.0, all_join sc fs gs x.1 y)
 
-  numbered_fine : (sc : List Scope) (k : ℕ) (at : Place) (fs : List c.Form) → AllFine sc fs
+  numbered_fine : (sc : List Scope) (k : ℕ) (at : Place) (fs : List c.Form) → AllHaveCode sc fs
       → KeepsRulesHere p m moves shares callable free sc
       (In_stmts (bare_statements (of_.statements (numbered_statements k at fs)))) → (q : ℕ)
       → AllAt p moves shares AnyInstr AnyTable AnyText callable free sc q
@@ -73,7 +73,7 @@ module _ (p : Program) (m : ℕ) (moves shares : Stmt → List ℕ) (callable : 
             (In_stmts r_) (λ u i. inr i) kept) (after_statement p q s_),
       )
 
-  expanded_fine : (sc : List Scope) (k : ℕ) (at : Place) (fs : List c.Form) → AllFine sc fs
+  expanded_fine : (sc : List Scope) (k : ℕ) (at : Place) (fs : List c.Form) → AllHaveCode sc fs
       → KeepsRulesHere p m moves shares callable free sc (In_stmt (bare_statement_form (expanded_form k at fs)))
       → StatementHasCode p m moves shares callable free sc (bare_statement_form (expanded_form k at fs))
   expanded_fine sc k at [] h kept q = tt
@@ -95,7 +95,10 @@ module _ (p : Program) (m : ℕ) (moves shares : Stmt → List ℕ) (callable : 
     width_fine at (n.WithWidth e) calm here q =
         let ((number, gives, _, own_kind, value_at), quiet) = value e (width_rule at (expression_kind env e)) calm here
         in
-        let is = nat_eq_is 0 number (takes_if_none rule.Y8 at (nat_eq 0) (expression_kind env e) number gives quiet) in (
+        let
+        is = nat_eq_is 0 number
+        (takes_if_none rule.Y8 at (nat_eq 0) (expression_kind env e) number gives quiet)
+        in (
           value_at q,
           integer_is p m moves shares callable env ready.0 sc ready.1
               (kind_of (bare_expression (checked_expression env e))) (own_kind ∙ sym is),
@@ -119,7 +122,7 @@ module _ (p : Program) (m : ℕ) (moves shares : Stmt → List ℕ) (callable : 
         → both_lists (expression_sites [] both_lists refusal_list env e)
         (refusal_list (write_rule (place e) (expression_kind env e)))
         ≡ [] → InExpression p m sc e → InWidth p m sc wd
-        → Fine sc (c.WriteValue (checked_expression env e) (checked_width env wd))
+        → FormHasCode sc (c.WriteValue (checked_expression env e) (checked_width env wd))
     write_one e wd cw ce here in_w kept q =
         let ((number, gives, _, own_kind, value_at), quiet) = value e (write_rule (place e) (expression_kind env e)) ce
         here in
@@ -135,7 +138,7 @@ module _ (p : Program) (m : ℕ) (moves shares : Stmt → List ℕ) (callable : 
         )
 
     text_one : (at : Place) (t : List ℕ) (wd : n.Width) → w.width_sites [] both_lists refusal_list env at wd ≡ []
-        → InWidth p m sc wd → Fine sc (write_text_form at t (char_of t) (checked_width env wd))
+        → InWidth p m sc wd → FormHasCode sc (write_text_form at t (char_of t) (checked_width env wd))
     text_one at [] wd cw in_w kept q = (0, tt, width_fine at wd cw in_w q, tt)
     text_one at (x ∷ []) wd cw in_w kept q = (
       kind.Char,
@@ -149,7 +152,7 @@ module _ (p : Program) (m : ℕ) (moves shares : Stmt → List ℕ) (callable : 
 
     written_one : (e : n.Expression) (wd : n.Width) → w.width_sites [] both_lists refusal_list env (place e) wd ≡ []
         → w.written_sites [] both_lists refusal_list env e ≡ [] → InExpression p m sc e → InWidth p m sc wd
-        → Fine sc (write_value_form env e (checked_width env wd))
+        → FormHasCode sc (write_value_form env e (checked_width env wd))
     written_one (n.ExpressionAt at (n.Quoted t)) wd cw ce here in_w = text_one at t wd cw in_w
     written_one (n.ExpressionAt at (n.Number k)) wd cw ce here in_w =
         write_one (n.ExpressionAt at (n.Number k)) wd cw ce here in_w
@@ -168,7 +171,7 @@ module _ (p : Program) (m : ℕ) (moves shares : Stmt → List ℕ) (callable : 
 
     writes_fine : (args : n.Arguments)
         → w.each_sites [] both_lists refusal_list env (w.write_sites [] both_lists refusal_list env) args
-        ≡ [] → InArguments p m sc args → AllFine sc (writes env args)
+        ≡ [] → InArguments p m sc args → AllHaveCode sc (writes env args)
     writes_fine n.NoArgument calm here = tt
     writes_fine (n.AndArgument (n.Pass e wd) rest) calm here =
         let two = none_in_parts (both_lists (w.width_sites [] both_lists refusal_list env (place e) wd)
@@ -200,7 +203,7 @@ module _ (p : Program) (m : ℕ) (moves shares : Stmt → List ℕ) (callable : 
 
     reads_fine : (args : n.Arguments)
         → w.each_sites [] both_lists refusal_list env (w.read_sites [] both_lists refusal_list env) args
-        ≡ [] → AreAimed p m args → InArguments p m sc args → AllFine sc (reads env args)
+        ≡ [] → AreAimed p m args → InArguments p m sc args → AllHaveCode sc (reads env args)
     reads_fine n.NoArgument calm targets here = tt
     reads_fine (n.AndArgument (n.Pass (n.ExpressionAt at (n.Read (n.Entire x name ss))) wd) rest) calm targets here =
         let two = none_in_parts
@@ -232,7 +235,7 @@ module _ (p : Program) (m : ℕ) (moves shares : Stmt → List ℕ) (callable : 
 
     opens_fine : (args : n.Arguments)
         → w.each_sites [] both_lists refusal_list env (w.channel_sites [] both_lists refusal_list env)
-        args ≡ [] → AreAimed p m args → InArguments p m sc args → AllFine sc (opens env args)
+        args ≡ [] → AreAimed p m args → InArguments p m sc args → AllHaveCode sc (opens env args)
     opens_fine n.NoArgument calm targets here = tt
     opens_fine (n.AndArgument (n.Pass (n.ExpressionAt at (n.Read (n.Entire x name ss))) wd) rest) calm targets here =
         let two = none_in_parts (w.channel_sites [] both_lists refusal_list env
@@ -281,7 +284,7 @@ module _ (p : Program) (m : ℕ) (moves shares : Stmt → List ℕ) (callable : 
 
     sends_fine : (ch : n.Expression) (o : Option ℕ) → ChannelIs ch → (args : n.Arguments)
         → w.each_sites [] both_lists refusal_list env (w.message_sites [] both_lists refusal_list env o) args ≡ []
-        → InArguments p m sc args → AllFine sc (sends env (checked_expression env ch) args)
+        → InArguments p m sc args → AllHaveCode sc (sends env (checked_expression env ch) args)
     sends_fine ch o is n.NoArgument calm here = tt
     sends_fine ch o is (n.AndArgument (n.Pass e wd) rest) calm here =
         let two = none_in_parts (w.message_sites [] both_lists refusal_list env o (n.Pass e wd))
@@ -302,7 +305,7 @@ module _ (p : Program) (m : ℕ) (moves shares : Stmt → List ℕ) (callable : 
     receives_fine : (ch : n.Expression) (o : Option ℕ) → ChannelIs ch → (args : n.Arguments)
         → w.each_sites [] both_lists refusal_list env (w.message_sites [] both_lists refusal_list env o) args ≡ []
         → AreAimed p m args
-        → InArguments p m sc args → AllFine sc (receives env (checked_expression env ch) args)
+        → InArguments p m sc args → AllHaveCode sc (receives env (checked_expression env ch) args)
     receives_fine ch o is n.NoArgument calm targets here = tt
     receives_fine ch o is (n.AndArgument (n.Pass (n.ExpressionAt at (n.Read (n.Entire x name ss))) wd) rest) calm
         targets here =
@@ -341,7 +344,7 @@ module _ (p : Program) (m : ℕ) (moves shares : Stmt → List ℕ) (callable : 
 
     singles_fine : (f : StandardProcedure) (args : n.Arguments) → w.perform_sites [] both_lists refusal_list env f
         args ≡ []
-        → AimsOf p m f args → InArguments p m sc args → AllFine sc (singles env f args)
+        → AimsOf p m f args → InArguments p m sc args → AllHaveCode sc (singles env f args)
     singles_fine procedure.Read args calm targets here = reads_fine args calm targets here
     singles_fine procedure.Readln args calm targets here =
         all_join sc (reads env args) (c.ReadLine ∷ []) (reads_fine args calm targets here) ((λ kept q. tt), tt)

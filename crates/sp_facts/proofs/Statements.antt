@@ -30,7 +30,7 @@ use Rattle.sp_tree.specs.CheckedOf as of_
 use Rattle.sp_tree.specs.Bare.{bare_expression, bare_form, bare_variable, bare_actuals}
 use Rattle.sp_facts.specs.MatchingTables.{IsKind, TablesMatch, HasIndices}
 use Rattle.sp_code.specs.CodeOfTree.{FormAt, PlaceAt, ActualsAt, NoIndex, AnyInstr, AnyTable, AnyText}
-use Rattle.sp_facts.specs.Scoped.{InExpression}
+use Rattle.sp_facts.specs.ScopeFacts.{InExpression}
 use Rattle.sp_facts.proofs.NoBreachInParts.{none_in_parts, none_at_site, none_with_site, not_if_none, takes_if_none}
 use Rattle.sp_facts.proofs.NoBreachInParts.{same_if_none, nat_eq_is}
 use Rattle.sp_tree.specs.declared.meaning.StandardProcedure.{StandardProcedure}
@@ -48,7 +48,7 @@ use Rattle.sp_tree.specs.Bare.{bare_statement, bare_statement_form, bare_stateme
 use Rattle.sp_facts.specs.MatchingTables.{IsTyped, IsTypedForm, AreTyped, AreTypedArms, AreTypedBranches}
 use Rattle.sp_code.specs.CodeOfTree.{IsCallable, StatementAt, AllAt, ChildrenAt, ArmsAt, RightAt, OrdinalAt, TestAt}
 use Rattle.sp_code.specs.CodeOfTree.{TestsAt}
-use Rattle.sp_facts.specs.Scoped.{IsInForall, InStatement, InStatementForm, InStatements, InArms, InBranches}
+use Rattle.sp_facts.specs.ScopeFacts.{IsInForall, InStatement, InStatementForm, InStatements, InArms, InBranches}
 use Rattle.sp_facts.proofs.Expressions.{form_fine, ordinal_sort, expression_fine, variable_fine, actuals_fine, call_at}
 use Rattle.sp_facts.proofs.Expressions.{ordinal_is, boolean_is}
 
@@ -348,14 +348,14 @@ module _ (p : Program) (m : ℕ) where
         → StatementHasCode free sc (bare_statement_form (checked_statement_form env at (n.Perform f args)))
 
     module _ (performs : Performs) (free : Bool) where
-      abbrev pub Fine : Env → Env → List Scope → Stmt → Type 0
-      Fine env later sc s = Grown env later × StatementHasCode free sc s
+      abbrev pub GrowsWithCode : Env → Env → List Scope → Stmt → Type 0
+      GrowsWithCode env later sc s = Grown env later × StatementHasCode free sc s
 
       mutual
         pub statement_fine : (env : Env) (sc : List Scope) (s : n.Statement) → MatchesWithIndices env sc
             → w.statement_sites [] both_lists refusal_list env s ≡ [] → InStatement p m sc s → IsTyped p env s
             → KeepsRulesHere free sc (In_stmt (bare_statement (checked_statement env s)))
-            → Fine env (statement_after env s) sc (bare_statement (checked_statement env s))
+            → GrowsWithCode env (statement_after env s) sc (bare_statement (checked_statement env s))
         statement_fine env sc (n.Does at form) ready calm here typed kept =
             let up = by_count env ready.0 in
             let r = statement_form_fine (with_next_number env) sc at form
@@ -367,7 +367,7 @@ module _ (p : Program) (m : ℕ) where
             → w.statement_form_sites [] both_lists refusal_list env form ≡ [] → InStatementForm p m sc form
             → IsTypedForm p env form
             → KeepsRulesHere free sc (In_stmt (bare_statement_form (checked_statement_form env at form)))
-            → Fine env (form_after env form) sc (bare_statement_form (checked_statement_form env at form))
+            → GrowsWithCode env (form_after env form) sc (bare_statement_form (checked_statement_form env at form))
         statement_form_fine env sc at n.Empty ready calm here typed kept = (grown_to_itself env ready.0, λ q. tt)
         statement_form_fine env sc at (n.Assign (n.Entire x name ss) (n.ExpressionAt eat form)) ready calm
             (seen, aimed, in_ss, in_e) typed kept =

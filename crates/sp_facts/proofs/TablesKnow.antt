@@ -21,7 +21,7 @@ use Rattle.sp_types.specs.TypeRules.{is_ordinal}
 use Rattle.sp_types.specs.TypeFirst.{types_broken}
 use Rattle.sp_types.specs.TypeWalk.{with_first_number, starts_of, statement_after, blocks_after}
 use Rattle.sp_types.specs.CheckedTree.{checked_variables, checked_blocks, checked_block, or_zero}
-use Rattle.sp_tree.specs.Formed.{AreBefore, is_parameter, numbers_with_role}
+use Rattle.sp_tree.specs.TreeShape.{AreBefore, is_parameter, numbers_with_role}
 use Rattle.sp_facts.specs.Earlier.{HaveTypes, IsFormedKind, AreFormedKinds}
 use Rattle.sp_facts.specs.MatchingTables.{IsKind, AreFormals, TablesMatch}
 use Rattle.sp_code.specs.CodeOfTree.{NoIndex}
@@ -33,7 +33,7 @@ use Rattle.sp_facts.proofs.NoBreachInParts.{none_in_parts}
 use Rattle.sp_facts.proofs.ConstantValues.{AreKnownOrdinals, constants_known, bounds_known, index_ordinal}
 use Rattle.sp_facts.proofs.IndexTypes.{others_stay}
 use Rattle.sp_facts.proofs.TypesFormed.{formed_at, program_formed, number_there}
-use Rattle.sp_facts.proofs.Declared.{program_behind, program_typed}
+use Rattle.sp_facts.proofs.DeclarationOrder.{program_behind, program_typed}
 use Rattle.sp_facts.proofs.Program.{named, tree, formals, results}
 use Rattle.sp_facts.proofs.BlockIndices.{spans, has_, room_}
 use Rattle.sp_facts.proofs.Tree.{types_length}

@@ -18,7 +18,7 @@ use Rattle.sp_tree.specs.Bare.{bare_statements}
 use Rattle.sp_tree.specs.Uses.{Use, Target, Seen, CallOf, ParallelOf, ForallOf, Stop, In_stmt}
 use Rattle.sp_tree.specs.CheckedOf as of_
 use Rattle.sp_tree.specs.Sites.{SplitsAt}
-use Rattle.sp_tree.specs.Formed.{AreBefore, IsFormedUse, IsFormed}
+use Rattle.sp_tree.specs.TreeShape.{AreBefore, IsFormedUse, IsFormed}
 use Rattle.sp_tree.proofs.NoBreach.{block_at}
 use Rattle.sp_types.specs.declared.tables.Ordinal.{Ordinal}
 use Rattle.sp_types.specs.Tables.{Env, table_entry, constant_kind, ordinal_kind, env_of, numbers_of, constants_of}
@@ -35,14 +35,14 @@ use Rattle.sp_code.specs.NeverStops.{NeverStops}
 use Rattle.sp_facts.specs.ConstantsDeclared.{HasOrdinalConstants}
 use Rattle.sp_facts.specs.NonEmptyRecords.{AreNonEmptyKinds}
 use Rattle.sp_facts.specs.ForkWalk.{BlocksSatisfy, AnyIndex, IsSplit, HasPart}
-use Rattle.sp_facts.specs.Tabled.{IsThere, AreThere, Tabled}
+use Rattle.sp_facts.specs.TableTypes.{IsThere, AreThere, Tabled}
 use Rattle.sp_facts.proofs.Sites.{blocks_fit}
 use Rattle.sp_facts.proofs.UsesFit.{statement_kept}
 use Rattle.sp_facts.proofs.UsesFormed.{IsGoodUse, stands_uses}
 use Rattle.sp_facts.proofs.Homes.{homes, program_block}
 use Rattle.sp_facts.proofs.TypesFormed.{number_there}
 use Rattle.sp_facts.proofs.TablesKnow.{within, known, formed}
-use Rattle.sp_facts.proofs.Declared.{program_typed}
+use Rattle.sp_facts.proofs.DeclarationOrder.{program_typed}
 use Rattle.sp_facts.proofs.Grammatical.{record_filled}
 use Rattle.sp_facts.proofs.TypesThere.{blocks_tabled, variable_there}
 use Rattle.sp_facts.proofs.Enumerations.{program_given}

@@ -18,7 +18,7 @@ use Rattle.sp_tree.specs.PlainSyntax as syntax
 use Rattle.sp_tree.specs.NamedTree.{program_named}
 use Rattle.sp_tree.specs.NameFirst.{broken_name_rules}
 use Rattle.sp_types.specs.TypeFirst.{types_broken}
-use Rattle.sp_facts.proofs.Declared.{program_earlier}
+use Rattle.sp_facts.proofs.DeclarationOrder.{program_earlier}
 use Rattle.sp_tree.specs.PhaseResults.{refusal_list}
 use Rattle.sp_tree.specs.NameFirst.{both_lists}
 use Rattle.sp_types.specs.declared.tables.Ordinal.{Ordinal}
@@ -27,7 +27,7 @@ use Rattle.sp_types.specs.Tables.{const_value, value_by, has_wrong_sign, is_long
 use Rattle.sp_types.specs.Tables.{array_of, kinds_by, kinds_from}
 use Rattle.sp_types.specs.TypeRules.{const_rule, bounds_rule}
 use Rattle.sp_types.specs.TypeWalk as w
-use Rattle.sp_tree.specs.Formed.{AreBefore}
+use Rattle.sp_tree.specs.TreeShape.{AreBefore}
 use Rattle.sp_facts.specs.Earlier.{IsEarlier, AreEarlier, HasValue, HaveValues, AllHaveValues, IsFormedKind}
 use Rattle.sp_facts.specs.Earlier.{AreFormedKinds}
 use Rattle.sp_facts.proofs.NoBreachInParts.{none_in_parts, none_at_site, not_if_none}

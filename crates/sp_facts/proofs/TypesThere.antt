@@ -23,7 +23,7 @@ use Rattle.sp_tree.specs.PlainNamed.{Pass, Arguments, NoArgument, AndArgument, S
 use Rattle.sp_tree.specs.PlainNamed.{Call, Perform, Sequence, If, While, Repeat, Case, For, Parallel, Forall, Assume}
 use Rattle.sp_tree.specs.PlainNamed.{NoElse, Else, Statements, NoStatement, AndThen, On, Arms, NoArm, Or, Branches}
 use Rattle.sp_tree.specs.PlainNamed.{NoBranch, Beside}
-use Rattle.sp_tree.specs.Formed.{AreBefore}
+use Rattle.sp_tree.specs.TreeShape.{AreBefore}
 use Rattle.sp_types.specs.declared.tables.Signature.{Signature}
 use Rattle.sp_types.specs.Tables.{Env, table_entry, kind_at, variable_kind, kind_of_variable, answer_in}
 use Rattle.sp_types.specs.Tables.{with_next_number, with_index_type}
@@ -34,7 +34,7 @@ use Rattle.sp_types.specs.Kinds.{selected_kind, selection, parameter_kind}
 use Rattle.sp_types.specs.TypeWalk.{single_count, parts_count, statement_after, statements_after, arms_after}
 use Rattle.sp_types.specs.TypeWalk.{branches_after, form_after, with_first_number, blocks_after}
 use Rattle.sp_types.specs.CheckedTree.{checked_variables, or_zero}
-use Rattle.sp_facts.specs.Tabled.{IsThere, AreThere, Tabled}
+use Rattle.sp_facts.specs.TableTypes.{IsThere, AreThere, Tabled}
 
 there_at : (k : ℕ) (vs : List (Option ℕ)) (x : ℕ) → AreThere k vs → IsThere k (table_entry (slice_get vs x))
 there_at k [] x h = tt

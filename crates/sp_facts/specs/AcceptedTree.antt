@@ -18,7 +18,7 @@ use Rattle.sp_tree.specs.Interferes.{Interferes}
 use Rattle.sp_code.specs.Scopes.{as_list}
 use Rattle.sp_types.specs.CheckedTree.{program_checked}
 use Rattle.sp_tree.specs.Bare.{without_places}
-use Rattle.sp_tree.specs.Formed.{is_parameter, is_answer, numbers_with_role}
+use Rattle.sp_tree.specs.TreeShape.{is_parameter, is_answer, numbers_with_role}
 
 -- the tree without places of a program
 abbrev pub tree : syntax.Program → Program

@@ -10,7 +10,7 @@ use Rattle.sp_tree.specs.declared.named.NamedKindForm.{NamedKindForm}
 use Rattle.sp_tree.specs.declared.named.NamedKindForm.TheVariants as form
 use Rattle.sp_types.specs.declared.tables.Ordinal.{Ordinal}
 use Rattle.sp_types.specs.Tables.{const_value}
-use Rattle.sp_tree.specs.Formed.{AreBefore}
+use Rattle.sp_tree.specs.TreeShape.{AreBefore}
 use Rattle.sp_facts.specs.ForEach.{HoldsOfEach}
 use Rattle.sp_tree.specs.declared.checked.Variable as checked
 

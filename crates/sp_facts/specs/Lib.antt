@@ -1,14 +1,14 @@
 pub mod ForEach
 pub mod MatchingTables
-pub mod Scoped
+pub mod ScopeFacts
 pub mod Visible
 pub mod PartsInTables
 pub mod Earlier
-pub mod Numbered
+pub mod IndexNumbers
 pub mod TypedBlocks
 pub mod AcceptedTree
 pub mod ConstantsDeclared
 pub mod ForkWalk
 pub mod RealBlocks
-pub mod Tabled
+pub mod TableTypes
 pub mod NonEmptyRecords

@@ -6,7 +6,7 @@ use Rattle.sp_tree.specs.PlainNamed as n
 use Rattle.sp_tree.specs.Plain.{Program, Block}
 use Rattle.sp_code.specs.Scopes.{scopes_of}
 use Rattle.sp_types.specs.Tables.{answer_variable}
-use Rattle.sp_facts.specs.Scoped.{InStatement}
+use Rattle.sp_facts.specs.ScopeFacts.{InStatement}
 
 module _ (p : Program) (constants : ℕ) where
   -- these blocks stand in the program from a number on

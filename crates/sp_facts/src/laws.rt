@@ -16,7 +16,7 @@ ghost use Rattle.sp_tree.specs.PlainChecked.{Program as Checked};
 ghost use Rattle.sp_tree.specs.Bare.{without_places};
 ghost use Rattle.sp_types.specs.CheckedTree.{program_checked};
 ghost use Rattle.sp_code.specs.NeverStops.{NeverStops};
-ghost use Rattle.sp_tree.specs.Formed.{IsFormed};
+ghost use Rattle.sp_tree.specs.TreeShape.{IsFormed};
 ghost use Rattle.sp_facts.specs.AcceptedTree.{tree, IsNumberedTree, KeepsInterference, IsAccepted};
 
 /// Where no rule of names is broken, a declaration's number is its place: parents come before, and the parameters and

@@ -17,15 +17,14 @@
 //!   and each block of it is fine, whatever sets its forks are given.
 //!
 //! To know:
-//! - `specs/Scoped.antt` says what names give, `MatchingTables` what tables know, `NonEmptyRecords` and `ForkWalk` what
-//!   the grammar gives;
-//!   `ForkWalk` leaves open what is asked of each forall and parallel statement.
-//! - `proofs/Joining` joins the facts of names and types for a text; `SmallTypes` has the cells of types.
+//! - `specs/ScopeFacts.antt` says what names give, `MatchingTables` what tables know, `NonEmptyRecords` and `ForkWalk`
+//!   what the grammar gives; `ForkWalk` leaves open what is asked of each forall and parallel statement.
+//! - `proofs/AcceptedFacts` joins the facts of names and types for a text; `SmallTypes` has the cells of types.
 //!
 //! Lemmas for others, in `proofs`:
 //! - `PhaseAnswers`: what the answers of the phases say: where a tree comes out, no rule is broken, and the tree is
 //!   the one of the definitions.
-//! - `Joining`: a text that breaks no rule has a formed tree that is free of interference, with fine blocks.
+//! - `AcceptedFacts`: a text that breaks no rule has a formed tree that is free of interference, with fine blocks.
 //!
 //! To change:
 //! - A rule: one clause in the induction over its form.

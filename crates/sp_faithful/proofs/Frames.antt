@@ -10,7 +10,7 @@ use Rattle.sp_tree.specs.declared.checked.Role.{Role}
 use Rattle.sp_tree.specs.declared.checked.Role.TheVariants as role
 use Rattle.sp_tree.specs.declared.checked.Variable as checked
 use Rattle.sp_tree.specs.Bare.{variable_of, without_places}
-use Rattle.sp_tree.specs.Formed.{IsFormed}
+use Rattle.sp_tree.specs.TreeShape.{IsFormed}
 use Rattle.sp_tree.specs.Plain.{Block, Program, Stmt, Variable}
 use Rattle.sp_tree.specs.PlainChecked as c
 use Rattle.sp_journal.specs.Births.{births}
@@ -22,21 +22,21 @@ use Rattle.sp_cell.specs.declared.spot.Spot.{Spot}
 use Rattle.sp_cell.specs.Map.{Away, Content, Map, Own, Output, Plain, Shared}
 use Rattle.sp_code.specs.declared.code.Formal.{Formal}
 use Rattle.sp_code.specs.declared.code.Layout.{Layout}
-use Rattle.sp_code.specs.Emitted.{formal_by, program_code}
-use Rattle.sp_code.specs.Emitted as emitted
+use Rattle.sp_code.specs.TreeCode.{formal_by, program_code}
+use Rattle.sp_code.specs.TreeCode as emitted
 use Rattle.sp_code.specs.Machine.{layout_of}
 use Rattle.sp_code.specs.Memory.{Memory, cell_at}
 use Rattle.sp_code.specs.Memory as m
 use Rattle.sp_code.specs.PlainStore.{piece_of}
 use Rattle.sp_code.specs.Scopes.{slot}
-use Rattle.sp_codegen.proofs.Closing.{Laid}
+use Rattle.sp_codegen.proofs.Returns.{Laid}
 use Rattle.sp_codegen.proofs.FramePairs.{from_here, from_push, machines_length, sources_length}
-use Rattle.sp_codegen.proofs.Reading.{points_in, points_push}
+use Rattle.sp_codegen.proofs.Locations.{points_in, points_push}
 use Rattle.sp_codegen.proofs.Shapes.{whole}
 use Rattle.sp_codegen.specs.FramePairs.{FramePair, machines, pairs_from, sources}
 use Rattle.sp_codegen.specs.Relation.{Owns}
 use Rattle.sp_codegen.specs.Shapes.{Flat}
-use Rattle.sp_codegen.specs.Standing.{HomesAre, Live, Paired, PointsTo, spot_at}
+use Rattle.sp_codegen.specs.MemoryRelation.{HomesAre, Live, Paired, PointsTo, spot_at}
 use Rattle.sp_lines.specs.declared.mark.Mark.{Mark}
 use Rattle.sp_meaning.specs.Eval.{in_frame}
 use Rattle.sp_meaning.specs.LocalWork.{Cell, Frame, Home, Loc, OfBlock, OfIndex, RunInput, Tree, value_in}

@@ -9,12 +9,12 @@ use Rattle.sp_tree.proofs.Members.{member_at, member_either}
 use Rattle.sp_tree.specs.declared.checked.Role.{Role}
 use Rattle.sp_tree.specs.declared.checked.Role.TheVariants as role
 use Rattle.sp_tree.specs.Cells.{variables_of}
-use Rattle.sp_tree.specs.Formed.{IsFormed, is_answer, is_parameter, numbers_with_role}
+use Rattle.sp_tree.specs.TreeShape.{IsFormed, is_answer, is_parameter, numbers_with_role}
 use Rattle.sp_tree.specs.Interference.{IsMember}
 use Rattle.sp_tree.specs.Plain.{Program, Variable, Block}
 use Rattle.sp_cell.proofs.FrameLaws.{is_other}
 use Rattle.sp_code.specs.declared.code.Formal.{Formal}
-use Rattle.sp_code.specs.Emitted.{formal_by, formal_of}
+use Rattle.sp_code.specs.TreeCode.{formal_by, formal_of}
 use Rattle.sp_code.specs.Memory as m
 use Rattle.sp_code.specs.Memory.{cell_at}
 use Rattle.sp_code.specs.Scopes.{frame_of, index_among, is_local, size, slot, slot_in}

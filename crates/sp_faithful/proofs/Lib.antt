@@ -2,6 +2,6 @@ mod ValueTexts
 mod Layouts
 mod Frames
 mod Rights
-mod Standing
+mod ProcessPairs
 mod FrameTexts
 mod Rows

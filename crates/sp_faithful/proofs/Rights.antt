@@ -4,7 +4,7 @@ use Rattle.sp_tree.specs.Plain.{Program, Repeat}
 use Rattle.sp_tree.specs.Sets.{IsUsed}
 use Rattle.sp_tree.specs.Uses.{In_loop, In_stmt, Seen, Target, Use}
 use Rattle.sp_meaning.specs.LocalWork.{Again, Break, Do, First, Frame, Item, Leave, Loc, Test}
-use Rattle.sp_meaning.specs.Owning.{ItemsAreSound, Sound, frames_below}
+use Rattle.sp_meaning.specs.Rights.{ItemsAreSound, Sound, frames_below}
 use Rattle.sp_faithful.specs.Truth.{IsLeftToUse, UsesThere}
 
 module _ (p : Program) (W R : Loc → Type 0) (reads : (l : Loc) → W l → R l) where

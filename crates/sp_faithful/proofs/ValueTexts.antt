@@ -11,7 +11,7 @@ use Rattle.sp_tree.proofs.Tables.{table_get, table_long}
 use Rattle.sp_tree.specs.declared.checked.KindOf.{KindOf}
 use Rattle.sp_tree.specs.declared.checked.KindOf.TheVariants as kind
 use Rattle.sp_tree.specs.Cells.{count, first_or, table}
-use Rattle.sp_tree.specs.Formed.{AreBefore, IsFormed}
+use Rattle.sp_tree.specs.TreeShape.{AreBefore, IsFormed}
 use Rattle.sp_tree.specs.Plain.{Program}
 use Rattle.sp_journal.specs.Births.{Births}
 use Rattle.sp_journal.specs.Names.{Channel, chan_name}

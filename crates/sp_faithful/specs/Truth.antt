@@ -18,7 +18,7 @@ use Rattle.sp_journal.specs.declared.entry.Entry.{Entry as JournalEntry}
 use Rattle.sp_cell.specs.Map.{Plain}
 use Rattle.sp_code.specs.declared.code.Formal.{Formal}
 use Rattle.sp_code.specs.declared.code.Layout.{Layout}
-use Rattle.sp_code.specs.Emitted.{program_code}
+use Rattle.sp_code.specs.TreeCode.{program_code}
 use Rattle.sp_code.specs.Machine.{At, Config, Entry, layout_of}
 use Rattle.sp_code.specs.Memory.{CodeRun, Memory, memory as memory_of}
 use Rattle.sp_code.specs.Memory as machine
@@ -34,7 +34,7 @@ use Rattle.sp_meaning.specs.LocalWork.{EndsInFault, LocalState, LocationContent,
 use Rattle.sp_meaning.specs.LocalWork.{reference_target, value_in}
 use Rattle.sp_meaning.specs.Model as meaning
 use Rattle.sp_meaning.specs.Model.{Payload, Message, Name, Takes}
-use Rattle.sp_meaning.specs.Owning.{frames_below, location_of}
+use Rattle.sp_meaning.specs.Rights.{frames_below, location_of}
 use Rattle.sp_meaning.specs.Run.{Store, run}
 use Rattle.sp_meaning.specs.Turn.{turn}
 use Rattle.sp_meaning.specs.Values.{get_at}

@@ -10,7 +10,7 @@ ghost use Rattle.sp_journal.specs.declared.entry.Entry.{Entry};
 ghost use Rattle.sp_journal.specs.Births.{births};
 ghost use Rattle.sp_cell.specs.Map.{Plain};
 ghost use Rattle.sp_code.specs.declared.code.Layout.{Layout};
-ghost use Rattle.sp_code.specs.Emitted.{program_code};
+ghost use Rattle.sp_code.specs.TreeCode.{program_code};
 ghost use Rattle.sp_code.specs.Machine.{Config, layout_of};
 ghost use Rattle.sp_code.specs.Memory.{Memory, memory};
 ghost use Rattle.sp_code.specs.Memory as machine;

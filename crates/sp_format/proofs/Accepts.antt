@@ -22,14 +22,14 @@ use Rattle.sp_grammar.specs.Machine.{run}
 use Rattle.sp_grammar.specs.Stops.{refusal_of}
 use Rattle.sp_grammar.proofs.Completes.{TokensOfAll, none, and, back}
 use Rattle.sp_grammar.proofs.Firsts.{first_broken, spells, none_broken}
-use Rattle.sp_grammar.proofs.Rising.{lexeme_length, comment_length}
+use Rattle.sp_grammar.proofs.TokenOrder.{lexeme_length, comment_length}
 use Rattle.sp_grammar.proofs.OneList.{not_both, one_comment, same_rest, blank_opens, opens, differ, not_blank}
 use Rattle.sp_scan.proofs.Breaches.{fine_blank, comment_item}
-use Rattle.sp_scan.proofs.Scanning.{nothing_here, lexis}
+use Rattle.sp_scan.proofs.TokenPrefixes.{nothing_here, lexis}
 use Rattle.sp_format.specs.Items.{Item, HasItems}
 use Rattle.sp_format.specs.Layout.{canonical_text}
 use Rattle.sp_format.specs.Formats.{HasTree, IsCanonical, IsLong}
-use Rattle.sp_format.proofs.Walking.{one_items}
+use Rattle.sp_format.proofs.ItemLists.{one_items}
 use Rattle.sp_format.proofs.Neighbours.{kinds_of}
 use Rattle.sp_format.proofs.Follows.{KeptItems, kept_end, kept_blank, kept_comment, kept_token, has_items}
 use Rattle.sp_format.proofs.Follows.{canonical_kept}

@@ -12,7 +12,7 @@ use Rattle.sp_tree.specs.Spelling.{digits_value}
 use Rattle.sp_tree.specs.Lexemes.{signs, refused_words, opens_comment, Longest, Comment}
 use Rattle.sp_tree.specs.Scans as s
 use Rattle.sp_tree.specs.Scans.{BreaksHere, begins_digit, goes_on_real}
-use Rattle.sp_grammar.proofs.Rising.{each_at}
+use Rattle.sp_grammar.proofs.TokenOrder.{each_at}
 use Rattle.sp_format.specs.declared.context.Context.{Context}
 use Rattle.sp_format.specs.Items.{Item, item, item_from, canonical_spelling, HasItems, no_item, blank, comment, token}
 use Rattle.sp_format.specs.Layout.{context_of, gap, items_layout, canonical_text, indentation, breaks, touches, depth}
@@ -21,8 +21,8 @@ use Rattle.sp_scan.proofs.Breaches.{fine_number, fine_name, other_token}
 use Rattle.sp_tree.specs.Places.{place_at}
 use Rattle.sp_tree.specs.PlainSyntax.{Program}
 use Rattle.sp_tree.specs.Breaches.{IsTree}
-use Rattle.sp_scan.proofs.Scanning.{to_lexis}
-use Rattle.sp_format.proofs.Walking.{one_items}
+use Rattle.sp_scan.proofs.TokenPrefixes.{to_lexis}
+use Rattle.sp_format.proofs.ItemLists.{one_items}
 use Rattle.sp_format.proofs.Neat.{clash, apart_from, program_apart}
 use Rattle.sp_format.proofs.Again.{NotPartOfToken, ReadsToken, front_is, BeginsAsKind}
 use Rattle.sp_format.proofs.Neighbours.{KeepsTokenRules, IsSoundItem, AreSoundItems, Clear, Apart, kinds_of, all_items}

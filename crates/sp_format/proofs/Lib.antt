@@ -1,5 +1,5 @@
-mod Walking
-mod Joining
+mod ItemLists
+mod TextAnswers
 mod Neat
 mod Again
 mod Neighbours

@@ -4,7 +4,7 @@ use Rattle.sp_base.specs.declared.halt.Refusal.{Refusal}
 use Rattle.sp_grammar.proofs.OneList.{one_verdict, not_both}
 use Rattle.sp_format.specs.Layout.{canonical_text}
 use Rattle.sp_format.specs.Formats.{HasLayout, HasNoLayout, IsCanonical, IsLong}
-use Rattle.sp_format.proofs.Walking.{one_items, one_text}
+use Rattle.sp_format.proofs.ItemLists.{one_items, one_text}
 
 -- a text that is too long when it is laid out has no canonical text
 long_or_short : {text out : List ℕ} {r : Refusal} → IsCanonical text out → IsLong text r → ⊥

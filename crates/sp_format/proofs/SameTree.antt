@@ -29,7 +29,7 @@ use Rattle.sp_grammar.specs.Derives.{PartMayBegin, Derives, takes, skips, Derive
 use Rattle.sp_grammar.proofs.From.{found, from}
 use Rattle.sp_grammar.proofs.To as to
 use Rattle.sp_grammar.proofs.OneList.{Tail, here, there, lexeme_tail, one_list}
-use Rattle.sp_parse.proofs.Fitting.{Tail as Front, more, comment_tail}
+use Rattle.sp_parse.proofs.TokenBounds.{Tail as Front, more, comment_tail}
 use Rattle.sp_format.specs.Items as i
 use Rattle.sp_format.specs.Items.{Item, HasItems, item, canonical_spelling, front}
 use Rattle.sp_format.specs.Formats.{IsCanonical}

@@ -20,7 +20,7 @@ use Rattle.sp_grammar.specs.Symbols as sym
 use Rattle.sp_grammar.specs.Symbols.{Symbol, Value, Values}
 use Rattle.sp_grammar.specs.Derives.{Derives, takes, skips, DerivesAll, none, and}
 use Rattle.sp_grammar.proofs.Order.{rises}
-use Rattle.sp_grammar.proofs.Rising.{Rising, rising}
+use Rattle.sp_grammar.proofs.TokenOrder.{Rising, rising}
 use Rattle.sp_grammar.proofs.To as to
 use Rattle.sp_types.specs.StatementNumbers.{DiffersFrom, AllDiffer}
 use Rattle.sp_types.proofs.StatementNumbers.{differs_both}

@@ -25,7 +25,7 @@ use Rattle.sp_types.specs.TypeFirst.{types_first}
 use Rattle.sp_shown.specs.Constants.{by_kind, constants_at, constants_of, kind_constants, names, part_constants}
 use Rattle.sp_shown.specs.Constants.{parts_constants}
 use Rattle.sp_front.specs.Checks.{IsChecked}
-use Rattle.sp_front.proofs.Numbered.{given}
+use Rattle.sp_front.proofs.StatementNumbers.{given}
 use Rattle.sp_front.proofs.OneAnswer.{OneTree}
 
 -- ---- how many constants the enumerations have, in order

@@ -12,11 +12,11 @@ use Rattle.sp_code.specs.declared.code.Parts.{Parts}
 use Rattle.sp_code.specs.Lengths.{tree_length}
 use Rattle.sp_length.specs.CappedLength.{capped_length}
 use Rattle.sp_tree.specs.Bare.{without_places}
-use Rattle.sp_front.specs.declared.compiling.Accepted.{Accepted}
+use Rattle.sp_front.specs.declared.analysis.Accepted.{Accepted}
 use Rattle.sp_front.specs.Compiles.{IsAccepted}
 use Rattle.sp_generate.specs.declared.program.GenError.{GenError}
 use Rattle.sp_generate.specs.declared.program.GenError.TheVariants as gen
-use Rattle.sp_generate.specs.Generated.{Answered}
+use Rattle.sp_generate.specs.GeneratorAnswers.{Answered}
 use Rattle.sp_generate.proofs.Limits.{told_beyond, told_within}
 use Rattle.sp_front.specs.Codes.{Accepts, Codes, IsCompiled, halt_of, too_long_refusal}
 

@@ -1,12 +1,12 @@
-mod Accepting
+mod PhaseAnswers
 mod BodyPlaces
 mod ConstantNames
-mod TextMarked
+mod MarkAnswers
 mod Existence
-mod Joining
-mod Numbered
+mod ParseAnswers
+mod StatementNumbers
 pub mod OneAnswer
 mod OwnNumbers
-mod Phasing
-mod Crossing
+mod TypedAnswers
+mod ThreadBounds
 mod Ending

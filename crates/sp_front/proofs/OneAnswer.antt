@@ -9,7 +9,7 @@ use Rattle.sp_tree.specs.PlainChecked as c
 use Rattle.sp_types.specs.TypeFirst.{types_outcome}
 use Rattle.sp_tree.specs.Bare.{without_places}
 use Rattle.sp_tree.specs.Plain as m
-use Rattle.sp_scope.proofs.Found.{inner}
+use Rattle.sp_scope.proofs.PartBreaches.{inner}
 use Rattle.sp_front.specs.Checks.{HasNamedTree, IsChecked, IsProgramOf, BreaksNames, BreaksTypes, FirstBrokenUpToTypes}
 
 -- what the characters and the grammar say

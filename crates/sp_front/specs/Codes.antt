@@ -17,7 +17,7 @@ use Rattle.sp_varsets.specs.AreSets.{AreSets}
 use Rattle.sp_front.specs.Compiles.{FirstBrokenOfPhases, IsAccepted}
 use Rattle.sp_generate.specs.declared.program.GenError.{GenError}
 use Rattle.sp_generate.specs.declared.program.GenError.TheVariants as gen
-use Rattle.sp_generate.specs.Generated.{IsCodeOf}
+use Rattle.sp_generate.specs.GeneratorAnswers.{IsCodeOf}
 use Rattle.sp_front.specs.declared.to_code.CompiledText.{CompiledText}
 
 -- what a text breaks whose code would be too long

@@ -14,7 +14,7 @@ use Rattle.sp_tree.specs.CheckedOf as checked
 use Rattle.sp_tree.specs.Interferes.{Interferes}
 use Rattle.sp_varsets.specs.declared.sets.Sets.{Sets}
 use Rattle.sp_varsets.specs.AreSets.{AreSets}
-use Rattle.sp_front.specs.declared.compiling.Accepted.{Accepted}
+use Rattle.sp_front.specs.declared.analysis.Accepted.{Accepted}
 use Rattle.sp_front.specs.Checks.{IsChecked, FirstBrokenUpToTypes}
 
 -- the text has this checked tree, which breaks no rule of interference

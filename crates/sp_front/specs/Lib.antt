@@ -1,5 +1,5 @@
 pub mod Checks
 pub mod Codes
 pub mod Compiles
-pub mod Marked
+pub mod TextMarks
 pub mod Texts

@@ -3,8 +3,8 @@
 
 ghost use Rattle.sp_front.specs.Codes.{Accepts};
 
+use crate::analysis::compile;
 use crate::apart::apart;
-use crate::compiling::compile;
 use crate::to_code::LONG_CODE;
 use sp_base::Halt;
 use sp_generate::is_too_long;

@@ -39,9 +39,9 @@
 //! - `constants_go_with_the_types`: an enumeration among the types of a text has as many constants as names.
 //!
 //! To know:
-//! - `src/reader.rt` has characters and grammar, `src/phases.rt` goes on up to types, `src/compiling.rt` to sets and
-//!   interference, `src/acceptance.rt` to the length of the code, `src/to_code.rt` to code, `src/marking.rt` to marks
-//!   and names. `specs/Texts.antt`, `Checks.antt`, `Compiles.antt`, `Codes.antt` and `Marked.antt` say what each of
+//! - `src/reader.rt` has characters and grammar, `src/phases.rt` goes on up to types, `src/analysis.rt` to sets and
+//!   interference, `src/acceptance.rt` to the length of the code, `src/to_code.rt` to code, `src/marks.rt` to marks
+//!   and names. `specs/Texts.antt`, `Checks.antt`, `Compiles.antt`, `Codes.antt` and `TextMarks.antt` say what each of
 //!   them answers; `Codes.antt` says what the listing of a text is, too.
 //! - Each call may answer want of memory too.
 //! - `typed`, `analyse`, `compile`, `accepts`, `compiled` and `marked` recurse as deep as the longest chain of
@@ -53,26 +53,26 @@
 //! - `OneAnswer`: the phases together give one answer.
 //!
 //! To change:
-//! - A further phase: `src/compiling.rt`, its outcome in `specs/Compiles.antt`, its line in `proofs/Accepting.antt`;
+//! - A further phase: `src/analysis.rt`, its outcome in `specs/Compiles.antt`, its line in `proofs/PhaseAnswers.antt`;
 //!   one after the code: `src/to_code.rt` with `CompiledText`, and `IsCompiled` of `specs/Codes.antt`.
 #![tactic(auto)]
 
 mod acceptance;
+mod analysis;
 mod apart;
-mod compiling;
 mod law;
-mod marking;
+mod marks;
 mod phases;
 mod reader;
 mod to_code;
 
 pub use acceptance::{accepts, accepts_apart};
-pub use compiling::{Accepted, analyse, analyse_apart, compile};
+pub use analysis::{Accepted, analyse, analyse_apart, compile};
 pub use law::{
     accepted_texts_are_disjoint, numbered_trees, numbers_differ, one_answer, one_compilation,
     one_listing, some_answer,
 };
-pub use marking::{MarkedText, constants_go_with_the_types, marked, marked_apart};
+pub use marks::{MarkedText, constants_go_with_the_types, marked, marked_apart};
 pub use phases::typed;
 pub use reader::read_text;
 pub use to_code::{CompiledText, compiled, compiled_apart};

@@ -3,8 +3,8 @@
 ghost use Rattle.std.specs.Prelude.{◌≡◌};
 ghost use Rattle.sp_front.specs.Codes.{Codes, halt_of};
 
+use crate::analysis::{Accepted, compile};
 use crate::apart::apart;
-use crate::compiling::{Accepted, compile};
 use sp_base::{Halt, Place, Refusal, Rule};
 use sp_code::Code;
 use sp_generate::{GenError, generate};

@@ -8,8 +8,8 @@
 //! - That the program breaks no rule is tested by its runs, not proved. Should it break one, `gen` would name it.
 //!
 //! To change:
-//! - The program: `specs/Generated.antt`, the function of the same part in `src/text.rt`, and
-//!   `parts_tests/src/generated.rt`.
+//! - The program: `specs/GeneratedText.antt`, the function of the same part in `src/text.rt`, and
+//!   `parts_tests/src/gen_text.rt`.
 #![tactic(auto)]
 
 mod text;

@@ -1,8 +1,8 @@
-//! The text of the generated program, byte for byte that of `specs/Generated.antt`.
+//! The text of the generated program, byte for byte that of `specs/GeneratedText.antt`.
 
 ghost use Rattle.std.specs.Prelude.{◌≡◌, ◌≤◌, ◌++◌, IfOk, OnOk};
 ghost use Rattle.std.specs.List.{flat_map};
-ghost use Rattle.sp_gen.specs.Generated.{generated_text, lent_line_text, line_text, size_line};
+ghost use Rattle.sp_gen.specs.GeneratedText.{generated_text, lent_line_text, line_text, size_line};
 
 use sp_base::{Memory, put_decimal};
 use std::alloc::Global;

@@ -10,9 +10,9 @@ use Rattle.sp_tree.specs.Plain.{Program, Stmt, On, Arms, NoArm, Or}
 use Rattle.sp_code.specs.declared.instr.Instr.{Instr}
 use Rattle.sp_code.specs.declared.instr.Instr.TheVariants as i
 use Rattle.sp_code.specs.Places.{after_statement}
-use Rattle.sp_code.specs.Emitted.{code, code_arms, test_code, tests_code, tables_in, texts_in}
+use Rattle.sp_code.specs.TreeCode.{code, code_arms, test_code, tests_code, tables_in, texts_in}
 use Rattle.sp_code.proofs.Counts.{stmt_after, code_count}
-use Rattle.sp_generate.specs.Written.{blank_tests, filled_ends, filled_test, filled_tests, starts_of, ends_of}
+use Rattle.sp_generate.specs.CodeBuffers.{blank_tests, filled_ends, filled_test, filled_tests, starts_of, ends_of}
 
 pub blank_step : (base : List Instr) (ms : List ℤ) (s : c.Statement) (rest : c.Arms)
     → (base ++ test_code ms 0) ++ blank_tests (bare_arms rest) ≡ base ++ blank_tests (bare_arms (c.Or (c.On ms s) rest))

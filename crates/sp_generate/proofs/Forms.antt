@@ -14,21 +14,22 @@ use Rattle.sp_code.specs.declared.code.ForkTable.{ForkTable}
 use Rattle.sp_code.specs.declared.code.ChildTable.{ChildTable}
 use Rattle.sp_code.specs.Scopes.{kind_of, kind_at, type_of, is_given, slot}
 use Rattle.sp_code.specs.Places.{after_value, after_tests, after_statement, after_children, after_arms}
-use Rattle.sp_code.specs.Emitted.{value_code, var_code, width_code, write_instr, reading_instr, tests_code, code}
-use Rattle.sp_code.specs.Emitted.{code_all, code_children, code_arms, tables_in, tables_in_all, tables_in_arms}
-use Rattle.sp_code.specs.Emitted.{texts_in, texts_of, texts_of_all, texts_of_arms}
+use Rattle.sp_code.specs.TreeCode.{value_code, var_code, width_code, write_instr, reading_instr, tests_code, code}
+use Rattle.sp_code.specs.TreeCode.{code_all, code_children, code_arms, tables_in, tables_in_all, tables_in_arms}
+use Rattle.sp_code.specs.TreeCode.{texts_in, texts_of, texts_of_all, texts_of_arms}
 use Rattle.sp_code.proofs.Counts.{value_after, value_count, stmt_after, code_count, children_after, children_count}
 use Rattle.sp_code.proofs.Counts.{arms_after, arms_count, tests_after, tests_count, texts_count}
-use Rattle.sp_generate.specs.Written.{WrittenCode}
+use Rattle.sp_generate.specs.CodeBuffers.{WrittenCode}
 use Rattle.sp_generate.specs.Views.{call_code}
 use Rattle.sp_generate.specs.Steps.{for_instr, next_instr}
 use Rattle.sp_generate.specs.Tables.{child, children, tables, form_tables, tables_all, tables_children, tables_arms}
-use Rattle.sp_generate.specs.Written.{assign_code, buffer_of, with_code, buffer_after, buffer_after_form}
-use Rattle.sp_generate.specs.Written.{buffer_after_all}
-use Rattle.sp_generate.specs.Written.{buffer_after_children, buffer_after_arms, buffer_after_branch}
-use Rattle.sp_generate.specs.Written.{buffer_after_passed, buffer_after_loop, buffer_after_forall, buffer_after_case}
-use Rattle.sp_generate.specs.Written.{starts_of, ends_of, blank_tests, filled_ends, filled_tests, sends_code}
-use Rattle.sp_generate.specs.Written.{receives_code}
+use Rattle.sp_generate.specs.CodeBuffers.{assign_code, buffer_of, with_code, buffer_after, buffer_after_form}
+use Rattle.sp_generate.specs.CodeBuffers.{buffer_after_all}
+use Rattle.sp_generate.specs.CodeBuffers.{buffer_after_children, buffer_after_arms, buffer_after_branch}
+use Rattle.sp_generate.specs.CodeBuffers.{buffer_after_passed, buffer_after_loop, buffer_after_forall}
+use Rattle.sp_generate.specs.CodeBuffers.{buffer_after_case}
+use Rattle.sp_generate.specs.CodeBuffers.{starts_of, ends_of, blank_tests, filled_ends, filled_tests, sends_code}
+use Rattle.sp_generate.specs.CodeBuffers.{receives_code}
 use Rattle.sp_generate.proofs.CaseTests.{ends_filled, tests_filled, blank_length}
 
 -- instructions alone

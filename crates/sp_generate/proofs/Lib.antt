@@ -1,13 +1,13 @@
 mod Tables
-mod Emitting
-mod Patched
-mod Handing
+mod PartCode
+mod Patches
+mod FittingNumbers
 mod CaseTests
 mod Forms
 mod Locals
 mod WrittenProgram
 pub mod Limits
 mod Inside
-mod Deciding
-mod Telling
+mod SetTests
+mod StatementCode
 mod OneCode

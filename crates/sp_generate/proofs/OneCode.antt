@@ -3,9 +3,9 @@ use Rattle.std.proofs.Common.{◌≡◌, ◌⊎◌, inl, inr, ℕ, List, [], ◌
 use Rattle.sp_tree.specs.Plain.{Program, Stmt}
 use Rattle.sp_tree.specs.Interference.{IsMember}
 use Rattle.sp_code.specs.declared.code.Parts.{Parts}
-use Rattle.sp_code.specs.Emitted.{program_code}
+use Rattle.sp_code.specs.TreeCode.{program_code}
 use Rattle.sp_generate.specs.Handings.{IsInOrder}
-use Rattle.sp_generate.specs.Generated.{Handing, IsCodeOf}
+use Rattle.sp_generate.specs.GeneratorAnswers.{Handing, IsCodeOf}
 
 -- all of one list stand in the other
 abbrev IsSubset : List ℕ → List ℕ → Type 0

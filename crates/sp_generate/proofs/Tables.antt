@@ -12,7 +12,7 @@ use Rattle.sp_tree.specs.Around.{one_more}
 use Rattle.sp_tree.specs.Cells.{first_or, sizes}
 use Rattle.sp_tree.specs.Plain.{Program, Variable}
 use Rattle.sp_code.specs.Scopes.{slot, slot_by, slot_in, size, field_offset}
-use Rattle.sp_generate.specs.Tabled.{slots_from, slots_of, offsets_from, offsets_by, offsets_of, outer_level}
+use Rattle.sp_generate.specs.CodeTables.{slots_from, slots_of, offsets_from, offsets_by, offsets_of, outer_level}
 
 pub first_is : (xs : List ℕ) (k n : ℕ) → slice_get xs k ≡ Some n → n ≡ first_or 0 (slice_get xs k)
 first_is xs k n e = ap (first_or 0) (sym e)

@@ -15,13 +15,13 @@ use Rattle.sp_code.specs.declared.code.ForkTable.{ForkTable}
 use Rattle.sp_code.specs.declared.code.Parts.{Parts}
 use Rattle.sp_code.specs.declared.instr.Instr.{Instr}
 use Rattle.sp_code.specs.Places.{after_block}
-use Rattle.sp_code.specs.Emitted.{code, end_instr, blocks_code, blocks_texts, texts_of, layout_of, layouts_from}
-use Rattle.sp_generate.specs.Written.{WrittenCode}
+use Rattle.sp_code.specs.TreeCode.{code, end_instr, blocks_code, blocks_texts, texts_of, layout_of, layouts_from}
+use Rattle.sp_generate.specs.CodeBuffers.{WrittenCode}
 use Rattle.sp_varsets.specs.declared.sets.Sets.{Sets}
 use Rattle.sp_generate.specs.Handings.{moved_of, shared_of}
-use Rattle.sp_generate.specs.Numbered.{numbered_code}
+use Rattle.sp_generate.specs.NumberedCode.{numbered_code}
 use Rattle.sp_generate.specs.Tables.{tables, tables_blocks}
-use Rattle.sp_generate.specs.Written.{buffer_after, with_code, written_block, written_blocks}
+use Rattle.sp_generate.specs.CodeBuffers.{buffer_after, with_code, written_block, written_blocks}
 use Rattle.sp_generate.proofs.Forms.{ended_place, forks_place, texts_place}
 
 -- the blocks that are left, one by one

@@ -7,7 +7,7 @@ use Rattle.sp_code.specs.declared.code.ChildTable.{ChildTable}
 use Rattle.sp_code.specs.declared.code.ForkTable.{ForkTable}
 use Rattle.sp_code.specs.declared.instr.Instr.{Instr}
 use Rattle.sp_code.specs.declared.code.Layout.{Layout}
-use Rattle.sp_code.specs.Emitted.{layouts_from}
+use Rattle.sp_code.specs.TreeCode.{layouts_from}
 use Rattle.sp_tree.specs.Bare.{bare_block}
 use Rattle.sp_varsets.specs.declared.sets.Sets.{Sets}
 use Rattle.sp_writer.specs.Adds.{Keeps}
@@ -17,7 +17,7 @@ use Rattle.sp_generate.specs.declared.levels.Scope.{Scope}
 use Rattle.sp_generate.specs.Handings.{moved_of, shared_of}
 use Rattle.sp_generate.specs.Tables.{child, children}
 use Rattle.sp_generate.specs.Views.{plain_program, scopes}
-use Rattle.sp_generate.specs.Written as w
+use Rattle.sp_generate.specs.CodeBuffers as w
 
 -- what a buffer has
 abbrev pub written : CodeBuffer → w.WrittenCode

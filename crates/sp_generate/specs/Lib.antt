@@ -1,10 +1,10 @@
 pub mod Sorts
-pub mod Tabled
+pub mod CodeTables
 pub mod Views
 pub mod Tables
 pub mod Handings
 pub mod Steps
-pub mod Written
+pub mod CodeBuffers
 pub mod BuffersAfter
-pub mod Numbered
-pub mod Generated
+pub mod NumberedCode
+pub mod GeneratorAnswers

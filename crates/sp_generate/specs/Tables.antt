@@ -10,7 +10,7 @@ use Rattle.sp_tree.specs.Bare.{bare_expression, bare_statement, bare_arms, bare_
 use Rattle.sp_tree.specs.Plain.{Program}
 use Rattle.sp_code.specs.declared.code.ChildTable.{ChildTable}
 use Rattle.sp_code.specs.declared.code.ForkTable.{ForkTable}
-use Rattle.sp_code.specs.Emitted.{but_index}
+use Rattle.sp_code.specs.TreeCode.{but_index}
 use Rattle.sp_code.specs.Places.{after_value, after_tests, after_statement, after_block}
 
 module _ (p : Program) (moved shared : ℕ → List ℕ) where

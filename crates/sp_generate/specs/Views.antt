@@ -3,7 +3,7 @@
 use Rattle.std.specs.Prelude.{ℕ, List, [], ◌∷◌, ◌++◌, map, slice_get}
 use Rattle.sp_tree.specs.Plain.{Program, Actuals}
 use Rattle.sp_code.specs.declared.instr.Instr.{Instr}
-use Rattle.sp_code.specs.Emitted.{actuals_code, call_instr, cells_of, formal_by}
+use Rattle.sp_code.specs.TreeCode.{actuals_code, call_instr, cells_of, formal_by}
 use Rattle.sp_code.specs.declared.code.Formal.{Formal}
 use Rattle.sp_tree.specs.CheckedOf.{program_of}
 use Rattle.sp_tree.specs.Bare.{without_places}

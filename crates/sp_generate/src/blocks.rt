@@ -4,7 +4,7 @@ ghost use Rattle.std.specs.Prelude.{◌≡◌, slice_get, IfOk};
 ghost use Rattle.sp_tree.specs.CheckedOf.{block_of, program_of};
 ghost use Rattle.sp_tree.specs.Bare.{without_places, bare_block};
 ghost use Rattle.sp_tree.specs.Around.{parent_of, scopes_of};
-ghost use Rattle.sp_code.specs.Emitted.{cells_of, formal_by, formal_of, end_instr, layout_of};
+ghost use Rattle.sp_code.specs.TreeCode.{cells_of, formal_by, formal_of, end_instr, layout_of};
 ghost use Rattle.sp_generate.specs.Views.{plain_program, scopes, cells_in, formals_in};
 ghost use Rattle.sp_generate.specs.BuffersAfter.{Wrote, with_block};
 

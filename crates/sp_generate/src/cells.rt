@@ -2,7 +2,7 @@
 
 ghost use Rattle.std.specs.Prelude.{◌≡◌, ◌+◌, ◌*◌, List, map, sum, IfOk};
 ghost use Rattle.sp_tree.specs.Cells.{count, fields_size, size_by, sizes};
-ghost use Rattle.sp_generate.specs.Tabled.{offsets_from, offsets_by};
+ghost use Rattle.sp_generate.specs.CodeTables.{offsets_from, offsets_by};
 
 use crate::numbers::sum;
 use crate::single::number_at;

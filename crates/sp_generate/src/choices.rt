@@ -3,9 +3,9 @@
 ghost use Rattle.std.specs.Prelude.{◌≡◌, ◌+◌, length, map, IfOk, OnOk};
 ghost use Rattle.sp_tree.specs.CheckedOf.{arms, arm_of};
 ghost use Rattle.sp_tree.specs.Bare.{bare_arms};
-ghost use Rattle.sp_code.specs.Emitted.{test_code};
+ghost use Rattle.sp_code.specs.TreeCode.{test_code};
 ghost use Rattle.sp_writer.specs.Adds.{Adds};
-ghost use Rattle.sp_generate.specs.Written.{blank_tests, filled_ends, filled_test, filled_tests};
+ghost use Rattle.sp_generate.specs.CodeBuffers.{blank_tests, filled_ends, filled_test, filled_tests};
 
 use crate::code_buffer::set;
 use sp_base::{List, Memory};

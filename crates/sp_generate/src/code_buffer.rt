@@ -47,7 +47,7 @@ pub fn mark(code: &mut Writer<Instr>, places: &mut List<u32>)
 }
 
 /// Another instruction in the place of one, where one stands there.
-#[tactic(auto, using(crate::proofs::Patched::set_beyond))]
+#[tactic(auto, using(crate::proofs::Patches::set_beyond))]
 pub fn set(code: &mut Vec<Instr>, at: usize, instr: Instr)
     ensures { code.new.items ≡ slice_set code.old.items at instr }
 {
@@ -76,7 +76,7 @@ pub fn mend_branch(code: &mut Writer<Instr>, at: usize, beyond: u32)
 }
 
 /// A fork table in the place of one.
-#[tactic(auto, using(crate::proofs::Patched::patched, crate::proofs::Patched::outside))]
+#[tactic(auto, using(crate::proofs::Patches::patched, crate::proofs::Patches::outside))]
 pub fn patch_table(forks: &mut List<ForkTable>, at: usize, table: ForkTable)
     ensures { (a b : List ATable) (x : ATable) → forks.old ≡ a ++ x ∷ b → at ≡ length a → forks.new ≡ a ++ table ∷ b }
 {

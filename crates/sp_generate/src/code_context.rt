@@ -4,7 +4,7 @@ ghost use Rattle.std.specs.Prelude.{◌≡◌};
 ghost use Rattle.sp_tree.specs.CheckedOf.{program_of};
 ghost use Rattle.sp_tree.specs.Bare.{without_places};
 ghost use Rattle.sp_tree.specs.Cells.{sizes};
-ghost use Rattle.sp_generate.specs.Tabled.{slots_of, offsets_of};
+ghost use Rattle.sp_generate.specs.CodeTables.{slots_of, offsets_of};
 
 use sp_base::List;
 use sp_tree::Checked;

@@ -7,8 +7,8 @@ ghost use Rattle.sp_tree.specs.PlainChecked as c;
 ghost use Rattle.sp_tree.specs.Bare.{bare_expression, bare_form, bare_variable, bare_selectors, bare_actuals};
 ghost use Rattle.sp_tree.specs.Bare.{bare_width};
 ghost use Rattle.sp_code.specs.Scopes.{kind_at, selected_type, type_of};
-ghost use Rattle.sp_code.specs.Emitted.{unary_code, standard_code, value_code, form_code, var_code, selectors_code};
-ghost use Rattle.sp_code.specs.Emitted.{actuals_code, width_code};
+ghost use Rattle.sp_code.specs.TreeCode.{unary_code, standard_code, value_code, form_code, var_code, selectors_code};
+ghost use Rattle.sp_code.specs.TreeCode.{actuals_code, width_code};
 ghost use Rattle.sp_writer.specs.Adds.{Adds};
 ghost use Rattle.sp_generate.specs.Views.{plain_program, scopes, call_code};
 

@@ -5,7 +5,7 @@ ghost use Rattle.sp_tree.specs.Bare.{without_places, bare_block, variable_of};
 ghost use Rattle.sp_tree.specs.CheckedOf.{program_of, block_of};
 ghost use Rattle.sp_tree.specs.Cells.{variables_of};
 ghost use Rattle.sp_code.specs.Scopes.{is_local, locals_among, parameters_of, frame_of, index_among, slot_in};
-ghost use Rattle.sp_generate.specs.Tabled.{slots_of};
+ghost use Rattle.sp_generate.specs.CodeTables.{slots_of};
 
 use crate::numbers::narrow;
 use sp_base::{List, Memory};

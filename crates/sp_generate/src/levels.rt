@@ -2,7 +2,7 @@
 
 ghost use Rattle.std.specs.Prelude.{◌≡◌, IfOk};
 ghost use Rattle.sp_tree.specs.Around.{is_block, is_index, level};
-ghost use Rattle.sp_code.specs.Emitted.{or_none};
+ghost use Rattle.sp_code.specs.TreeCode.{or_none};
 ghost use Rattle.sp_generate.specs.Views.{scope_of, scopes};
 
 use crate::numbers::narrow;

@@ -9,27 +9,28 @@
 //! - `one_code`: a program has one code.
 //!
 //! To know:
-//! - The code is instruction by instruction that of the definitions of `sp_code` (`specs/Generated.antt`). Processes
-//!   are handed variables in order of their numbers, so that a program has one code (`src/law.rt`).
+//! - The code is instruction by instruction that of the definitions of `sp_code` (`specs/GeneratorAnswers.antt`).
+//!   Processes are handed variables in order of their numbers, so that a program has one code (`src/law.rt`).
 //! - A number that is no `u32`, and code with more fork tables, texts or layouts than it may have, are answered as want
 //!   of memory. Neither is in the code of a text, which has at most 1,048,576 bytes. So is code whose forks would hand
 //!   over 33,554,432 variables or more (`room.rt`): a `parallel` of as many calls as a text has room for, of a
 //!   procedure with as many implicit variables, would take gigabytes, and no code file could hold it.
 //! - `code_context.rt` is what is kept of the tree, `single.rt` has single instructions, `expressions.rt`, `simple.rt`,
-//!   `statements.rt`, `choices.rt` and `blocks.rt` are the pass, `handed.rt` is what a process is handed.
+//!   `statements.rt`, `choices.rt` and `blocks.rt` are the pass, `handings.rt` is what a process is handed.
 //! - The writer of the instructions keeps in mind whether memory was refused, for tables and texts too, so the pass has
 //!   no `?`. Its contracts say `Adds` of `sp_writer`, and `Wrote` of `specs/BuffersAfter.antt`.
-//! - `specs/Written.antt` is what stands once a part was written behind what stood: the form of every contract of the
-//!   pass. `Tables` and `Handings` are the fork tables by the numbers of statements, `Numbered` the code with them.
-//! - `proofs/Forms` has a lemma for each form, `CaseTests` the jumps of a `case`. `Inside`, `Deciding` and `Telling`
-//!   lead from the numbers of statements to the sets of any statement; `OneCode` is the law.
+//! - `specs/CodeBuffers.antt` is what stands once a part was written behind what stood: the form of every contract of
+//!   the pass. `Tables` and `Handings` are the fork tables by the numbers of statements, `Numbered` the code with
+//!   them.
+//! - `proofs/Forms` has a lemma for each form, `CaseTests` the jumps of a `case`. `Inside`, `SetTests` and
+//!   `StatementCode` lead from the numbers of statements to the sets of any statement; `OneCode` is the law.
 //!
 //! Lemmas for others, in `proofs`:
 //! - `Limits`: a length as it is told is beyond the limit of code exactly where the length is.
 //!
 //! To change:
 //! - A form: `Emitted` of `sp_code`, the function of its name, its lemma in `proofs/Forms`, its clauses in `Tables`,
-//!   `Inside` and `Telling`.
+//!   `Inside` and `StatementCode`.
 #![tactic(auto)]
 
 mod blocks;
@@ -37,9 +38,10 @@ mod cells;
 mod choices;
 mod code_buffer;
 mod code_context;
+mod code_tables;
 mod expressions;
 mod frames;
-mod handed;
+mod handings;
 mod law;
 mod levels;
 mod numbers;
@@ -48,7 +50,6 @@ mod room;
 mod simple;
 mod single;
 mod statements;
-mod tabling;
 
 pub use law::one_code;
 pub use program::{GenError, generate, is_too_long};

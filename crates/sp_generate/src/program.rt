@@ -6,15 +6,15 @@ ghost use Rattle.sp_writer.specs.Adds.{Keeps};
 ghost use Rattle.sp_generate.specs.BuffersAfter.{written, with_blocks, layouts_in};
 ghost use Rattle.sp_generate.specs.declared.program.GenError.TheVariants.{Memory as OutOfMemory};
 ghost use Rattle.sp_varsets.specs.AreSets.{AreSets};
-ghost use Rattle.sp_generate.specs.Numbered.{numbered_code};
-ghost use Rattle.sp_generate.specs.Generated.{Answered};
+ghost use Rattle.sp_generate.specs.NumberedCode.{numbered_code};
+ghost use Rattle.sp_generate.specs.GeneratorAnswers.{Answered};
 
 use crate::blocks::{layout_of, put_block};
 use crate::code_buffer::{CodeBuffer, place};
 use crate::code_context::CodeContext;
+use crate::code_tables::survey;
 use crate::numbers::narrow;
 use crate::room::hands_too_much;
-use crate::tabling::survey;
 use sp_base::{List, Memory};
 use sp_code::{Code, Layout, MAX_CODE, Parts};
 use sp_length::length;

@@ -5,11 +5,11 @@ ghost use Rattle.sp_tree.specs.CheckedOf.{expression_of, expression_form_of, var
 ghost use Rattle.sp_tree.specs.Bare.{bare_expression, bare_form, bare_variable, bare_width};
 ghost use Rattle.sp_code.specs.declared.instr.Instr.TheVariants as i;
 ghost use Rattle.sp_code.specs.Scopes.{Many, kind_at, kind_of, type_of, is_given};
-ghost use Rattle.sp_code.specs.Emitted.{value_code, var_code, width_code, right_code, write_instr};
-ghost use Rattle.sp_code.specs.Emitted.{reading_instr};
+ghost use Rattle.sp_code.specs.TreeCode.{value_code, var_code, width_code, right_code, write_instr};
+ghost use Rattle.sp_code.specs.TreeCode.{reading_instr};
 ghost use Rattle.sp_writer.specs.Adds.{Adds};
 ghost use Rattle.sp_generate.specs.Views.{plain_program, scopes};
-ghost use Rattle.sp_generate.specs.Written.{assign_code, right_side, sends_code, receives_code};
+ghost use Rattle.sp_generate.specs.CodeBuffers.{assign_code, right_side, sends_code, receives_code};
 
 use crate::code_context::CodeContext;
 use crate::expressions::{put_form, put_value, put_var, put_width};
@@ -34,7 +34,7 @@ fn put_many(g: &CodeContext, sc: &[Scope], code: &mut Writer<Instr>, k: u32, for
 }
 
 /// The right side of an assignment.
-#[tactic(auto, using(crate::proofs::Emitting::one_cell, crate::proofs::Emitting::many_cells))]
+#[tactic(auto, using(crate::proofs::PartCode::one_cell, crate::proofs::PartCode::many_cells))]
 fn put_right(g: &CodeContext, sc: &[Scope], code: &mut Writer<Instr>, e: &Expr)
     ensures { Adds code.old code.new
         (right_side (plain_program g.now) (scopes sc.now) (bare_expression (expression_of e.now))) }

@@ -6,9 +6,10 @@ ghost use Rattle.sp_tree.specs.Bare.{variable_of};
 ghost use Rattle.sp_tree.specs.declared.checked.KindOf.TheVariants.{Fields};
 ghost use Rattle.sp_code.specs.declared.instr.Instr.TheVariants.{Call};
 ghost use Rattle.sp_code.specs.Scopes.{size, sort, slot, kind_at, type_by, element_type, field_type, field_offset};
-ghost use Rattle.sp_code.specs.Emitted.{binary_instr, input_instr, read_instr, index_instr, field_instr, write_instr};
-ghost use Rattle.sp_code.specs.Emitted.{reading_instr, assign_instr, addr_by, addr_code, call_up, call_instr, least_of};
-ghost use Rattle.sp_code.specs.Emitted.{greatest_of};
+ghost use Rattle.sp_code.specs.TreeCode.{binary_instr, input_instr, read_instr, index_instr, field_instr, write_instr};
+ghost use Rattle.sp_code.specs.TreeCode.{reading_instr, assign_instr, addr_by, addr_code, call_up, call_instr};
+ghost use Rattle.sp_code.specs.TreeCode.{least_of};
+ghost use Rattle.sp_code.specs.TreeCode.{greatest_of};
 ghost use Rattle.sp_generate.specs.Sorts.{is_many};
 ghost use Rattle.sp_generate.specs.Views.{plain_program, scopes};
 

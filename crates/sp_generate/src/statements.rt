@@ -9,7 +9,7 @@ ghost use Rattle.sp_code.specs.declared.instr.Instr.TheVariants as i;
 ghost use Rattle.sp_generate.specs.declared.levels.Scope.TheVariants as scope;
 ghost use Rattle.sp_generate.specs.Steps.{for_instr, next_instr};
 ghost use Rattle.sp_generate.specs.Views.{plain_program};
-ghost use Rattle.sp_generate.specs.Written.{starts_of, ends_of};
+ghost use Rattle.sp_generate.specs.CodeBuffers.{starts_of, ends_of};
 ghost use Rattle.sp_writer.specs.Adds.{Keeps};
 ghost use Rattle.sp_generate.specs.BuffersAfter.{Wrote, written, with_statement, with_form, with_children, with_arms};
 ghost use Rattle.sp_generate.specs.BuffersAfter.{with_branch, with_passed, with_loop, with_spread, with_choices};
@@ -21,7 +21,7 @@ use crate::code_buffer::{
 };
 use crate::code_context::CodeContext;
 use crate::expressions::{put_call, put_value};
-use crate::handed::{but_index, moved, shared};
+use crate::handings::{but_index, moved, shared};
 use crate::levels::Scope;
 use crate::numbers::{narrow, sum};
 use crate::simple::{

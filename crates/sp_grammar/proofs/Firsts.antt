@@ -22,7 +22,7 @@ use Rattle.sp_grammar.proofs.Viable.{TakesTokens, Splits, splits, is_shallow, ba
 use Rattle.sp_grammar.proofs.Viable.{no_program}
 use Rattle.sp_grammar.proofs.Viable.{append_nil}
 use Rattle.sp_grammar.proofs.Order.{later, no_sooner, rises}
-use Rattle.sp_grammar.proofs.Rising.{Rising, rising}
+use Rattle.sp_grammar.proofs.TokenOrder.{Rising, rising}
 
 -- a token of two lists: in the first, or in the second
 data InFrontOrBehind (front rest left : List Token) (t : Token) (right : List Token) : Type 0 where

@@ -3,13 +3,13 @@ pub mod Run
 pub mod From
 mod Behind
 pub mod Looks
-pub mod Scanned
+pub mod TextParts
 pub mod To
 pub mod Completes
 pub mod Wider
 mod Viable
 pub mod Order
-pub mod Rising
+pub mod TokenOrder
 pub mod Firsts
 pub mod OneList
 mod Existence

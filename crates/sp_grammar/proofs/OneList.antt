@@ -20,7 +20,7 @@ use Rattle.sp_tree.specs.Breaches.{BreaksGrammar, IsFirstBroken, IsTree}
 use Rattle.sp_grammar.proofs.Order.{one_first}
 use Rattle.sp_grammar.proofs.One.{one_program}
 use Rattle.sp_tree.specs.Scans.{BreaksLexis, Scans, nothing, blank, comment, token, token_from}
-use Rattle.sp_grammar.proofs.Rising.{HoldsOfEach, each_at, lexeme_length, comment_length}
+use Rattle.sp_grammar.proofs.TokenOrder.{HoldsOfEach, each_at, lexeme_length, comment_length}
 
 -- what is left of a list
 pub data Tail : List ℕ → List ℕ → Type 0 where

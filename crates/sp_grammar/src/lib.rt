@@ -22,12 +22,12 @@
 //! - `Run`: the machine follows what each symbol derives by the table.
 //! - `From`: what the table derives is in the grammar.
 //! - `Looks`: the row of the table that a token selects.
-//! - `Scanned`: tokens of a text, part behind part, and digits, which have no case.
+//! - `TextParts`: tokens of a text, part behind part, and digits, which have no case.
 //! - `To`: what is in the grammar is derived by the table, where what is behind it does not go on with it.
 //! - `Completes`: what the machine takes is in the grammar, and each stack can be completed.
 //! - `Wider`: what holds of all parts may be weakened, and a prefix of what is viable is viable.
 //! - `Order`: the order of refusals, and that the first broken rule is one.
-//! - `Rising`: the tokens of a text stand in it one behind the other.
+//! - `TokenOrder`: the tokens of a text stand in it one behind the other.
 //! - `Firsts`: the rule where the machine gets stuck is the first that the tokens break; and tokens that are taken
 //!   whole break none.
 //! - `OneList`: a text has at most one list of tokens.

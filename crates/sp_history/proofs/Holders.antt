@@ -42,22 +42,22 @@ use Rattle.sp_code.specs.System.{opening_system, EntryLeads}
 use Rattle.sp_code.specs.System.{EntriesLead, GiveIsLegal}
 use Rattle.sp_history.specs.Agreement.{ToJoin, phase_in, IsOrderly, AgreesWithSystem, Reaches}
 use Rattle.sp_history.specs.WorkerHistory.{HasChildren}
-use Rattle.sp_history.specs.Counted.{IsCounted}
+use Rattle.sp_history.specs.EntryCounts.{IsCounted}
 use Rattle.sp_history.specs.Channels.{EntriesHave, ConfigHas, AimsAt, TurnDoes}
-use Rattle.sp_history.specs.Holding.{Share, HoldsIt, LendsIt, LacksIt, StoreIs, IsPart, Owned, AimsIn, IsShared}
-use Rattle.sp_history.specs.Holding.{HasHolder}
-use Rattle.sp_history.specs.Holding.{IsOutputOf}
+use Rattle.sp_history.specs.OutputHolder.{Share, HoldsIt, LendsIt, LacksIt, StoreIs, IsPart, Owned, AimsIn, IsShared}
+use Rattle.sp_history.specs.OutputHolder.{HasHolder}
+use Rattle.sp_history.specs.OutputHolder.{IsOutputOf}
 use Rattle.sp_history.proofs.Queues.{number_or, at_same, at_other}
 use Rattle.sp_history.proofs.Orders.{next_is, next_not, next_yes}
-use Rattle.sp_history.proofs.Keeping.{turn_does}
-use Rattle.sp_history.proofs.Naming.{there, after_counted, opening_counted}
+use Rattle.sp_history.proofs.OperationLaws.{turn_does}
+use Rattle.sp_history.proofs.NameableRuns.{there, after_counted, opening_counted}
 use Rattle.sp_history.proofs.Families.{parent_joins, children_by, children_start}
-use Rattle.sp_history.proofs.Agreeing.{orderly_start, agrees_start}
+use Rattle.sp_history.proofs.ControlAgreement.{orderly_start, agrees_start}
 use Rattle.sp_history.proofs.Legal.{keeps}
 use Rattle.sp_history.proofs.Outputs.{Shares, AnyChannel, any_cells, own_is, target_apart, sharing}
-use Rattle.sp_history.proofs.Holding.{store_runs, store_waits, store_joins, store_laid, store_over, store_on}
-use Rattle.sp_history.proofs.Holding.{one_change, received_change, join_lacks, join_holds, no_lender, not_held}
-use Rattle.sp_history.proofs.Splitting.{plan_in, plan_found, plan_alone, fork_shares, fork_lends}
+use Rattle.sp_history.proofs.OutputHolder.{store_runs, store_waits, store_joins, store_laid, store_over, store_on}
+use Rattle.sp_history.proofs.OutputHolder.{one_change, received_change, join_lacks, join_holds, no_lender, not_held}
+use Rattle.sp_history.proofs.ForkOutputs.{plan_in, plan_found, plan_alone, fork_shares, fork_lends}
 
 -- ---- births
 

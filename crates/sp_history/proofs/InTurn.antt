@@ -22,7 +22,7 @@ use Rattle.sp_code.specs.System.{System, GiveIsLegal, GetIsLegal, opening_system
 use Rattle.sp_history.specs.Agreement.{IsOrderly, AgreesWithSystem, SamePending, waits_by, IsGot, Reaches}
 use Rattle.sp_history.specs.WorkerHistory.{OneByOne, HasChildren}
 use Rattle.sp_history.proofs.Queues.{number_or, at_same, at_other}
-use Rattle.sp_history.proofs.Agreeing.{pending_at, orderly_start, agrees_start}
+use Rattle.sp_history.proofs.ControlAgreement.{pending_at, orderly_start, agrees_start}
 use Rattle.sp_history.proofs.Legal.{got_of, keeps}
 use Rattle.sp_history.proofs.Families.{children_start, parent_joins, children_back, children_takes}
 use Rattle.sp_history.proofs.Orders.{orderly_back}

@@ -17,8 +17,8 @@ use Rattle.sp_code.proofs.Systems.{enters_same}
 use Rattle.sp_history.specs.Agreement.{EachNumber, IsOrderly, AgreesWithSystem, IsGot, NoteLeads, Reaches, NoneBy}
 use Rattle.sp_history.proofs.Queues.{at_other}
 use Rattle.sp_history.proofs.Orders.{orderly_back, orderly_does, out_there, no_offer, not_ready_out}
-use Rattle.sp_history.proofs.Agreeing.{agrees_after, agrees_takes, orderly_takes, at_phase, as_it_was}
-use Rattle.sp_history.proofs.Staying.{after_same, back_out}
+use Rattle.sp_history.proofs.ControlAgreement.{agrees_after, agrees_takes, orderly_takes, at_phase, as_it_was}
+use Rattle.sp_history.proofs.OutProcesses.{after_same, back_out}
 
 -- the front of the queue is the first that is ready
 front_first : (k : Control) → IsOrderly k → (q : ℕ) (st : Standing) → front_while st k.ready ≡ Some q → IsGot k (Some q)

@@ -1,21 +1,21 @@
 pub mod Queues
 pub mod Orders
-pub mod Unchanged
-pub mod Agreeing
-pub mod Staying
+pub mod EventFrames
+pub mod ControlAgreement
+pub mod OutProcesses
 pub mod Legal
 pub mod Outs
-pub mod Keeping
+pub mod OperationLaws
 mod Cells
 mod Memories
-pub mod Speaking
+pub mod KnownChannels
 pub mod Families
 pub mod InTurn
-pub mod Naming
+pub mod NameableRuns
 pub mod OneFault
 pub mod Phases
 pub mod Along
 pub mod Outputs
-mod Holding
-pub mod Splitting
+mod OutputHolder
+pub mod ForkOutputs
 pub mod Holders

@@ -19,7 +19,7 @@ use Rattle.sp_code.specs.PlainStore.{plain}
 use Rattle.sp_history.specs.Channels.{CellHas, CellsHave, EntriesHave, StoreHas}
 use Rattle.sp_history.specs.NamesChannels.{MemoryHas}
 use Rattle.sp_history.proofs.Cells.{have_set, have_at, have_part, have_over, insert_has, pieces_has, without_has}
-use Rattle.sp_history.proofs.Keeping.{HasKeeping, Anywhere}
+use Rattle.sp_history.proofs.OperationLaws.{HasKeeping, Anywhere}
 
 pub is_done : {M : Type 0} (n m : M) → ◌≡◌ {A = MemoryResult M} (Done n) (Done m) → n ≡ m
 is_done n m e = cc

@@ -22,9 +22,9 @@ use Rattle.sp_code.specs.PlainStore.{plain, piece_of}
 use Rattle.sp_code.proofs.StoreLaws.{output_held, may_go}
 use Rattle.sp_history.specs.Agreement.{EachNumber}
 use Rattle.sp_history.specs.Channels.{CellHas, CellsHave}
-use Rattle.sp_history.specs.Holding.{Share, HoldsIt, LendsIt, LacksIt, StoreIs, Owned}
+use Rattle.sp_history.specs.OutputHolder.{Share, HoldsIt, LendsIt, LacksIt, StoreIs, Owned}
 use Rattle.sp_history.proofs.Queues.{each_append, number_or}
-use Rattle.sp_history.proofs.Keeping.{HasKeeping}
+use Rattle.sp_history.proofs.OperationLaws.{HasKeeping}
 use Rattle.sp_history.proofs.Memories.{is_done, not_done}
 
 -- ---- lists

@@ -23,7 +23,7 @@ use Rattle.sp_history.specs.Agreement.{phase_in, Running}
 use Rattle.sp_history.specs.Agreement.{IsOut, HasOuts, IsOver}
 use Rattle.sp_history.proofs.Queues.{each_of, number_or, at_same, at_other, among_none}
 use Rattle.sp_history.proofs.Orders.{orderly_back}
-use Rattle.sp_history.proofs.Staying.{back_out}
+use Rattle.sp_history.proofs.OutProcesses.{back_out}
 use Rattle.sp_history.proofs.Legal.{got_of, keeps}
 
 -- at the start nothing is out

@@ -2,6 +2,6 @@ pub mod Agreement
 pub mod Channels
 pub mod NamesChannels
 pub mod WorkerHistory
-pub mod Counted
+pub mod EntryCounts
 pub mod Faults
-pub mod Holding
+pub mod OutputHolder

@@ -21,7 +21,7 @@ ghost use Rattle.sp_history.specs.Channels.{StopHas};
 ghost use Rattle.sp_history.specs.NamesChannels.{NamesChannels, IsThere};
 ghost use Rattle.sp_history.specs.WorkerHistory.{OneByOne};
 ghost use Rattle.sp_history.specs.Faults.{IsFaulty};
-ghost use Rattle.sp_history.specs.Holding.{IsOutputOf};
+ghost use Rattle.sp_history.specs.OutputHolder.{IsOutputOf};
 
 /// A legal history leads to exactly one system: the one along the journal of its notes. The control of its notes and
 /// that system tell the same of every process; and the control counts the processes that are out.

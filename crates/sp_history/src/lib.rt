@@ -14,35 +14,36 @@
 //!
 //! To know:
 //! - `specs/Agreement.antt` says what control and system tell alike.
-//! - Of the proofs, `Orders` to `Outs`, `Families` and `InTurn` are about histories, `Keeping` about instructions,
-//!   `Speaking`, `Naming` and `OneFault` about journals, `Outputs` to `Holders` about the output, in the order of
-//!   `proofs/Lib.antt`.
+//! - Of the proofs, `Orders` to `Outs`, `Families` and `InTurn` are about histories, `OperationLaws` about
+//!   instructions, `KnownChannels`, `NameableRuns` and `OneFault` about journals, `Outputs` to `Holders` about the
+//!   output, in the order of `proofs/Lib.antt`.
 //!
 //! Lemmas for others, in `proofs`:
 //! - `Queues`: lists of numbers: each, different, among.
 //! - `Orders`: each event and each take keeps the control orderly.
-//! - `Unchanged`: what an event leaves of a control as it was: whether a fault stands, and what is pending.
-//! - `Agreeing`: the control and the system go on alike: an event of the one is the event of the other.
-//! - `Staying`: a note of one worker leaves a process that is out with another as it is.
+//! - `EventFrames`: what an event leaves of a control as it was: whether a fault stands, and what is pending.
+//! - `ControlAgreement`: the control and the system go on alike: an event of the one is the event of the other.
+//! - `OutProcesses`: a note of one worker leaves a process that is out with another as it is.
 //! - `Legal`: a legal history determines the control and the system; what is out with a worker stays so until that
 //!   worker's next note.
 //! - `Outs`: the count of the processes that are out, and that nobody runs where none is out and none is ready.
-//! - `Keeping`: what each operation of a memory keeps, each instruction keeps, and so each turn.
-//! - `Speaking`: along a journal every process has its number and speaks of channels that are there.
+//! - `OperationLaws`: what each operation of a memory keeps, each instruction keeps, and so each turn.
+//! - `KnownChannels`: along a journal every process has its number and speaks of channels that are there.
 //! - `Families`: a child that has not ended is awaited by its parent.
 //! - `InTurn`: the journal of one worker that hands in what it holds is first in, first out.
-//! - `Naming`: the journal of a run is nameable: its limits keep all numbers below 2 ^ 32.
+//! - `NameableRuns`: the journal of a run is nameable: its limits keep all numbers below 2 ^ 32.
 //! - `OneFault`: a journal has one fault at most, and after it only Laid.
 //! - `Phases`: which phases are that of a process that has ended.
 //! - `Along`: along a history the births are those that its entries give.
 //! - `Outputs`: what each instruction keeps of the output: who holds it goes on holding it, and nobody else comes
 //!   to it.
-//! - `Splitting`: a fork leaves the output with its holder, or hands it to one child.
+//! - `ForkOutputs`: a fork leaves the output with its holder, or hands it to one child.
 //! - `Holders`: along a history of safe code one process holds the output, and no other.
 //!
 //! To change:
-//! - An event: `proofs/Orders`, `Agreeing`, `Staying`, `Families`, `Speaking`, `Naming`, `Holders`.
-//! - An instruction: `proofs/Keeping`.
+//! - An event: `proofs/Orders`, `ControlAgreement`, `OutProcesses`, `Families`, `KnownChannels`, `NameableRuns`,
+//!   `Holders`.
+//! - An instruction: `proofs/OperationLaws`.
 #![tactic(auto)]
 
 pub mod laws;

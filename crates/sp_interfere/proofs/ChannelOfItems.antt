@@ -17,7 +17,7 @@ use Rattle.sp_interfere.specs.Rules.{site_first}
 use Rattle.sp_interfere.specs.Walk.{each_first, expression_first, variable_first, statements_first}
 use Rattle.sp_interfere.proofs.Along.{expression_along, variable_along}
 use Rattle.sp_interfere.proofs.FindsFirst.{Finds, finds_none, finds_both, finds_as}
-use Rattle.sp_interfere.proofs.Broken.{refusal, AtSite, finds_site, finds_along}
+use Rattle.sp_interfere.proofs.FirstBreaches.{refusal, AtSite, finds_site, finds_along}
 
 module _ (f h : FirstRefusal → FirstRefusal) (P Q : Refusal → Type 0) (to : (x : Refusal) → P x → Q x)
     (from : (x : Refusal) → Q x → P x) (a : Finds f P) (b : Finds h Q) (g : FirstRefusal) where

@@ -29,12 +29,12 @@ use Rattle.sp_interfere.specs.Tests.{is_any, has_declared}
 use Rattle.sp_interfere.specs.Rules.{is_reference, is_function, stands_in, blocks_first, rules_first}
 use Rattle.sp_interfere.specs.Verdict.{IsVerdict}
 use Rattle.sp_interfere.proofs.SetTests.{some_from, some_to}
-use Rattle.sp_interfere.proofs.Standing.{bare_at, stands_from, stands_to, within}
+use Rattle.sp_interfere.proofs.BlockLevels.{bare_at, stands_from, stands_to, within}
 use Rattle.sp_interfere.proofs.FittingSites.{AllParts, SiteFits, one_fits, statement_fits}
 use Rattle.sp_interfere.proofs.Calls.{statement_called}
 use Rattle.sp_interfere.proofs.FindsFirst.{Finds}
-use Rattle.sp_interfere.proofs.Broken.{refusal, is_inside, Called, AtSite, AtFormal}
-use Rattle.sp_interfere.proofs.Broken.{AtFormals, AtHeading, InBlock, InBlocks, finds_blocks, block_of, of_block}
+use Rattle.sp_interfere.proofs.FirstBreaches.{refusal, is_inside, Called, AtSite, AtFormal}
+use Rattle.sp_interfere.proofs.FirstBreaches.{AtFormals, AtHeading, InBlock, InBlocks, finds_blocks, block_of, of_block}
 use Rattle.sp_interfere.proofs.Means.{is_reference_to, answer_of, clash_to, clash_back, repeat_to}
 use Rattle.sp_interfere.proofs.Means.{repeat_back, passed_to, passed_back, declared_to_implicit, implicit_declared, One}
 

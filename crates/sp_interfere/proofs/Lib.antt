@@ -1,5 +1,5 @@
 mod Along
-mod Broken
+mod FirstBreaches
 mod Calls
 mod Clashes
 mod ChannelOfItems
@@ -8,5 +8,5 @@ mod FittingSites
 mod FindsFirst
 mod Means
 mod SetTests
-pub mod Standing
+pub mod BlockLevels
 mod MoreItems

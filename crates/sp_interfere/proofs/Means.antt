@@ -26,7 +26,7 @@ use Rattle.sp_interfere.specs.Rules.{is_reference, is_function}
 use Rattle.sp_interfere.proofs.SetTests.{some_from, some_to, declared_from, declared_to, any_from, any_to, clash_from}
 use Rattle.sp_interfere.proofs.SetTests.{clash_target, clash_seen}
 use Rattle.sp_interfere.proofs.FittingSites.{AllParts}
-use Rattle.sp_interfere.proofs.Broken.{refusal, Clashed, Repeated, PassesImplicitly}
+use Rattle.sp_interfere.proofs.FirstBreaches.{refusal, Clashed, Repeated, PassesImplicitly}
 
 member_first : (xs : List ℕ) (y x : ℕ) → IsMember x xs → IsMember x (xs ++ y ∷ [])
 member_first [] y x i = absurd i

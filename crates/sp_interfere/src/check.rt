@@ -10,10 +10,10 @@ ghost use Rattle.sp_interfere.specs.Rules.{is_reference, is_function, formal_rul
 ghost use Rattle.sp_interfere.specs.Rules.{blocks_first, rules_first};
 ghost use Rattle.sp_interfere.specs.Verdict.{IsVerdict};
 
-use crate::asked::is_any;
+use crate::set_tests::is_any;
 use crate::statements::statement_first;
 use sp_base::{Refusal, Rule};
-use sp_tree::{Block, Checked, Found, Role, Variable, breaks_if, lesser};
+use sp_tree::{Block, Checked, FirstRefusal, Role, Variable, breaks_if, earlier_refusal};
 use sp_varsets::Sets;
 
 fn is_reference(role: Role) -> bool
@@ -39,7 +39,7 @@ fn is_function(answer: Option<u32>) -> bool
 }
 
 /// I7 at a parameter of a function.
-fn formal_rule(i: Option<&Variable>, c: &Checked, s: &Sets) -> Found
+fn formal_rule(i: Option<&Variable>, c: &Checked, s: &Sets) -> FirstRefusal
     ensures { result ≡ formal_rule s.now (program_of c.now) (option_copied i.entry) }
 {
     match i {
@@ -49,25 +49,25 @@ fn formal_rule(i: Option<&Variable>, c: &Checked, s: &Sets) -> Found
 }
 
 /// I7 at the parameters of a function.
-fn formals_first(xs: &[u32], c: &Checked, s: &Sets, first: Found) -> Found
+fn formals_first(xs: &[u32], c: &Checked, s: &Sets, first: FirstRefusal) -> FirstRefusal
     ensures { result ≡ formals_first s.now (program_of c.now) xs.now first }
 {
     let mut first = first;
     for x in xs {
-        first = lesser(first, formal_rule(c.variables.get(*x as usize), c, s));
+        first = earlier_refusal(first, formal_rule(c.variables.get(*x as usize), c, s));
     }
     first
 }
 
 /// I7 and I8 at the heading of a function.
-fn heading_first(b: u32, k: &Block, c: &Checked, s: &Sets, first: Found) -> Found
+fn heading_first(b: u32, k: &Block, c: &Checked, s: &Sets, first: FirstRefusal) -> FirstRefusal
     ensures { result ≡ heading_first s.now (program_of c.now) (block_of k.now).answer b (block_of k.now) first }
 {
     match k.answer {
         None => first,
         Some(_) => {
             let first = formals_first(k.formals.items(), c, s, first);
-            lesser(
+            earlier_refusal(
                 first,
                 breaks_if(Rule::I8, k.at, is_any(s.implicit_targets(b))),
             )
@@ -76,14 +76,14 @@ fn heading_first(b: u32, k: &Block, c: &Checked, s: &Sets, first: Found) -> Foun
 }
 
 /// All rules of interference in block `b`.
-fn block_first(b: u32, k: &Block, c: &Checked, s: &Sets, first: Found) -> Found
+fn block_first(b: u32, k: &Block, c: &Checked, s: &Sets, first: FirstRefusal) -> FirstRefusal
     ensures { result ≡ blocks_first s.now (program_of c.now) b (block_of k.now ∷ []) first }
 {
     let first = heading_first(b, k, c, s, first);
     statement_first(&k.body, c, s, is_function(k.answer), b, first)
 }
 
-fn rules_first(c: &Checked, s: &Sets) -> Found
+fn rules_first(c: &Checked, s: &Sets) -> FirstRefusal
     requires { length c.now.blocks ≤ 2 ^ 32 }
     ensures { result ≡ rules_first s.now (program_of c.now) }
 {

@@ -9,7 +9,7 @@ ghost use Rattle.sp_interfere.specs.Walk.{selectors_first, actuals_first};
 
 use crate::sites::call_first;
 use sp_base::{Boxed, List};
-use sp_tree::{Actual, Checked, Expr, ExprForm, Found, Selector, Var};
+use sp_tree::{Actual, Checked, Expr, ExprForm, FirstRefusal, Selector, Var};
 use sp_varsets::Sets;
 
 #[cycle(expression)]
@@ -19,8 +19,8 @@ pub fn expression_first(
     s: &Sets,
     in_function: bool,
     d: u32,
-    first: Found,
-) -> Found
+    first: FirstRefusal,
+) -> FirstRefusal
     ensures { result ≡ expression_first (site_first s.now (program_of c.now) in_function d) (expression_of e.now)
         first }
 {
@@ -34,8 +34,8 @@ fn boxed_first(
     s: &Sets,
     in_function: bool,
     d: u32,
-    first: Found,
-) -> Found
+    first: FirstRefusal,
+) -> FirstRefusal
     ensures { result ≡ expression_first (site_first s.now (program_of c.now) in_function d) (expression_of e.now)
         first }
 {
@@ -49,8 +49,8 @@ fn form_first(
     s: &Sets,
     in_function: bool,
     d: u32,
-    first: Found,
-) -> Found
+    first: FirstRefusal,
+) -> FirstRefusal
     ensures { result ≡ form_first (site_first s.now (program_of c.now) in_function d) (expression_form_of form.now)
         first }
 {
@@ -77,8 +77,8 @@ fn parameter_first(
     s: &Sets,
     in_function: bool,
     d: u32,
-    first: Found,
-) -> Found
+    first: FirstRefusal,
+) -> FirstRefusal
     ensures { result ≡ parameter_first (site_first s.now (program_of c.now) in_function d)
         (expressions (map expression_of args.now)) first }
 {
@@ -95,8 +95,8 @@ pub fn variable_first(
     s: &Sets,
     in_function: bool,
     d: u32,
-    first: Found,
-) -> Found
+    first: FirstRefusal,
+) -> FirstRefusal
     ensures { result ≡ variable_first (site_first s.now (program_of c.now) in_function d) (variable_of v.now) first }
 {
     let mut first = first;
@@ -113,8 +113,8 @@ fn selector_first(
     s: &Sets,
     in_function: bool,
     d: u32,
-    first: Found,
-) -> Found
+    first: FirstRefusal,
+) -> FirstRefusal
     ensures { result ≡ selectors_first (site_first s.now (program_of c.now) in_function d)
         (selectors (map selector_of (x.now ∷ []))) first }
 {
@@ -131,8 +131,8 @@ pub fn actuals_first(
     s: &Sets,
     in_function: bool,
     d: u32,
-    first: Found,
-) -> Found
+    first: FirstRefusal,
+) -> FirstRefusal
     ensures { result ≡ actuals_first (site_first s.now (program_of c.now) in_function d)
         (actuals (map actual_of args.now)) first }
 {
@@ -144,7 +144,14 @@ pub fn actuals_first(
 }
 
 #[cycle(expression)]
-fn actual_first(x: &Actual, c: &Checked, s: &Sets, in_function: bool, d: u32, first: Found) -> Found
+fn actual_first(
+    x: &Actual,
+    c: &Checked,
+    s: &Sets,
+    in_function: bool,
+    d: u32,
+    first: FirstRefusal,
+) -> FirstRefusal
     ensures { result ≡ actuals_first (site_first s.now (program_of c.now) in_function d)
         (actuals (map actual_of (x.now ∷ []))) first }
 {

@@ -12,16 +12,16 @@
 //! - It recurses as deep as the longest chain of operators is long, and asks that a tree has at most 2^32 blocks.
 //!
 //! Lemmas for others, in `proofs`:
-//! - `Standing`: blocks in memory and in the plain tree, and the way up from a block.
+//! - `BlockLevels`: blocks in memory and in the plain tree, and the way up from a block.
 //!
 //! To change:
 //! - A rule: its clause in `specs/Rules.antt`, its function in `src/sites.rt` or `src/check.rt`.
 #![tactic(auto)]
 
-mod asked;
 mod check;
 mod expressions;
 mod parts;
+mod set_tests;
 mod sites;
 mod statements;
 

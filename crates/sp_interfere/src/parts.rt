@@ -11,9 +11,9 @@ ghost use Rattle.sp_varsets.specs.AreSets.{targets_of, expressions_of};
 ghost use Rattle.sp_interfere.specs.Tests.{clashes, Joins, is_target, is_used};
 ghost use Rattle.sp_interfere.specs.Rules.{numbers_of, parts_first};
 
-use crate::asked::clash;
+use crate::set_tests::clash;
 use sp_base::Rule;
-use sp_tree::{Found, Stmt, breaks_if, lesser};
+use sp_tree::{FirstRefusal, Stmt, breaks_if, earlier_refusal};
 use sp_varsets::{Sets, VarUnion};
 
 /// Whether statement `n` clashes with one of the earlier ones, each looked at.
@@ -58,7 +58,13 @@ fn clashes_before(s: &Sets, earlier: &[Stmt], n: u32, targets: &VarUnion, used: 
 }
 
 /// I1 at a process statement behind earlier ones.
-fn part_rule(s: &Sets, earlier: &[Stmt], t: &Stmt, targets: &VarUnion, used: &VarUnion) -> Found
+fn part_rule(
+    s: &Sets,
+    earlier: &[Stmt],
+    t: &Stmt,
+    targets: &VarUnion,
+    used: &VarUnion,
+) -> FirstRefusal
     requires targets { Joins targets.now (is_target s.now) (numbers_of (statements (map statement_of earlier.now))) }
     requires used { Joins used.now (is_used s.now) (numbers_of (statements (map statement_of earlier.now))) }
     ensures { result ≡ refusal_if I1 (place_of (statement_of t.now))
@@ -90,7 +96,7 @@ fn add_part(s: &Sets, n: u32, targets: &mut VarUnion, used: &mut VarUnion)
 }
 
 /// I1 at each process statement: by unions of what came before, so each is looked at once.
-pub fn parts_first(parts: &[Stmt], s: &Sets, first: Found) -> Found
+pub fn parts_first(parts: &[Stmt], s: &Sets, first: FirstRefusal) -> FirstRefusal
     ensures { result ≡ parts_first s.now [] (statements (map statement_of parts.now)) first }
 {
     let mut targets = VarUnion::new(0);
@@ -98,7 +104,7 @@ pub fn parts_first(parts: &[Stmt], s: &Sets, first: Found) -> Found
     let mut first = first;
     'each: for i in 0..parts.len() {
         let t = &parts[i];
-        first = lesser(first, part_rule(s, &parts[..i], t, &targets, &used));
+        first = earlier_refusal(first, part_rule(s, &parts[..i], t, &targets, &used));
         add_part(s, number_of(t), &mut targets, &mut used);
     }
     first

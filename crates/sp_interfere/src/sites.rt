@@ -7,10 +7,10 @@ ghost use Rattle.sp_tree.specs.Sites.{CallsAt, LoopsAt, SpreadsAt, SplitsAt, Sto
 ghost use Rattle.sp_interfere.specs.Rules.{is_among, parent_of, stands_in, inside_rule, called_first, passed_first};
 ghost use Rattle.sp_interfere.specs.Rules.{repeats_first, references, site_first};
 
-use crate::asked::{has_declared, has_implicit, is_any};
 use crate::parts::parts_first;
+use crate::set_tests::{has_declared, has_implicit, is_any};
 use sp_base::{List, Place, Rule};
-use sp_tree::{Actual, Block, Checked, Found, Stmt, breaks_if, lesser};
+use sp_tree::{Actual, Block, Checked, FirstRefusal, Stmt, breaks_if, earlier_refusal};
 use sp_varsets::Sets;
 
 /// The block around a block.
@@ -24,7 +24,7 @@ fn parent_of(c: &Checked, b: u32) -> Option<u32>
 }
 
 /// Whether block `d` is block `f` or stands in it.
-#[tactic(auto, using(crate::proofs::Standing::standing, crate::proofs::Standing::standing_nowhere))]
+#[tactic(auto, using(crate::proofs::BlockLevels::standing, crate::proofs::BlockLevels::standing_nowhere))]
 fn stands_in(c: &Checked, d: u32, f: u32) -> bool
     ensures { result ≡ stands_in (program_of c.now).blocks (length (program_of c.now).blocks) (Some d) f }
 {
@@ -44,7 +44,7 @@ fn stands_in(c: &Checked, d: u32, f: u32) -> bool
 }
 
 /// I6 at the heading of block `f`, which is called in block `d`.
-fn inside_rule(d: u32, f: u32, at: Place, c: &Checked, s: &Sets) -> Found
+fn inside_rule(d: u32, f: u32, at: Place, c: &Checked, s: &Sets) -> FirstRefusal
     ensures { result ≡ inside_rule s.now (program_of c.now) d f at }
 {
     breaks_if(Rule::I6, at, stands_in(c, d, f) && has_declared(s, f))
@@ -68,14 +68,14 @@ fn is_passed(y: u32, earlier: &[Actual]) -> bool
 }
 
 /// I4 at a parameter of a call, behind earlier ones.
-fn repeat_first(earlier: &[Actual], a: &Actual, s: &Sets, first: Found) -> Found
+fn repeat_first(earlier: &[Actual], a: &Actual, s: &Sets, first: FirstRefusal) -> FirstRefusal
     ensures { result ≡ repeats_first s.now (references (actuals (map actual_of earlier.now)))
         (actuals (map actual_of (a.now ∷ []))) first }
 {
     match a {
         Actual::Value(_) => first,
         Actual::Reference(v) => {
-            lesser(
+            earlier_refusal(
                 first,
                 breaks_if(Rule::I4, v.at, is_passed(v.variable, earlier)),
             )
@@ -84,7 +84,7 @@ fn repeat_first(earlier: &[Actual], a: &Actual, s: &Sets, first: Found) -> Found
 }
 
 /// I4 at the parameters of a call.
-fn repeats_first(args: &[Actual], s: &Sets, first: Found) -> Found
+fn repeats_first(args: &[Actual], s: &Sets, first: FirstRefusal) -> FirstRefusal
     ensures { result ≡ repeats_first s.now [] (actuals (map actual_of args.now)) first }
 {
     let mut first = first;
@@ -95,7 +95,7 @@ fn repeats_first(args: &[Actual], s: &Sets, first: Found) -> Found
 }
 
 /// I5 at the parameters of a call of block `f`.
-fn passed_first(f: u32, args: &[Actual], s: &Sets, first: Found) -> Found
+fn passed_first(f: u32, args: &[Actual], s: &Sets, first: FirstRefusal) -> FirstRefusal
     ensures { result ≡ passed_first s.now f (actuals (map actual_of args.now)) first }
 {
     let mut first = first;
@@ -104,7 +104,7 @@ fn passed_first(f: u32, args: &[Actual], s: &Sets, first: Found) -> Found
             Actual::Value(_) => {}
             Actual::Reference(v) => {
                 let broken = has_implicit(s, f, v.variable);
-                first = lesser(first, breaks_if(Rule::I5, v.at, broken));
+                first = earlier_refusal(first, breaks_if(Rule::I5, v.at, broken));
             }
         }
     }
@@ -121,8 +121,8 @@ fn called_first(
     s: &Sets,
     in_function: bool,
     d: u32,
-    first: Found,
-) -> Found
+    first: FirstRefusal,
+) -> FirstRefusal
     ensures { result ≡ called_first s.now (program_of c.now) in_function d f at (actuals (map actual_of args.now))
         (option_map block_of (option_copied k.entry)) first }
 {
@@ -130,14 +130,14 @@ fn called_first(
         None => first,
         Some(k) => {
             let first = passed_first(f, args, s, first);
-            let first = lesser(first, inside_rule(d, f, k.at, c, s));
-            lesser(first, breaks_if(Rule::I9, at, in_function && s.stops(f)))
+            let first = earlier_refusal(first, inside_rule(d, f, k.at, c, s));
+            earlier_refusal(first, breaks_if(Rule::I9, at, in_function && s.stops(f)))
         }
     }
 }
 
 /// A call in block `d`, which is a function or not.
-#[tactic(auto, using(crate::proofs::Standing::block_there))]
+#[tactic(auto, using(crate::proofs::BlockLevels::block_there))]
 pub fn call_first(
     f: u32,
     at: Place,
@@ -146,8 +146,8 @@ pub fn call_first(
     s: &Sets,
     in_function: bool,
     d: u32,
-    first: Found,
-) -> Found
+    first: FirstRefusal,
+) -> FirstRefusal
     ensures { result ≡ site_first s.now (program_of c.now) in_function d
         (CallsAt f at (actuals (map actual_of args.now))) first }
 {
@@ -163,8 +163,8 @@ pub fn split_first(
     s: &Sets,
     in_function: bool,
     d: u32,
-    first: Found,
-) -> Found
+    first: FirstRefusal,
+) -> FirstRefusal
     ensures { result ≡ site_first s.now (program_of c.now) in_function d
         (SplitsAt (statements (map statement_of parts.now))) first }
 {
@@ -180,11 +180,11 @@ pub fn spread_first(
     s: &Sets,
     in_function: bool,
     d: u32,
-    first: Found,
-) -> Found
+    first: FirstRefusal,
+) -> FirstRefusal
     ensures { result ≡ site_first s.now (program_of c.now) in_function d (SpreadsAt at x (statement_of t.now)) first }
 {
-    lesser(first, breaks_if(Rule::I2, at, is_any(s.targets(t.number))))
+    earlier_refusal(first, breaks_if(Rule::I2, at, is_any(s.targets(t.number))))
 }
 
 /// A `for` statement with this variable and this body.
@@ -196,11 +196,11 @@ pub fn loop_first(
     s: &Sets,
     in_function: bool,
     d: u32,
-    first: Found,
-) -> Found
+    first: FirstRefusal,
+) -> FirstRefusal
     ensures { result ≡ site_first s.now (program_of c.now) in_function d (LoopsAt x at (statement_of t.now)) first }
 {
-    lesser(
+    earlier_refusal(
         first,
         breaks_if(Rule::I3, at, s.targets(t.number).contains(x)),
     )
@@ -213,9 +213,9 @@ pub fn stop_first(
     s: &Sets,
     in_function: bool,
     d: u32,
-    first: Found,
-) -> Found
+    first: FirstRefusal,
+) -> FirstRefusal
     ensures { result ≡ site_first s.now (program_of c.now) in_function d (StopsAt at) first }
 {
-    lesser(first, breaks_if(Rule::I9, at, in_function))
+    earlier_refusal(first, breaks_if(Rule::I9, at, in_function))
 }

@@ -10,7 +10,7 @@ ghost use Rattle.sp_interfere.specs.Walk.{other_first, width_first, each_first, 
 use crate::expressions::{actuals_first, expression_first, variable_first};
 use crate::sites::{call_first, loop_first, split_first, spread_first, stop_first};
 use sp_base::{Boxed, List, Place};
-use sp_tree::{Arm, Checked, Expr, Form, Found, Stmt, Var};
+use sp_tree::{Arm, Checked, Expr, FirstRefusal, Form, Stmt, Var};
 use sp_varsets::Sets;
 
 fn width_first(
@@ -19,8 +19,8 @@ fn width_first(
     s: &Sets,
     in_function: bool,
     d: u32,
-    first: Found,
-) -> Found
+    first: FirstRefusal,
+) -> FirstRefusal
     ensures { result ≡ width_first (site_first s.now (program_of c.now) in_function d) (width_of w.now) first }
 {
     match w {
@@ -35,8 +35,8 @@ fn values_first(
     s: &Sets,
     in_function: bool,
     d: u32,
-    first: Found,
-) -> Found
+    first: FirstRefusal,
+) -> FirstRefusal
     ensures { result ≡ each_first (expression_first (site_first s.now (program_of c.now) in_function d))
         (map expression_of es.now) first }
 {
@@ -53,8 +53,8 @@ fn variables_first(
     s: &Sets,
     in_function: bool,
     d: u32,
-    first: Found,
-) -> Found
+    first: FirstRefusal,
+) -> FirstRefusal
     ensures { result ≡ each_first (variable_first (site_first s.now (program_of c.now) in_function d))
         (map variable_of vs.now) first }
 {
@@ -75,8 +75,8 @@ fn sends_first(
     s: &Sets,
     in_function: bool,
     d: u32,
-    first: Found,
-) -> Found
+    first: FirstRefusal,
+) -> FirstRefusal
     ensures { result ≡ statements_first (site_first s.now (program_of c.now) in_function d)
         (sends n at (expression_of channel.now) (map expression_of es.now)) first }
 {
@@ -99,8 +99,8 @@ fn receives_first(
     s: &Sets,
     in_function: bool,
     d: u32,
-    first: Found,
-) -> Found
+    first: FirstRefusal,
+) -> FirstRefusal
     ensures { result ≡ statements_first (site_first s.now (program_of c.now) in_function d)
         (receives n at (expression_of channel.now) (map variable_of vs.now)) first }
 {
@@ -121,8 +121,8 @@ pub fn statement_first(
     s: &Sets,
     in_function: bool,
     d: u32,
-    first: Found,
-) -> Found
+    first: FirstRefusal,
+) -> FirstRefusal
     ensures { result ≡ statement_first (site_first s.now (program_of c.now) in_function d) (statement_of x.now) first }
 {
     form_first(&x.form, x.at, c, s, in_function, d, first)
@@ -135,8 +135,8 @@ fn boxed_first(
     s: &Sets,
     in_function: bool,
     d: u32,
-    first: Found,
-) -> Found
+    first: FirstRefusal,
+) -> FirstRefusal
     ensures { result ≡ statement_first (site_first s.now (program_of c.now) in_function d) (statement_of x.now) first }
 {
     statement_first(x.get(), c, s, in_function, d, first)
@@ -149,8 +149,8 @@ fn other_first(
     s: &Sets,
     in_function: bool,
     d: u32,
-    first: Found,
-) -> Found
+    first: FirstRefusal,
+) -> FirstRefusal
     ensures { result ≡ other_first (site_first s.now (program_of c.now) in_function d)
         (else_part (option_map statement_of x.now)) first }
 {
@@ -167,8 +167,8 @@ fn statements_first(
     s: &Sets,
     in_function: bool,
     d: u32,
-    first: Found,
-) -> Found
+    first: FirstRefusal,
+) -> FirstRefusal
     ensures { result ≡ statements_first (site_first s.now (program_of c.now) in_function d)
         (statements (map statement_of xs.now)) first }
 {
@@ -186,8 +186,8 @@ fn arms_first(
     s: &Sets,
     in_function: bool,
     d: u32,
-    first: Found,
-) -> Found
+    first: FirstRefusal,
+) -> FirstRefusal
     ensures { result ≡ arms_first (site_first s.now (program_of c.now) in_function d) (arms (map arm_of xs.now)) first }
 {
     let mut first = first;
@@ -205,8 +205,8 @@ fn form_first(
     s: &Sets,
     in_function: bool,
     d: u32,
-    first: Found,
-) -> Found
+    first: FirstRefusal,
+) -> FirstRefusal
     ensures { result ≡ statement_form_first (site_first s.now (program_of c.now) in_function d) at
         (statement_form_of x.now) first }
 {

@@ -9,7 +9,7 @@ use Rattle.sp_journal.specs.declared.version.Version.TheVariants as version
 use Rattle.sp_journal.specs.Births.{Births, first_births, births_after_entry, births_from, births, CanFollow}
 use Rattle.sp_journal.specs.Texts.{entry_text, entries_text, heading, journal_text, CanHold, AreHeld, IsTextOf}
 use Rattle.sp_journal.specs.Texts.{IsFirstBad, bad_heading, bad_entry}
-use Rattle.sp_journal.specs.Reading.{first_line}
+use Rattle.sp_journal.specs.ReadAnswers.{first_line}
 use Rattle.sp_journal.specs.Reader.{CanCome, IsEntryOfLine}
 use Rattle.sp_journal.specs.Begun.{IsTextOfRest, Begun}
 use Rattle.sp_journal.specs.Splits.{first_split, with_first}

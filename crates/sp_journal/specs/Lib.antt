@@ -6,6 +6,6 @@ pub mod Names
 pub mod Past
 pub mod Queue
 pub mod Reader
-pub mod Reading
+pub mod ReadAnswers
 pub mod Splits
 pub mod Texts

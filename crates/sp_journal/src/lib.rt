@@ -27,7 +27,7 @@
 //!   numbers below 4,294,967,296 are left for what it gives.
 //! - `specs/Births.antt` has numbers, births and names; `specs/Names.antt` names as definitions use them;
 //!   `specs/Past.antt` what each process knows, and ordered; `specs/Queue.antt` first in, first out;
-//!   `specs/Texts.antt` and `specs/Reading.antt` the text.
+//!   `specs/Texts.antt` and `specs/ReadAnswers.antt` the text.
 //! - `Ledger` keeps names in tables, so that printing and the reports find each in the time of its length and the
 //!   logarithm of the forks.
 //! - The reader finds an entry by the parts of its line and takes only what prints as it was read. So its parts may
@@ -47,21 +47,21 @@
 //!   it gives in `specs/Births.antt`; what it teaches in `specs/Past.antt`.
 #![tactic(auto)]
 
+mod byte_parts;
 mod entry;
 mod journal;
+mod journal_reader;
 mod law;
 mod ledger;
 mod outcome;
 mod print;
-mod read;
 mod reader;
-mod split;
 mod version;
 
+pub use byte_parts::{split_first, text_of};
 pub use entry::{Birth, Entry, Event, Journal, Note, Opening, Way};
+pub use journal_reader::{ReadError, read_journal};
 pub use law::one_journal_of_a_text;
 pub use ledger::Ledger;
 pub use outcome::{End, Verdict, Waiter};
 pub use print::print_journal;
-pub use read::{ReadError, read_journal};
-pub use split::{split_first, text_of};

@@ -14,9 +14,9 @@ ghost use Rattle.sp_journal.specs.Births.{channel, CanFollow, GivesNumbers};
 ghost use Rattle.sp_journal.specs.Texts.{entry_text, event_text};
 ghost use Rattle.sp_journal.specs.Reader.{IsReader, CanCome, IsEntryOfLine, births_read};
 
+use crate::byte_parts::{fault, number, split_first, split_last, text_of};
 use crate::entry::{Entry, Event, Journal};
 use crate::ledger::{Ledger, NUMBERS};
-use crate::split::{fault, number, split_first, split_last, text_of};
 use crate::version::Version;
 use sp_base::Memory;
 use std::alloc::Global;

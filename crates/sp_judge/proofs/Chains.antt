@@ -9,9 +9,9 @@ use Rattle.sp_journal.specs.Names.{Name, Channel, same_name, Happening, Opened, 
 use Rattle.sp_journal.specs.Names.{Paused, Occurrence}
 use Rattle.sp_journal.specs.Past.{Knowledge, learn, known_with, knowledge_after_offer, knowledge_after, no_knowledge}
 use Rattle.sp_journal.proofs.NameLaws.{name_is}
-use Rattle.sp_judge.proofs.Prefixing.{get_low, get_last, learn_all, teach_all, report_all, learn_more, teach_more}
-use Rattle.sp_judge.proofs.Prefixing.{report_more, at_channel}
-use Rattle.sp_race.specs.Known.{KnowsOffers}
+use Rattle.sp_judge.proofs.PrefixLaws.{get_low, get_last, learn_all, teach_all, report_all, learn_more, teach_more}
+use Rattle.sp_judge.proofs.PrefixLaws.{report_more, at_channel}
+use Rattle.sp_race.specs.OfferOrder.{KnowsOffers}
 use Rattle.sp_race.proofs.Completion.{Paired}
 
 abbrev pub OfferAt : List Occurrence → ℕ → Name → Way → Channel → Type 0

@@ -19,7 +19,7 @@ use Rattle.sp_judge.specs.Prefixes.{WaitersAreSilent, WaitersSilentFrom, WaitsFo
 use Rattle.sp_judge.specs.Counts.{clocks_after_entry, clocks_from, clocks_of}
 use Rattle.sp_judge.specs.JudgeTables.{entries_by_names}
 use Rattle.sp_judge.proofs.Numbers.{ExtendsBirths, stays, same_process}
-use Rattle.sp_judge.proofs.Standing.{Standing, standing_from, nothing_standing}
+use Rattle.sp_judge.proofs.EntryFacts.{EntryFacts, standing_from, nothing_standing}
 use Rattle.sp_journal.proofs.BirthLaws.{Lawful}
 
 judged_from_last : (j : Knowledge) (n : ℕ) (es : List Occurrence) (e : Occurrence)
@@ -198,7 +198,7 @@ module _ (all : List Entry) (nameable : NameableFrom first_births all)
   pub waits_not : WaitsForNone (knowledge_of past) next.who
   waits_not = let (waits, _) = silent_parts.1 in waits
 
-  pub stands : Standing (knowledge_of past) past (clocks_of past)
+  pub stands : EntryFacts (knowledge_of past) past (clocks_of past)
   stands = standing_from no_knowledge [] (λ p q. 0) past nothing_standing silent_parts.0
 
   pub births_more : births (take (at + 1) all) ≡ births_after_entry (births before) e

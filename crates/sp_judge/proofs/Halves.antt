@@ -8,7 +8,7 @@ use Rattle.sp_journal.specs.Names.{Occurrence}
 use Rattle.sp_journal.specs.Births.{Births, births}
 use Rattle.sp_journal.specs.Past.{knowledge_of}
 use Rattle.sp_journal.proofs.BirthLaws.{Lawful, lawful}
-use Rattle.sp_race.specs.Known.{AreKnown}
+use Rattle.sp_race.specs.OfferOrder.{AreKnown}
 use Rattle.sp_judge.specs.declared.clock.Clock.{Clock}
 use Rattle.sp_judge.specs.declared.judge_tables.JudgeTables.{JudgeTables}
 use Rattle.sp_judge.specs.Clocks.{count_of, number_at}

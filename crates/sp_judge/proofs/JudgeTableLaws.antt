@@ -26,7 +26,7 @@ use Rattle.sp_judge.specs.Counts.{clock_with_entry}
 use Rattle.sp_judge.specs.JudgeTables.{entries_by_names, IsWaitingOffer, OfferIn, IsLast, IsChannelOffers, TablesHold}
 use Rattle.sp_judge.proofs.Tallies.{index_or_not, made_last, take_low, take_all}
 use Rattle.sp_judge.proofs.TableLaws.{get_set}
-use Rattle.sp_judge.proofs.Standing.{Standing}
+use Rattle.sp_judge.proofs.EntryFacts.{EntryFacts}
 use Rattle.sp_judge.proofs.Numbers.{ExtendsBirths, same_process, shares_is, children_named}
 use Rattle.sp_judge.proofs.Fronts.{judged_last, counts_last, get_within, take_next, named_length}
 use Rattle.sp_judge.proofs.Fronts as front
@@ -107,7 +107,7 @@ module _ (all : List Entry) (nameable : NameableFrom first_births all)
   pub grown : entries_by_names s (take (at + 1) all) ≡ os ++ o ∷ []
   grown = front.grown all nameable silent lawful at e inside
 
-  pub stands : Standing (knowledge_of os) os (clocks_of os)
+  pub stands : EntryFacts (knowledge_of os) os (clocks_of os)
   stands = front.stands all nameable silent lawful at e inside
 
   pub its_made : number_at b.made.items p ≡ count_of_entries os (s.name p)

@@ -1,8 +1,8 @@
 pub mod Keys
-pub mod Prefixing
+pub mod PrefixLaws
 mod ClockLaws
 mod Tallies
-mod Standing
+mod EntryFacts
 mod Chains
 mod TableLaws
 pub mod Numbers
@@ -11,7 +11,7 @@ mod JudgeTableLaws
 mod OfferLaws
 mod VerdictLaws
 mod Steps
-mod Judging
+mod VerdictSteps
 mod Halves
 mod SilentWaiters
 mod RunVerdicts

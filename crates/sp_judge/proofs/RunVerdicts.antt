@@ -24,14 +24,15 @@ use Rattle.sp_meaning.specs.SuperPascal.{superpascal, root, first_store}
 use Rattle.sp_meaning.specs.Entries.{Happening, Opened, Forked, Offered, Faulted, Laid, Paused, Occurrence}
 use Rattle.sp_journal.specs.Names as happenings
 use Rattle.sp_meaning.specs.Runs.{StateOf, start, total_limits, running_process, next_state, happening_of, happening_at}
-use Rattle.sp_meaning.specs.Along.{Either, is_due_after, Turn, Course, no_course, with_fault, EntryStep, Along, IsAlong}
+use Rattle.sp_meaning.specs.Along.{Either, is_due_after, Turn, JournalState, before_entries, with_fault, EntryStep}
+use Rattle.sp_meaning.specs.Along.{Along, IsAlong}
 use Rattle.sp_meaning.specs.Along.{IsCleanly}
 use Rattle.sp_meaning.specs.Along.{IsClean}
 use Rattle.sp_meaning.specs.Ends.{IsDone, EndIs}
 use Rattle.sp_meaning.proofs.Status.{working_lives}
 use Rattle.sp_meaning.proofs.Parallel.{ancestors_live}
 use Rattle.sp_meaning.proofs.Sound.{step_sound}
-use Rattle.sp_meaning.proofs.Started.{disjoint}
+use Rattle.sp_meaning.proofs.RuleKeepers.{disjoint}
 use Rattle.sp_race.proofs.GoodSteps.{sound_opening}
 use Rattle.sp_race.proofs.Verdict.{each_ends_alike}
 use Rattle.sp_judge.specs.Races.{Race, IsLeastRace, IsFault, IsVerdict}
@@ -131,7 +132,7 @@ module _ (g : RunInput) where
       rest false y one later = later y
 
   -- after a fault: processes are laid, and nothing else happens
-  laid_on : (left : Course → StateOf g → ℕ → Type 0) (c : Course) (m : StateOf g) (paused : Bool) (q : Name)
+  laid_on : (left : JournalState → StateOf g → ℕ → Type 0) (c : JournalState) (m : StateOf g) (paused : Bool) (q : Name)
       (w : Happening) (r : ℕ) (A : Type 0) → c.faulted ≡ true → EntryStep g left c m paused q w r
       → (left (with_fault q c) m r → A) → A
   laid_on left c m paused q Opened r A f h go = absurd (not_true_and_false c.faulted f h.0)
@@ -142,7 +143,7 @@ module _ (g : RunInput) where
   laid_on left c m paused q Laid r A f h go = go h.1
   laid_on left c m paused q Paused r A f h go = absurd (not_true_and_false c.faulted f h.0)
 
-  along_broken : (turn : ℕ) (es : List Occurrence) (c : Course) (s : StateOf g) (r : ℕ) (t : StateOf g)
+  along_broken : (turn : ℕ) (es : List Occurrence) (c : JournalState) (s : StateOf g) (r : ℕ) (t : StateOf g)
       → c.faulted ≡ true → Along g turn c s es r t → Broken s → Broken t
   along_broken turn [] c s r t f a b = subst (λ (z : StateOf g). Broken z) (sym a.1) b
   along_broken turn (e ∷ es) c s r t f (_, steps, rest, between, paused, _, locals, enters) b =
@@ -152,16 +153,17 @@ module _ (g : RunInput) where
       (c.since e.who) e.who steps s between paused locals b))
 
   -- an entry before a fault, by what comes of the rest
-  module _ (left : Course → StateOf g → ℕ → Type 0) (c : Course) (m : StateOf g) (paused : Bool) (q : Name)
+  module _ (left : JournalState → StateOf g → ℕ → Type 0) (c : JournalState) (m : StateOf g) (paused : Bool) (q : Name)
       (es : List Occurrence) (t : StateOf g) (sound : Sound m) where
     abbrev Clean_or : Happening → Type 0
     Clean_or w = (IsCleanly w × IsClean es) ⊎ Broken t
 
     abbrev Rest : Type 0
-    Rest = (c1 : Course) (u : StateOf g) (d : ℕ) → c1.faulted ≡ false → Sound u → left c1 u d → IsClean es ⊎ Broken t
+    Rest = (c1 : JournalState) (u : StateOf g) (d : ℕ) → c1.faulted ≡ false → Sound u → left c1 u d
+        → IsClean es ⊎ Broken t
 
     abbrev Laid_rest : Type 0
-    Laid_rest = (c1 : Course) (u : StateOf g) (d : ℕ) → c1.faulted ≡ true → Broken u → left c1 u d → Broken t
+    Laid_rest = (c1 : JournalState) (u : StateOf g) (d : ℕ) → c1.faulted ≡ true → Broken u → left c1 u d → Broken t
 
     with_first : (w : Happening) → IsCleanly w → IsClean es ⊎ Broken t → Clean_or w
     with_first w ok (inl clean) = inl (ok, clean)
@@ -182,7 +184,7 @@ module _ (g : RunInput) where
     entered_clean Laid r f h go laid = absurd (not_true_and_false c.faulted h.0 f)
     entered_clean Paused r f h go laid = with_first Paused tt (go _ m r f sound h.2)
 
-  along_clean : (turn : ℕ) (es : List Occurrence) (c : Course) (s : StateOf g) (r : ℕ) (t : StateOf g)
+  along_clean : (turn : ℕ) (es : List Occurrence) (c : JournalState) (s : StateOf g) (r : ℕ) (t : StateOf g)
       → c.faulted ≡ false → Along g turn c s es r t → Sound s → IsClean es ⊎ Broken t
   along_clean turn [] c s r t f a sound = inl tt
   along_clean turn (e ∷ es) c s r t f (_, steps, rest, between, paused, _, locals, enters) sound =
@@ -198,7 +200,7 @@ module _ (g : RunInput) where
   ends_clean : (turn : ℕ) (es : List Occurrence) (n : ℕ) (t : StateOf g) → IsAlong g turn es n t → (Broken t → ⊥)
       → IsClean es
   ends_clean turn es n t along whole = ⊎_elim (λ (x : IsClean es). x) (λ (b : Broken t). absurd (whole b))
-      (along_clean turn es no_course (start g) n t refl along (sound_opening L (root g) (first_store g)))
+      (along_clean turn es before_entries (start g) n t refl along (sound_opening L (root g) (first_store g)))
 
   pub clean_with_end : (turn : ℕ) (es : List Occurrence) (n : ℕ) (t : StateOf g) (e : End)
       → IsAlong g turn es n t → EndIs g t e → (IsFault e → ⊥) → IsClean es

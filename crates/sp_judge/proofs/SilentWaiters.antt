@@ -19,7 +19,8 @@ use Rattle.sp_meaning.specs.SuperPascal.{superpascal, root, first_store}
 use Rattle.sp_meaning.specs.Entries.{Happening, Opened, Forked, Offered, Faulted, Laid, Paused, Occurrence}
 use Rattle.sp_journal.specs.Names as happenings
 use Rattle.sp_meaning.specs.Runs.{StateOf, start, total_limits, running_process, next_state, happening_of, happening_at}
-use Rattle.sp_meaning.specs.Along.{Either, is_due_after, Turn, Course, no_course, KernelStep, EntryStep, Along, IsAlong}
+use Rattle.sp_meaning.specs.Along.{Either, is_due_after, Turn, JournalState, before_entries, KernelStep, EntryStep}
+use Rattle.sp_meaning.specs.Along.{Along, IsAlong}
 use Rattle.sp_meaning.proofs.Frames.{IsOn, all_in, pending_frame}
 use Rattle.sp_meaning.proofs.Status.{waits_stands, working_stands}
 use Rattle.sp_meaning.proofs.Sound.{step_sound}
@@ -152,16 +153,18 @@ module _ (g : RunInput) where
   turn_runs turn since q zero s m paused (_, _, own, runs, _, _) = (own, runs)
   turn_runs turn since q (suc k) s m paused (own, runs, _, _, _, _) = (own, runs)
 
-  abbrev Goes_on : (Course → StateOf g → ℕ → Type 0) → Knowledge → Type 0 → Type 0
-  Goes_on left j A = (c : Course) (u : StateOf g) (r : ℕ) → left c u r → Matches u j → A
+  abbrev Goes_on : (JournalState → StateOf g → ℕ → Type 0) → Knowledge → Type 0 → Type 0
+  Goes_on left j A = (c : JournalState) (u : StateOf g) (r : ℕ) → left c u r → Matches u j → A
 
-  kernel_on : (left : Course → StateOf g → ℕ → Type 0) (c : Course) (m : StateOf g) (paused : Bool) (q : Name)
+  kernel_on : (left : JournalState → StateOf g → ℕ
+      → Type 0) (c : JournalState) (m : StateOf g) (paused : Bool) (q : Name)
       (w : Happening) (r : ℕ) (j : Knowledge) (n : ℕ) (A : Type 0) → KernelStep g left c m paused q w r → Matches m j
       → Goes_on left (knowledge_after j n q w) A → A
   kernel_on left c m paused q w r j n A (_, _, u, rest, _, (own, runs, says, goes), after) match go =
       go _ u rest after (stepped m j q n match own u (Some w) runs says goes)
 
-  entered_on : (left : Course → StateOf g → ℕ → Type 0) (c : Course) (m : StateOf g) (paused : Bool) (q : Name)
+  entered_on : (left : JournalState → StateOf g → ℕ
+      → Type 0) (c : JournalState) (m : StateOf g) (paused : Bool) (q : Name)
       (w : Happening) (r : ℕ) (j : Knowledge) (n : ℕ) (A : Type 0) → EntryStep g left c m paused q w r → Matches m j
       → Goes_on left (knowledge_after j n q w) A → A
   entered_on left c m paused q Opened r j n A h match go = kernel_on left c m paused q Opened r j n A h match go
@@ -175,7 +178,8 @@ module _ (g : RunInput) where
   entered_on left c m paused q Laid r j n A h match go = go _ m r h.1 match
   entered_on left c m paused q Paused r j n A h match go = go _ m r h.2 match
 
-  along_silent : (turn : ℕ) (es : List Occurrence) (c : Course) (s : StateOf g) (r : ℕ) (t : StateOf g) (j : Knowledge)
+  along_silent : (turn : ℕ) (es : List Occurrence) (c : JournalState) (s : StateOf g) (r : ℕ) (t : StateOf g)
+      (j : Knowledge)
       (n : ℕ) → Along g turn c s es r t → Matches s j → WaitersSilentFrom j n es
   along_silent turn [] c s r t j n a match = tt
   along_silent turn (e ∷ es) c s r t j n (_, steps, rest, between, paused, _, locals, enters) match =
@@ -193,4 +197,5 @@ module _ (g : RunInput) where
 
   pub waiters_are_silent : (turn : ℕ) (es : List Occurrence) (n : ℕ) (t : StateOf g) → IsAlong g turn es n t
       → WaitersAreSilent es
-  waiters_are_silent turn es n t along = along_silent turn es no_course (start g) n t no_knowledge 0 along matches_start
+  waiters_are_silent turn es n t along = along_silent turn es before_entries
+      (start g) n t no_knowledge 0 along matches_start

@@ -16,7 +16,7 @@ use Rattle.sp_journal.specs.Births.{Births, births, channel, births_after_event,
 use Rattle.sp_journal.specs.Past.{knowledge_of, knowledge_after}
 use Rattle.sp_journal.proofs.BirthLaws.{Lawful, lawful, parent_older}
 use Rattle.sp_judge.specs.Prefixes.{is_counted}
-use Rattle.sp_race.specs.Known.{KnowsOffers, AreKnown}
+use Rattle.sp_race.specs.OfferOrder.{KnowsOffers, AreKnown}
 use Rattle.sp_judge.specs.declared.clock.Clock.{Clock}
 use Rattle.sp_judge.specs.declared.judge_tables.Offer.{Offer}
 use Rattle.sp_judge.specs.declared.judge_tables.ChannelOffers.{ChannelOffers}

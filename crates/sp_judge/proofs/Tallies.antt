@@ -16,7 +16,7 @@ use Rattle.sp_judge.specs.Counts.{count_of_entries, PlaceOf, with_clock, with_me
 use Rattle.sp_judge.specs.Counts.{with_parent_merged, clock_with_entry, clock_of_waiter, merged_clock}
 use Rattle.sp_judge.specs.Counts.{clocks_after_offer}
 use Rattle.sp_judge.specs.Counts.{clocks_after_entry}
-use Rattle.sp_judge.proofs.Prefixing.{PrefixesAreKnown, get_low, get_last, pair_second}
+use Rattle.sp_judge.proofs.PrefixLaws.{PrefixesAreKnown, get_low, get_last, pair_second}
 
 -- counts that say which of these entries are known
 pub record CountsTellKnown (es : List Occurrence) (f : ℕ → Bool) (g : Name → ℕ) : Type 0 where

@@ -16,7 +16,7 @@ use Rattle.sp_journal.specs.Births.{occurrence}
 use Rattle.sp_journal.specs.Past.{Knowledge, knowledge_of, knowledge_after, knowledge_from, no_knowledge}
 use Rattle.sp_journal.proofs.BirthLaws.{Lawful}
 use Rattle.sp_judge.specs.Prefixes.{WaitersAreSilent}
-use Rattle.sp_race.specs.Known.{KnowsOffers, KnownFrom, AreKnown}
+use Rattle.sp_race.specs.OfferOrder.{KnowsOffers, KnownFrom, AreKnown}
 use Rattle.sp_race.proofs.Completion.{Paired, judged_paired, nothing_paired}
 use Rattle.sp_judge.specs.declared.judge_tables.Offer.{Offer}
 use Rattle.sp_judge.specs.declared.judge_tables.JudgeTables.{JudgeTables}
@@ -25,7 +25,7 @@ use Rattle.sp_judge.specs.Counts.{count_of_entries, clocks_of}
 use Rattle.sp_judge.specs.JudgeTables.{entries_by_names, OfferIn, IsLast, TablesHold, offer_event, IsLastOffer}
 use Rattle.sp_judge.specs.JudgeTables.{IsUnknown, IsFirstUnknown}
 use Rattle.sp_judge.specs.Races.{KnowsCompletion, Race, IsLeastRace}
-use Rattle.sp_judge.proofs.Standing.{Standing, size_more}
+use Rattle.sp_judge.proofs.EntryFacts.{EntryFacts, size_more}
 use Rattle.sp_judge.proofs.Chains.{Chains, chains_more, nothing_chained, knows_by_last, channel_of, way_of}
 use Rattle.sp_judge.proofs.Numbers.{one_channel}
 use Rattle.sp_judge.proofs.Fronts.{get_within, named_get}
@@ -143,7 +143,7 @@ module _ (all : List Entry) (nameable : NameableFrom first_births all)
     abbrev os : List Occurrence
     os = entries_by_names s (take at all)
 
-    stands : Standing (knowledge_of os) os (clocks_of os)
+    stands : EntryFacts (knowledge_of os) os (clocks_of os)
     stands = front.stands all nameable silent lawful at e inside
 
     front_is : take at (entries_by_names s all) ≡ os
@@ -359,9 +359,9 @@ module _ (all : List Entry) (nameable : NameableFrom first_births all)
                   knows in
                   let is_front : entries_by_names s (take n all) ≡ take n (entries_by_names s all) =
                   named_take s all n in
-                  let st : Standing (knowledge_of (take n (entries_by_names s all))) (take n (entries_by_names s all))
+                  let st : EntryFacts (knowledge_of (take n (entries_by_names s all))) (take n (entries_by_names s all))
                   (clocks_of (take n (entries_by_names s all))) =
-                  subst (λ xs. Standing (knowledge_of xs) xs (clocks_of xs)) is_front
+                  subst (λ xs. EntryFacts (knowledge_of xs) xs (clocks_of xs)) is_front
                   (front.stands all nameable silent lawful n later.0 later.1) in
                   let o : slice_get (take n (entries_by_names s all)) m
                   ≡ Some (record { who = r.first; what = Offered v d }) =

@@ -11,7 +11,7 @@ use Rattle.sp_journal.specs.Names.{Name, Channel, Offered, Occurrence}
 use Rattle.sp_journal.specs.Births.{Births, first_births, births, channel, happening, occurrence, NameableFrom}
 use Rattle.sp_judge.specs.Prefixes.{WaitersAreSilent}
 use Rattle.sp_journal.specs.Past.{knowledge_of}
-use Rattle.sp_race.specs.Known.{KnowsOffers}
+use Rattle.sp_race.specs.OfferOrder.{KnowsOffers}
 use Rattle.sp_judge.specs.declared.judge_tables.Offer.{Offer}
 use Rattle.sp_judge.specs.declared.judge_tables.RacingOffer.{RacingOffer}
 use Rattle.sp_judge.specs.declared.judge_tables.ChannelOffers.{ChannelOffers}

@@ -20,13 +20,13 @@
 //!
 //! To know:
 //! - Fork, open, send, receive and end are counted; a fault, a laid process and a pause are not
-//!   (`specs/Prefixes.antt`). `proofs/Prefixing.antt` keeps `knows_prefixes` from entry to entry.
+//!   (`specs/Prefixes.antt`). `proofs/PrefixLaws.antt` keeps `knows_prefixes` from entry to entry.
 //! - The tables (`src/judge_tables.rt`) have a clock and a count of counted entries for each process, a line for each
 //!   channel (the offer that waits, the last offer of each way) and a place for each entry.
 //! - An offer is in order exactly where its process knows the last earlier offer of its way on its channel: while all
 //!   was in order, who knows an offer knows all earlier ones of its way there (`proofs/Chains.antt`). So one look-up
 //!   decides an entry.
-//! - `src/knowing.rt` says which counts are asked for, and seeks the first unknown offer once, when a race is found.
+//! - `src/knowledge.rt` says which counts are asked for, and seeks the first unknown offer once, when a race is found.
 //!   Clocks keep no other counts; `docs/MEANING.md` says when they are large.
 //! - `verdict_of` asks of a journal that it is nameable and that no process makes an entry while its own offer waits.
 //!   Every run's journal keeps the second, since a process that waits makes no step.
@@ -35,12 +35,12 @@
 //!
 //! Lemmas for others, in `proofs`:
 //! - `Keys`: the tests of names and channels, as equalities.
-//! - `Prefixing`: what a process knows is closed under earlier entries: the law kept from entry to entry.
+//! - `PrefixLaws`: what a process knows is closed under earlier entries: the law kept from entry to entry.
 //! - `Numbers`: from the numbers of a nameable journal to the names that its entries give in the end.
 //! - `Fronts`: what is judged of the front of a journal and of one more entry.
 //!
 //! To change:
-//! - What an entry teaches: `sp_journal`'s `specs/Past.antt`, and `one_entry` in `proofs/Prefixing.antt`.
+//! - What an entry teaches: `sp_journal`'s `specs/Past.antt`, and `one_entry` in `proofs/PrefixLaws.antt`.
 //! - A clock: `src/clock.rt`.
 //! - The work of an entry: `src/judge_tables.rt`.
 //! - The verdict: `specs/Races.antt`, `src/verdict.rt`.
@@ -49,7 +49,7 @@
 mod clock;
 mod have;
 mod judge_tables;
-mod knowing;
+mod knowledge;
 mod laws;
 mod table;
 mod verdict;

@@ -4,13 +4,13 @@ ghost use Rattle.std.specs.Prelude.{◌≡◌, ◌<◌, ◌↔◌, Some, IsTrue,
 ghost use Rattle.sp_journal.specs.Births.{births, occurrences, IsNameable};
 ghost use Rattle.sp_journal.specs.Ledger.{IsLedger};
 ghost use Rattle.sp_judge.specs.Prefixes.{WaitersAreSilent};
-ghost use Rattle.sp_race.specs.Known.{AreKnown};
+ghost use Rattle.sp_race.specs.OfferOrder.{AreKnown};
 ghost use Rattle.sp_judge.specs.JudgeTables.{entries_by_names, offer_event, IsNameableAndSilent, TablesHold, IsRacing};
 ghost use Rattle.sp_judge.specs.Races.{IsFault, IsJudged, IsVerdict};
 
 use crate::have;
 use crate::judge_tables::{JudgeTables, RacingOffer};
-use crate::knowing::{first_unknown, knows_offers, questions};
+use crate::knowledge::{first_unknown, knows_offers, questions};
 use sp_base::Memory;
 use sp_journal::{End, Entry, Event, Journal, Ledger, Verdict, Way};
 use std::alloc::Global;

@@ -12,21 +12,21 @@ use Rattle.sp_journal.specs.Births.{NameableFrom}
 use Rattle.sp_journal.proofs.BirthLaws.{processes_grow}
 use Rattle.sp_code.specs.Control.{entries_of}
 use Rattle.sp_code.specs.System.{System}
-use Rattle.sp_history.specs.Holding.{IsOutputOf}
-use Rattle.sp_history.proofs.Speaking.{system_spoken}
-use Rattle.sp_history.proofs.Naming.{system_nameable}
+use Rattle.sp_history.specs.OutputHolder.{IsOutputOf}
+use Rattle.sp_history.proofs.KnownChannels.{system_spoken}
+use Rattle.sp_history.proofs.NameableRuns.{system_nameable}
 use Rattle.sp_history.proofs.Holders.{one_holder}
 use Rattle.sp_room.specs.History.{LeadsTo}
 use Rattle.sp_kernel.specs.declared.kernel.Kernel.{Kernel}
 use Rattle.sp_kernel.specs.Kernels.{system_of, code_run_of}
 use Rattle.sp_kernel.specs.Faults.{fault_in, fault_by}
 use Rattle.sp_kernel.specs.Asks.{IsOpening, KernelSteps}
-use Rattle.sp_kernel.specs.Keeping.{from_start, after_log, along}
+use Rattle.sp_kernel.specs.KernelLaws.{from_start, after_log, along}
 use Rattle.sp_kernel.specs.Closes.{RanFrom, IsNameableKernel, or_empty}
 use Rattle.sp_kernel.specs.Outputs.{first_output}
-use Rattle.sp_kernel.proofs.Faulting.{fault_told}
-use Rattle.sp_kernel.proofs.Closing.{AllHere, all_here}
-use Rattle.sp_kernel.proofs.Writing.{written_is, writes_store, none_writes}
+use Rattle.sp_kernel.proofs.FaultEntries.{fault_told}
+use Rattle.sp_kernel.proofs.RunEnds.{AllHere, all_here}
+use Rattle.sp_kernel.proofs.FoundOutputs.{written_is, writes_store, none_writes}
 
 pub named : (x : Kernel) (fine : IsOpening x) (log : List Note) (y : Kernel) → LeadsTo KernelSteps x log y
     → IsNameableKernel y

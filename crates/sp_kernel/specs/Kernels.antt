@@ -1,6 +1,7 @@
 -- None of this belongs to what the program promises: it is for contracts between crates.
 -- The kernel in memory as the definitions see it: the control and the system that its slots, queue and journal stand
--- for, its invariant, and what each call does (`FitsCells`, `Gave`, `Abandons`). All contracts of the kernel cite it.
+-- for, its invariant, and what each call does (`FitsCells`, `IsAfterGive`, `Abandons`). All contracts of the kernel
+-- cite it.
 use Rattle.std.specs.Prelude.{◌≡◌, ℕ, ◌+◌, ◌-◌, List, [], ◌∷◌, ◌++◌, length, Option, Some, None, Bool, slice_get}
 use Rattle.std.specs.Prelude.{slice_set, nat_lt, ◌||◌}
 use Rattle.std.specs.Option.{option_map}
@@ -180,7 +181,7 @@ kernel_after_pause q p x = record (kernel_after_give q event.Pause (slot.Here p 
 }
 
 -- the event of what was handed in was done
-pub record Gave (x : Kernel) (p : ℕ) (h : Handed) (y : Kernel) : Type 0 where
+pub record IsAfterGive (x : Kernel) (p : ℕ) (h : Handed) (y : Kernel) : Type 0 where
   pub control : control_of y ≡ comes_back p (event_of x.limits (system_of x) (turn_of h)) (control_of x)
   pub system : system_of y ≡ system_after_turn plain (code_run_of x) p (turn_of h) (system_of x)
   pub code_run : (y.code ≡ x.code) × (y.limits ≡ x.limits) × (y.root ≡ x.root)

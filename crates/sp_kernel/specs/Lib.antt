@@ -9,7 +9,7 @@ pub mod Seats
 pub mod Forks
 pub mod Fits
 pub mod Asks
-pub mod Keeping
+pub mod KernelLaws
 pub mod Faults
 pub mod FirstFaults
 pub mod Outputs

@@ -8,7 +8,7 @@ ghost use Rattle.sp_journal.specs.Ledger.{IsLedger};
 ghost use Rattle.sp_kernel.specs.declared.slot.Slot.{Slot};
 ghost use Rattle.sp_code.specs.Control.{standing, IsDeadlock, IsFault, entries_of};
 ghost use Rattle.sp_history.specs.Agreement.{phase_in, Running};
-ghost use Rattle.sp_history.specs.Holding.{IsOutputOf};
+ghost use Rattle.sp_history.specs.OutputHolder.{IsOutputOf};
 ghost use Rattle.sp_room.specs.Ends.{object_of, notes_of};
 ghost use Rattle.sp_kernel.specs.Faults.{fault_in};
 ghost use Rattle.sp_kernel.specs.FirstFaults.{first_fault as first_fault_entry, first_fault_end as end_of_first_fault};

@@ -5,7 +5,7 @@ ghost use Rattle.sp_journal.specs.declared.entry.Event.TheVariants as event;
 ghost use Rattle.sp_kernel.specs.declared.slot.Slot.TheVariants as slot;
 ghost use Rattle.sp_kernel.specs.declared.slot.State.TheVariants as st;
 ghost use Rattle.sp_machine.specs.declared.state.Stop.TheVariants as stop;
-ghost use Rattle.sp_kernel.specs.Kernels.{IsKernel, Gave, kernel_after_give, parent_in};
+ghost use Rattle.sp_kernel.specs.Kernels.{IsKernel, IsAfterGive, kernel_after_give, parent_in};
 ghost use Rattle.sp_kernel.specs.Fits.{FitsHanded};
 ghost use Rattle.sp_kernel.specs.Ends.{left_in, one_fewer, noted_end, ends_child, IsJoiner, JoinedSlot};
 ghost use Rattle.sp_kernel.specs.Procs.{EntersAs};
@@ -125,7 +125,7 @@ impl Kernel {
         requires whole { IsKernel self.old }
         requires no_fault { self.old.faulted ≡ false }
         requires fits { FitsHanded self.old _worker (record { proc = proc; stop = stop.End }) }
-        ensures ok { OnOk result (Gave self.old proc.number (record { proc = proc; stop = stop.End }) self.new) }
+        ensures ok { OnOk result (IsAfterGive self.old proc.number (record { proc = proc; stop = stop.End }) self.new) }
         ensures err { OnErr result (self.new ≡ self.old) }
         ensures returned { IfErr result (λ h. h ≡ record { proc = proc; stop = stop.End }) }
     {

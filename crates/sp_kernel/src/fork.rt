@@ -4,7 +4,7 @@ ghost use Rattle.std.specs.Prelude.{ℕ, ◌≡◌, ◌+◌, ◌<◌, true, fals
 ghost use Rattle.sp_code.specs.Sound.{HasDistinctBlocks, CanSplit};
 ghost use Rattle.sp_machine.specs.Procs.{IsAtFork};
 ghost use Rattle.sp_machine.specs.Children.{plan_by};
-ghost use Rattle.sp_kernel.specs.Kernels.{IsKernel, Gave};
+ghost use Rattle.sp_kernel.specs.Kernels.{IsKernel, IsAfterGive};
 ghost use Rattle.sp_kernel.specs.Fits.{FitsHanded};
 ghost use Rattle.sp_kernel.specs.Forks.{with_room_for, exceeds, HasForked, IsForkOf};
 ghost use Rattle.sp_kernel.specs.declared.kernel.Kernel.{Kernel};
@@ -114,7 +114,7 @@ impl Kernel {
         requires no_fault { self.old.faulted ≡ false }
         requires forks { IsForkOf stop count }
         requires fits { FitsHanded self.old _worker (record { proc = proc; stop = stop }) }
-        ensures ok { OnOk result (Gave self.old proc.number (record { proc = proc; stop = stop }) self.new) }
+        ensures ok { OnOk result (IsAfterGive self.old proc.number (record { proc = proc; stop = stop }) self.new) }
         ensures err { OnErr result (self.new ≡ self.old) }
         ensures returned { IfErr result (λ h. h ≡ record { proc = proc; stop = stop }) }
     {

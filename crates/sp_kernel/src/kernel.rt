@@ -10,10 +10,10 @@ ghost use Rattle.sp_code.specs.Sound.{IsSound, AreLimits, run_of};
 ghost use Rattle.sp_machine.specs.Procs.{config_of, start_of};
 ghost use Rattle.sp_kernel.specs.Kernels.{with_entry, kernel_after_give, kernel_after_pause, with_process_out};
 ghost use Rattle.sp_kernel.specs.Kernels.{kernel_after_loss, doing_in, condition_in, IsReady};
-ghost use Rattle.sp_kernel.specs.Kernels.{IsKernel, Gave, Takes, is_over, control_of, system_of};
+ghost use Rattle.sp_kernel.specs.Kernels.{IsKernel, IsAfterGive, Takes, is_over, control_of, system_of};
 ghost use Rattle.sp_kernel.specs.Kernels.{code_run_of, stands_as};
 ghost use Rattle.sp_kernel.specs.Kernels.{Abandons};
-ghost use Rattle.sp_lines.specs.Telling.{sent_by};
+ghost use Rattle.sp_lines.specs.EntryPlaces.{sent_by};
 ghost use Rattle.sp_kernel.specs.Views.{IsSeen, IsUnseen};
 ghost use Rattle.sp_code.specs.System.{pending_stop};
 ghost use Rattle.std.specs.Prelude.{MatchOption};
@@ -220,7 +220,7 @@ impl Kernel {
     pub fn give(&mut self, worker: u32, handed: Handed) -> Result<(), Handed>
         requires whole { IsKernel self.old }
         requires fits { FitsHanded self.old worker handed }
-        ensures ok { OnOk result (Gave self.old handed.proc.number handed self.new) }
+        ensures ok { OnOk result (IsAfterGive self.old handed.proc.number handed self.new) }
         ensures err { OnErr result (self.new ≡ self.old) }
         ensures returned { IfErr result (λ h. h ≡ handed) }
     {
@@ -376,7 +376,8 @@ impl Kernel {
         requires whole { IsKernel self.old }
         requires no_fault { self.old.faulted ≡ false }
         requires fits { FitsHanded self.old _worker (record { proc = proc; stop = stop.Pause }) }
-        ensures ok { OnOk result (Gave self.old proc.number (record { proc = proc; stop = stop.Pause }) self.new) }
+        ensures ok { OnOk result (IsAfterGive self.old proc.number (record { proc = proc; stop = stop.Pause })
+            self.new) }
         ensures err { OnErr result (self.new ≡ self.old) }
         ensures returned { IfErr result (λ h. h ≡ record { proc = proc; stop = stop.Pause }) }
     {

@@ -6,7 +6,7 @@
 //! - `Kernel::take`: the process at the front of the queue goes out with the worker, in the state that the system has
 //!   for it; none exactly where none is ready or the run does not stand as running, and then nothing changes.
 //! - `Kernel::give`: does exactly the one event that the definitions give for what is handed in, and appends its entry
-//!   (`Gave`). Where memory is refused nothing has changed, and what was handed in comes back.
+//!   (`IsAfterGive`). Where memory is refused nothing has changed, and what was handed in comes back.
 //! - `Kernel::abandon`: counts that a worker gave up, and the process that it had, if any, is out no more (`Abandons`).
 //! - `Kernel::standing`, `out`, `journal`, `gave_up`, `newest`: how the run stands, how many processes are out, the
 //!   journal, whether a worker gave up, and the event of the last entry.
@@ -28,12 +28,12 @@
 //!   `src/serve.rt` is the room's trait, `src/closed.rt` the end of a run.
 //! - Contracts see a kernel as the control and the system of `sp_code` (`specs/Kernels.antt`), and say by these what
 //!   each call does.
-//! - What an event does to the record stands in `specs/`. `proofs/Sending`, `Receiving`, `Opening`, `Forking` and
-//!   `Joining` lead from there to `Gave`.
+//! - What an event does to the record stands in `specs/`. `proofs/SendEvents`, `ReceiveEvents`, `OpenEvents`,
+//!   `ForkEvents` and `EndEvents` lead from there to `IsAfterGive`.
 //! - `give` asks that the process is out with the worker, that it was run by one turn from the state that the system
 //!   has for it, and that all is well with its event (`FitsHanded`). A caller has this from the notes so far:
 //!   `fits_now` of
-//!   `specs/Keeping.antt`.
+//!   `specs/KernelLaws.antt`.
 //! - `end` asks that the journal is nameable, that a fault stands exactly where the journal has its entry, and that
 //!   offers speak of channels that are there (`IsNameableKernel`). After every legal history this is so: `named` of
 //!   `proofs/Ending.antt`.
@@ -46,11 +46,11 @@
 //!
 //! Lemmas for others, in `proofs`:
 //! - `Tables`: tables by numbers: what one write changes.
-//! - `Serving`: each call of the kernel that leaves a note is a step of the control and the system of the
+//! - `NoteSteps`: each call of the kernel that leaves a note is a step of the control and the system of the
 //!   definitions (`LeavesNote`).
-//! - `Crossing`: the kernel, a seat of its room and the room may go to another thread.
-//! - `Closing`: what stands once a run is over: no process is out, and where no worker gave up none is gone.
-//! - `Writing`: the output that is found in the slots is that of a process which is neither out nor gone.
+//! - `ThreadBounds`: the kernel, a seat of its room and the room may go to another thread.
+//! - `RunEnds`: what stands once a run is over: no process is out, and where no worker gave up none is gone.
+//! - `FoundOutputs`: the output that is found in the slots is that of a process which is neither out nor gone.
 //! - `Ending`: the end of a run: what its journal names is there, and one process holds its output.
 //!
 //! To change:

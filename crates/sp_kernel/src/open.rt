@@ -3,7 +3,7 @@
 ghost use Rattle.std.specs.Prelude.{◌≡◌, ◌+◌, ◌<◌, false, [], ◌∷◌, length, OnOk, OnErr, IfErr};
 ghost use Rattle.sp_cell.specs.declared.cell.Cell.TheVariants as cell;
 ghost use Rattle.sp_machine.specs.declared.state.Stop.TheVariants as stop;
-ghost use Rattle.sp_kernel.specs.Kernels.{IsKernel, Gave};
+ghost use Rattle.sp_kernel.specs.Kernels.{IsKernel, IsAfterGive};
 ghost use Rattle.sp_kernel.specs.Fits.{FitsHanded};
 ghost use Rattle.sp_kernel.specs.ListEnds.{without_last};
 ghost use Rattle.sp_kernel.specs.Opens.{kernel_after_open, EntersAt};
@@ -64,7 +64,8 @@ impl Kernel {
         requires whole { IsKernel self.old }
         requires no_fault { self.old.faulted ≡ false }
         requires fits { FitsHanded self.old _worker (record { proc = proc; stop = stop.Open }) }
-        ensures ok { OnOk result (Gave self.old proc.number (record { proc = proc; stop = stop.Open }) self.new) }
+        ensures ok { OnOk result (IsAfterGive self.old proc.number (record { proc = proc; stop = stop.Open })
+            self.new) }
         ensures err { OnErr result (self.new ≡ self.old) }
         ensures returned { IfErr result (λ h. h ≡ record { proc = proc; stop = stop.Open }) }
     {

@@ -6,7 +6,7 @@ ghost use Rattle.sp_journal.specs.declared.entry.Way.TheVariants as way;
 ghost use Rattle.sp_kernel.specs.declared.slot.Slot.TheVariants as slot;
 ghost use Rattle.sp_kernel.specs.declared.slot.State.TheVariants as st;
 ghost use Rattle.sp_machine.specs.declared.state.Stop.TheVariants as stop;
-ghost use Rattle.sp_kernel.specs.Kernels.{IsKernel, Gave, with_slot};
+ghost use Rattle.sp_kernel.specs.Kernels.{IsKernel, IsAfterGive, with_slot};
 ghost use Rattle.sp_kernel.specs.Fits.{FitsHanded};
 ghost use Rattle.sp_kernel.specs.Sends.{waits_to_send, IsReceiver, Receives, HasSent};
 ghost use Rattle.sp_kernel.specs.Procs.{EntersAs};
@@ -111,7 +111,7 @@ impl Kernel {
         requires whole { IsKernel self.old }
         requires no_fault { self.old.faulted ≡ false }
         requires fits { FitsHanded self.old _worker (record { proc = proc; stop = stop.Send channel message cells }) }
-        ensures ok { OnOk result (Gave self.old proc.number
+        ensures ok { OnOk result (IsAfterGive self.old proc.number
             (record { proc = proc; stop = stop.Send channel message cells }) self.new) }
         ensures err { OnErr result (self.new ≡ self.old) }
         ensures returned { IfErr result (λ h. h ≡ record { proc = proc; stop = stop.Send channel message cells }) }

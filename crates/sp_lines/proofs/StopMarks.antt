@@ -29,11 +29,11 @@ use Rattle.sp_code.specs.declared.instr.Instr.TheVariants as i
 use Rattle.sp_code.specs.Scopes.{Sort, Ordinals, Channels, Many, NoSort, Scope, OfIndex, is_given, kind_at, sort}
 use Rattle.sp_code.specs.Scopes.{sort_by, size, slot, field_type, element_type, type_by, type_of, scopes_of, kind_of}
 use Rattle.sp_code.specs.Places.{after_value, after_tests, after_statement, after_arms, after_block}
-use Rattle.sp_code.specs.Emitted.{unary_code, binary_instr, standard_code, input_instr, read_instr, index_instr}
-use Rattle.sp_code.specs.Emitted.{write_instr, reading_instr, assign_instr, addr_by, addr_of, call_instr}
-use Rattle.sp_code.specs.Emitted.{test_code, tests_code, tables_in, texts_in, end_instr, field_instr, value_code}
-use Rattle.sp_code.specs.Emitted.{form_code, var_code, selectors_code, actuals_code, width_code, right_code, code}
-use Rattle.sp_code.specs.Emitted.{code_all, code_children, code_arms, block_code, blocks_code}
+use Rattle.sp_code.specs.TreeCode.{unary_code, binary_instr, standard_code, input_instr, read_instr, index_instr}
+use Rattle.sp_code.specs.TreeCode.{write_instr, reading_instr, assign_instr, addr_by, addr_of, call_instr}
+use Rattle.sp_code.specs.TreeCode.{test_code, tests_code, tables_in, texts_in, end_instr, field_instr, value_code}
+use Rattle.sp_code.specs.TreeCode.{form_code, var_code, selectors_code, actuals_code, width_code, right_code, code}
+use Rattle.sp_code.specs.TreeCode.{code_all, code_children, code_arms, block_code, blocks_code}
 use Rattle.sp_lines.specs.declared.mark.Mark.{Mark}
 use Rattle.sp_lines.specs.Marks.{mark, own, unary_marks, standard_marks, begins, is_many, value_marks, form_marks}
 use Rattle.sp_lines.specs.Marks.{variable_marks, selectors_marks, actuals_marks, width_marks}

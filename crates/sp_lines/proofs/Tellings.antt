@@ -8,10 +8,10 @@ use Rattle.sp_code.specs.Memory.{CodeRun, Memory, memory}
 use Rattle.sp_code.specs.PlainStore.{plain}
 use Rattle.sp_code.specs.System.{System, Condition, Working, EntriesLead, EntryLeads}
 use Rattle.sp_code.specs.Turns.{Turn, IsTurn}
-use Rattle.sp_code.proofs.Turning.{turn_same}
+use Rattle.sp_code.proofs.OneTurn.{turn_same}
 use Rattle.sp_code.proofs.Systems.{enters_same}
-use Rattle.sp_lines.specs.declared.told.Told.{Told}
-use Rattle.sp_lines.specs.Telling.{told_of, EntryTells, EntriesTell}
+use Rattle.sp_lines.specs.declared.entry_place.Told.{Told}
+use Rattle.sp_lines.specs.EntryPlaces.{told_of, EntryTells, EntriesTell}
 
 module _ (g : CodeRun) where
   pub told : (es : List Entry) (s t : System Plain) → EntriesLead plain g s es t

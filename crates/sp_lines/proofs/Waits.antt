@@ -15,7 +15,7 @@ use Rattle.sp_journal.specs.declared.entry.Entry.{Entry}
 use Rattle.sp_journal.specs.declared.entry.Birth.{Birth}
 use Rattle.sp_journal.specs.Births.{is_next}
 use Rattle.sp_journal.specs.Maps.{at_key}
-use Rattle.sp_code.specs.Emitted.{program_code}
+use Rattle.sp_code.specs.TreeCode.{program_code}
 use Rattle.sp_code.specs.Machine.{Stop, Forks, Opens, Sends, Receives, Ends, Pauses, Config}
 use Rattle.sp_code.specs.Memory.{CodeRun, Memory, memory}
 use Rattle.sp_code.specs.PlainStore.{plain as stores}
@@ -26,10 +26,10 @@ use Rattle.sp_code.specs.System.{opening_system}
 use Rattle.sp_code.specs.Turns.{Turn, Stopped, Faulted, IsTurn}
 use Rattle.sp_lines.specs.AtTurn.{at_turn}
 use Rattle.sp_lines.specs.Kinds.{HasStatement}
-use Rattle.sp_lines.specs.declared.told.Told.{Told}
-use Rattle.sp_lines.specs.Telling.{EntryTells, EntriesTell, lasts_after}
-use Rattle.sp_lines.specs.Waiting.{IsShown}
-use Rattle.sp_lines.proofs.Shown.{by_stop, stands}
+use Rattle.sp_lines.specs.declared.entry_place.Told.{Told}
+use Rattle.sp_lines.specs.EntryPlaces.{EntryTells, EntriesTell, lasts_after}
+use Rattle.sp_lines.specs.WaitPlaces.{IsShown}
+use Rattle.sp_lines.proofs.EntryStatements.{by_stop, stands}
 
 module _ (p : Program) where
   -- each process is shown well

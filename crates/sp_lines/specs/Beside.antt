@@ -10,7 +10,7 @@ use Rattle.sp_tree.specs.Plain.{Program}
 use Rattle.sp_tree.specs.Bare.{bare_statement}
 use Rattle.sp_code.specs.declared.instr.Instr.{Instr}
 use Rattle.sp_code.specs.Scopes.{Scope}
-use Rattle.sp_code.specs.Emitted as emitted
+use Rattle.sp_code.specs.TreeCode as emitted
 use Rattle.sp_lines.specs.declared.mark.Mark.{Mark}
 use Rattle.sp_lines.specs.Marks.{statement_marks}
 

@@ -12,16 +12,16 @@ ghost use Rattle.sp_code.specs.Memory.{CodeRun, Memory, memory};
 ghost use Rattle.sp_code.specs.PlainStore.{plain as plain_store};
 ghost use Rattle.sp_code.specs.Turns.{Turn, Faulted, Stopped, IsTurn, frames_fit};
 ghost use Rattle.sp_code.specs.Scopes.{Scope};
-ghost use Rattle.sp_code.specs.Emitted.{value_code, code, program_code};
+ghost use Rattle.sp_code.specs.TreeCode.{value_code, code, program_code};
 ghost use Rattle.sp_lines.specs.Marks.{marks, value_marks, statement_marks};
 ghost use Rattle.sp_lines.specs.Beside.{IsIn, HasBeside};
 ghost use Rattle.sp_lines.specs.AtTurn.{at_turn, StopStands};
 ghost use Rattle.sp_journal.specs.declared.entry.Entry.{Entry};
 ghost use Rattle.sp_code.specs.System.{System, Working, EntryLeads, IsSystem};
 ghost use Rattle.sp_journal.specs.declared.entry.Event.{Event};
-ghost use Rattle.sp_lines.specs.Telling.{EntryTells, IsTold, lasts_after, told_of};
-ghost use Rattle.sp_lines.specs.declared.told.Told.{Told};
-ghost use Rattle.sp_lines.specs.Waiting.{IsShown};
+ghost use Rattle.sp_lines.specs.EntryPlaces.{EntryTells, DescribesEntries, lasts_after, told_of};
+ghost use Rattle.sp_lines.specs.declared.entry_place.Told.{Told};
+ghost use Rattle.sp_lines.specs.WaitPlaces.{IsShown};
 ghost use Rattle.sp_lines.specs.Kinds.{HasStatement, IsOf, IsOfProgram};
 ghost use Rattle.sp_lines.specs.declared.mark.Mark.{Mark};
 ghost use Rattle.sp_code.specs.declared.instr.Instr.{Instr};
@@ -63,10 +63,10 @@ pub fn stops_have_their_statements()
 /// One thing is told of a journal if the machine has a system along it, and else nothing.
 pub fn journals_are_told()
     ensures told { (g : CodeRun) (es : List Entry) (t : System Plain) → IsSystem plain_store g es t
-        → (ws : List Told) × IsTold g es ws t }
-    ensures once { (g : CodeRun) (es : List Entry) (ws xs : List Told) (t u : System Plain) → IsTold g es ws t
-        → IsTold g es xs u → ws ≡ xs }
-    ensures leads { (g : CodeRun) (es : List Entry) (ws : List Told) (t : System Plain) → IsTold g es ws t
+        → (ws : List Told) × DescribesEntries g es ws t }
+    ensures once { (g : CodeRun) (es : List Entry) (ws xs : List Told) (t u : System Plain) → DescribesEntries g es ws t
+        → DescribesEntries g es xs u → ws ≡ xs }
+    ensures leads { (g : CodeRun) (es : List Entry) (ws : List Told) (t : System Plain) → DescribesEntries g es ws t
         → IsSystem plain_store g es t }
 {}
 
@@ -92,7 +92,7 @@ pub fn turns_are_told()
 pub fn waiting_processes_are_shown()
     ensures { (p : Program) (moves shares : plain.Stmt → List ℕ) (g : CodeRun)
         → g.code ≡ program_code (without_places p) moves shares
-        → (es : List Entry) (ws : List Told) (t : System Plain) → IsTold g es ws t → (r : ℕ)
+        → (es : List Entry) (ws : List Told) (t : System Plain) → DescribesEntries g es ws t → (r : ℕ)
         → IsShown p (t.condition r) (lasts_after es ws (λ _. 0) r) }
 {}
 

@@ -23,24 +23,26 @@
 //! - It recurses as deep as the tree is.
 //!
 //! Lemmas for others, in `proofs`:
-//! - `Stopping`: where a turn stops: each instruction that stops is that of its stop, and leaves the process right
-//!   behind it.
+//! - `StopInstructions`: where a turn stops: each instruction that stops is that of its stop, and leaves the process
+//!   right behind it.
 //! - `Tellings`: of each journal along which the machine has a system one thing is told.
-//! - `Shown`: what is told of an entry that forks, opens, sends or receives is a statement of the text of its kind.
-//! - `Faulting`: an instruction that faults has a mark.
+//! - `EntryStatements`: what is told of an entry that forks, opens, sends or receives is a statement of the text of
+//!   its kind.
+//! - `FaultMarks`: an instruction that faults has a mark.
 //!
 //! To change:
 //! - A form: its clause in `specs/Marks.antt` beside that in `Emitted`, its arm in `src/statements.rt` or
 //!   `src/expressions.rt`.
 #![tactic(auto)]
 
+mod entry_place;
 mod expressions;
 mod laws;
 mod mark;
 mod program;
 mod statements;
-mod told;
 
+pub use entry_place::Told;
 pub use laws::{
     entries_are_told_at_their_statements, faults_have_marks, journals_are_told,
     marks_go_with_the_code, marks_stand, stops_have_their_statements, turns_are_told,
@@ -48,4 +50,3 @@ pub use laws::{
 };
 pub use mark::Mark;
 pub use program::marks;
-pub use told::Told;

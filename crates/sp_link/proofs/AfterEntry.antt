@@ -2,7 +2,7 @@
 -- one more fork or open: its memory, the code of what it has left to do, and its offer.
 use Rattle.std.proofs.Common.{◌≡◌, ◌⊎◌, inl, ℕ, ◌+◌, List, [], ◌∷◌, length, Some, sym, subst}
 use Rattle.std.specs.Prelude.{Bool, slice_get}
-use Rattle.sp_tree.specs.Formed.{IsFormedUse}
+use Rattle.sp_tree.specs.TreeShape.{IsFormedUse}
 use Rattle.sp_tree.specs.Plain.{Block, Stmt, Repeat}
 use Rattle.sp_tree.specs.Uses.{Use, In_stmt}
 use Rattle.sp_tree.specs.Interference.{IsFreeOfInterference}
@@ -21,9 +21,9 @@ use Rattle.sp_code.specs.Memory.{Memory}
 use Rattle.sp_codegen.specs.FramePairs.{FramePair}
 use Rattle.sp_codegen.specs.TurnAgrees.{due_after}
 use Rattle.sp_codegen.specs.Relation.{Relation, KeepsRelation}
-use Rattle.sp_codegen.specs.Standing.{OwnersWithin}
+use Rattle.sp_codegen.specs.MemoryRelation.{OwnersWithin}
 use Rattle.sp_codegen.specs.Executions.{Execution}
-use Rattle.sp_codegen.specs.Following.{Slides, CodeFollows}
+use Rattle.sp_codegen.specs.CodePositions.{Slides, CodeFollows}
 use Rattle.sp_link.proofs.Relation.{RunContext, BirthRights, Called, Fresh, Fo, Ca, St, Rel, law, ops}
 
 -- the code of what is left goes by the frames that a process made, and by nothing else of what it is

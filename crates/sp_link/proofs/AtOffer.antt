@@ -9,7 +9,7 @@ use Rattle.sp_meaning.specs.Actions.{Offered}
 use Rattle.sp_meaning.specs.SuperPascal.{superpascal, with_todo}
 use Rattle.sp_meaning.specs.Run.{Store}
 use Rattle.sp_meaning.specs.Turn as source
-use Rattle.sp_meaning.proofs.Owned.{ConditionInRights}
+use Rattle.sp_meaning.proofs.RightsInvariant.{ConditionInRights}
 use Rattle.sp_code.specs.Machine.{Config, At}
 use Rattle.sp_code.specs.Turns.{Stopped, IsTurn}
 use Rattle.sp_code.specs.Memory.{Memory}

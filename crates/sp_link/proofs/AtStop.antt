@@ -13,11 +13,11 @@ use Rattle.sp_meaning.specs.Run.{Store}
 use Rattle.sp_meaning.specs.Runs.{happening_at}
 use Rattle.sp_meaning.proofs.Keys.{name_test}
 use Rattle.sp_meaning.proofs.Maps.{same_or_not}
-use Rattle.sp_meaning.proofs.Owned.{Inv, Keeps_to}
+use Rattle.sp_meaning.proofs.RightsInvariant.{Inv, Keeps_to}
 use Rattle.sp_meaning.proofs.Parallel.{IsAlone}
 use Rattle.sp_meaning.proofs.SilentActions.{IsStop, IsDead, IsSameButOne, actions_are_silent, silent_opens}
 use Rattle.sp_meaning.proofs.SilentActions.{silent_faults}
-use Rattle.sp_meaning.proofs.Reached.{StateKeeps}
+use Rattle.sp_meaning.proofs.StepLaws.{StateKeeps}
 use Rattle.sp_meaning.proofs.Status.{working_lives, lives_ended}
 use Rattle.sp_link.proofs.TurnsMeet.{Keeps_it, keeps, turn_known, pure_blocks, Wr, Rd}
 use Rattle.sp_link.proofs.OneChanges.{q, pr, runs_as_pr, alone, light, keeps_to, here, present, not_ended, holds_by}

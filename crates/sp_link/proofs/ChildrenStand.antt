@@ -17,7 +17,7 @@ use Rattle.sp_cell.specs.Spots.{In, NotIn}
 use Rattle.sp_meaning.specs.Model.{Name, Absent}
 use Rattle.sp_meaning.specs.LocalWork.{Loc, Cell, Input, Output, OfIndex, LocalState, Identity, Process}
 use Rattle.sp_meaning.specs.Actions.{Birth, push}
-use Rattle.sp_meaning.specs.Owning.{Aimed, Used, Sound}
+use Rattle.sp_meaning.specs.Rights.{Aimed, Used, Sound}
 use Rattle.sp_meaning.specs.Run.{Store}
 use Rattle.sp_meaning.proofs.Rights.{OwnLocation}
 use Rattle.sp_code.specs.declared.code.ChildTable.{ChildTable}
@@ -27,25 +27,25 @@ use Rattle.sp_code.specs.PlainStore.{plain}
 use Rattle.sp_code.specs.System.{spot_of, child_process, handing_of, on_store as On_store}
 use Rattle.sp_meaning.specs.Steps.{has_ended}
 use Rattle.sp_meaning.specs.Runs.{StateOf}
-use Rattle.sp_codegen.proofs.Joining.{handed_joining}
+use Rattle.sp_codegen.proofs.Joins.{handed_joining}
 use Rattle.sp_link.proofs.OthersStay.{joining_more}
 use Rattle.sp_code.specs.Scopes.{Scope}
 use Rattle.sp_code.specs.Places.{after_statement}
-use Rattle.sp_code.specs.Emitted.{child_table}
+use Rattle.sp_code.specs.TreeCode.{child_table}
 use Rattle.sp_codegen.specs.FramePairs.{FramePair, sources, pairs_from}
 use Rattle.sp_codegen.specs.Relation.{Placed}
 use Rattle.sp_codegen.proofs.Owners.{no_longer_owner}
 use Rattle.sp_codegen.proofs.Begins.{child_begins, memory_in}
 use Rattle.sp_codegen.proofs.Birth.{low_small}
-use Rattle.sp_codegen.proofs.Born.{ChildIs, Seen, child_follows}
+use Rattle.sp_codegen.proofs.ChildIndexes.{ChildIs, Seen, child_follows}
 use Rattle.sp_code.proofs.Plans.{in_spots}
-use Rattle.sp_codegen.proofs.Handed.{found_at, is_input, console_only, moved_aimed, moved_known, output_handed}
-use Rattle.sp_codegen.proofs.Handed.{right_of, MovedStands, moved_stands, no_console_spot, no_index_spot}
-use Rattle.sp_codegen.proofs.Handed.{index_no_console}
+use Rattle.sp_codegen.proofs.HandedUses.{found_at, is_input, console_only, moved_aimed, moved_known, output_handed}
+use Rattle.sp_codegen.proofs.HandedUses.{right_of, MovedStands, moved_stands, no_console_spot, no_index_spot}
+use Rattle.sp_codegen.proofs.HandedUses.{index_no_console}
 use Rattle.sp_cell.proofs.Plan.{in_or, get_away_in, get_lent_out}
-use Rattle.sp_tree.specs.Formed.{IsFormedUse}
+use Rattle.sp_tree.specs.TreeShape.{IsFormedUse}
 use Rattle.sp_tree.specs.Sets.{Reach}
-use Rattle.sp_codegen.specs.Standing.{Live, spot_at}
+use Rattle.sp_codegen.specs.MemoryRelation.{Live, spot_at}
 use Rattle.sp_code.specs.Scopes.{slot}
 use Rattle.sp_code.specs.Memory.{position_at}
 use Rattle.sp_tree.specs.Interference.{IsIndexOf}
@@ -138,7 +138,7 @@ module _ (G : RunContext) (lf : BirthRights) (kids : ℕ → ℕ → BirthRights
     module _ (number : ℕ) (called : Called G child number) (pc : ℕ) (stack : List Entry)
         (shared_known : (a : Spot) → In a handing.shared → IsSome (fin.get n.store.map a)) (more : ℕ → ℕ
         → BirthRights) where
-      begins : Rattle.sp_codegen.specs.Standing.Agrees G.g G.code own.who (Named G) (Called G)
+      begins : Rattle.sp_codegen.specs.MemoryRelation.Agrees G.g G.code own.who (Named G) (Called G)
           (λ l. OwnLocation child l ⊎ life.W l) (λ l. OwnLocation child l ⊎ life.R l) life.J life.low (length js)
           life.born 0 G.pause
           life.moved js own.own s

@@ -5,7 +5,7 @@ use Rattle.std.proofs.Common.{Bool, true, false, refl, sym, ap, ◌∙◌, arith
 use Rattle.std.specs.Prelude.{◌≢◌, ◌+ℤ◌, pos, IsSome, slice_get}
 use Rattle.std.specs.FinMap as fin
 use Rattle.sp_tree.specs.declared.checked.Role.TheVariants as role
-use Rattle.sp_tree.specs.Formed.{IsFormedUse}
+use Rattle.sp_tree.specs.TreeShape.{IsFormedUse}
 use Rattle.sp_tree.specs.Interference.{IsIndexOf}
 use Rattle.sp_tree.specs.Plain.{Expr, Variable, Stmt, Forall}
 use Rattle.sp_tree.specs.Sets.{IsTarget, IsUsed}
@@ -20,14 +20,14 @@ use Rattle.sp_cell.specs.Spots.{In}
 use Rattle.sp_meaning.specs.Model.{Name}
 use Rattle.sp_meaning.specs.LocalWork.{Loc, Output, OfIndex, LocalState, Identity, Process}
 use Rattle.sp_meaning.specs.Actions.{push}
-use Rattle.sp_meaning.specs.Owning.{Aimed, Used, Sound}
+use Rattle.sp_meaning.specs.Rights.{Aimed, Used, Sound}
 use Rattle.sp_meaning.specs.Run.{Store}
 use Rattle.sp_meaning.proofs.Rights.{OwnLocation}
 use Rattle.sp_meaning.proofs.SoundParts.{element_sound}
 use Rattle.sp_cell.proofs.Laws.{known_of_piece}
 use Rattle.sp_code.specs.declared.code.ChildTable.{ChildTable}
 use Rattle.sp_code.specs.declared.instr.Instr.TheVariants as i
-use Rattle.sp_code.specs.Emitted.{child_table}
+use Rattle.sp_code.specs.TreeCode.{child_table}
 use Rattle.sp_code.specs.Machine.{Entry, At}
 use Rattle.sp_code.specs.Memory.{Memory, position_at}
 use Rattle.sp_code.specs.Memory as mem
@@ -40,17 +40,17 @@ use Rattle.sp_code.specs.System.{child_process, handing_of}
 use Rattle.sp_codegen.specs.FramePairs.{FramePair, sources, pairs_from}
 use Rattle.sp_codegen.specs.ProcessInfos.{Seen}
 use Rattle.sp_codegen.specs.Relation.{Placed}
-use Rattle.sp_codegen.specs.Standing.{Agrees, spot_at}
+use Rattle.sp_codegen.specs.MemoryRelation.{Agrees, spot_at}
 use Rattle.sp_codegen.proofs.Begins.{index_child_begins, memory_in}
 use Rattle.sp_codegen.proofs.Birth.{low_small}
-use Rattle.sp_codegen.proofs.Born.{child_follows}
-use Rattle.sp_codegen.proofs.Handed.{MovedStands, moved_stands, shared_piece, output_unshared}
+use Rattle.sp_codegen.proofs.ChildIndexes.{child_follows}
+use Rattle.sp_codegen.proofs.HandedUses.{MovedStands, moved_stands, shared_piece, output_unshared}
 use Rattle.sp_codegen.proofs.Owners.{no_longer_owner}
 use Rattle.sp_codegen.proofs.Slots.{no_index_console}
 use Rattle.sp_link.proofs.ChildrenStand.{reached_formed, consoles}
 use Rattle.sp_link.proofs.Relation.{RunContext, BirthRights, Called, Named, Fresh, St, ProcessMatches, Handed}
 use Rattle.sp_link.proofs.Relation.{execution, run_is}
-use Rattle.sp_link.proofs.Scoping.{is_scoped, index_further}
+use Rattle.sp_link.proofs.DeclaredUses.{is_scoped, index_further}
 
 module _ (G : RunContext) (lf : BirthRights) (kids : ℕ → ℕ → BirthRights) (q : Name) where
   abbrev Wr : Loc → Type 0

@@ -10,9 +10,9 @@ use Rattle.sp_journal.proofs.BirthLaws.{lawful_start}
 use Rattle.sp_cell.specs.Map.{Plain}
 use Rattle.sp_meaning.specs.LocalWork.{RunInput}
 use Rattle.sp_meaning.specs.Runs.{StateOf, start}
-use Rattle.sp_meaning.specs.Along.{no_course, IsAlong}
+use Rattle.sp_meaning.specs.Along.{before_entries, IsAlong}
 use Rattle.sp_meaning.specs.Ends.{Waiting, WaitsSo, IsDeadlock, HasFault}
-use Rattle.sp_code.specs.Emitted.{program_code}
+use Rattle.sp_code.specs.TreeCode.{program_code}
 use Rattle.sp_code.specs.Memory as memory
 use Rattle.sp_code.specs.PlainStore.{plain}
 use Rattle.sp_code.specs.System.{System, Gone, IsSystem, opening_system}
@@ -40,7 +40,7 @@ module _ (g : RunInput) (moves shares : Stmt → List ℕ) (pause : ℕ) (ready 
   abbrev G : RunContext
   G = at_open (ground g moves shares pause ready es named) t.births.channels
 
-  along : Goes_along (ground g moves shares pause ready es named) no_course (start g) first_births es t
+  along : Goes_along (ground g moves shares pause ready es named) before_entries (start g) first_births es t
   along = linked_along (ground g moves shares pause ready es named) ready.main ready.first es named refl t h
 
   is_it : along.state ≡ s
@@ -69,7 +69,7 @@ module _ (g : RunInput) (moves shares : Stmt → List ℕ) (pause : ℕ) (ready 
   program_no_fault e = linked.no_fault e
 
   pub program_fault : (p : ℕ) (f : Fault) → HasFaultEntry es p f → HasFault g s ((births_from first_births es).name p) f
-  program_fault p f i = fault_told g pause es first_births lawful_start named no_course (start g) s n k p f i
+  program_fault p f i = fault_told g pause es first_births lawful_start named before_entries (start g) s n k p f i
 
   -- a fault that stands is that of an entry
   pub program_faulted : t.faulted ≡ true → (p : ℕ) × (f : Fault) × HasFaultEntry es p f

@@ -20,13 +20,13 @@ use Rattle.sp_meaning.specs.Actions as actions
 use Rattle.sp_meaning.specs.SuperPascal.{superpascal}
 use Rattle.sp_meaning.specs.Run.{Store}
 use Rattle.sp_meaning.specs.Runs.{StateOf, total_limits, next_state, happening_at}
-use Rattle.sp_meaning.specs.Along.{Course, ticks_in, ticks_of, with_ticks}
+use Rattle.sp_meaning.specs.Along.{JournalState, ticks_in, ticks_of, with_ticks}
 use Rattle.sp_meaning.specs.Turn as source
 use Rattle.sp_meaning.proofs.Keys.{name_test, number_or}
 use Rattle.sp_meaning.proofs.Maps.{at_same, at_other, same_or_not}
-use Rattle.sp_meaning.proofs.Owned.{Inv}
+use Rattle.sp_meaning.proofs.RightsInvariant.{Inv}
 use Rattle.sp_meaning.proofs.Parallel.{alone_childless}
-use Rattle.sp_meaning.proofs.Reached.{StateKeeps, step_well, raised, lowered}
+use Rattle.sp_meaning.proofs.StepLaws.{StateKeeps, step_well, raised, lowered}
 use Rattle.sp_meaning.proofs.Sound.{step_sound}
 use Rattle.sp_meaning.proofs.Status.{working_lives}
 use Rattle.sp_code.specs.Machine.{Config, At}
@@ -81,7 +81,7 @@ module _ (at_stop : AtStop) (z : MatchesNow at_stop)
   goes_next : next_state G.g x.state v ≡ Some t1
   goes_next = kernel_next G.g v x.state x.left x.runs r x.does
 
-  abbrev c1 : Course
+  abbrev c1 : JournalState
   c1 = with_ticks v (ticks_of G.g t1 v) c
 
   gone : t1.condition v ≡ Ended
@@ -107,7 +107,7 @@ module _ (at_stop : AtStop) (z : MatchesNow at_stop)
   rights_now = inv_local G (W_of G lv)
       (R_of G lv) x.state.condition t1.condition x.state.forks t1.forks v rights_then refl
       (λ e. subst (λ a. IsLive a) e (working_lives x.state.condition v (x.state.condition v) x.left x.runs)) same
-      (subst (λ a. Rattle.sp_meaning.proofs.Owned.ConditionInRights G.g.program (W_of G lv)
+      (subst (λ a. Rattle.sp_meaning.proofs.RightsInvariant.ConditionInRights G.g.program (W_of G lv)
       (R_of G lv) x.state.forks v a)
       (sym gone) tt)
 

@@ -22,7 +22,7 @@ use Rattle.sp_meaning.specs.Entries.{Happening, Occurrence, Opened, Forked, Offe
 use Rattle.sp_meaning.specs.LocalWork.{RunInput, Process}
 use Rattle.sp_meaning.specs.SuperPascal.{superpascal}
 use Rattle.sp_meaning.specs.Runs.{StateOf, total_limits, running_process, next_state, happening_at, happening_of}
-use Rattle.sp_meaning.specs.Along.{Course, Turn, EntryStep, Along, Either, is_due_after, with_fault, with_ticks}
+use Rattle.sp_meaning.specs.Along.{JournalState, Turn, EntryStep, Along, Either, is_due_after, with_fault, with_ticks}
 use Rattle.sp_meaning.specs.Along.{course_after, ticks_of}
 use Rattle.sp_meaning.proofs.Frames.{all_in, fault_frame}
 use Rattle.sp_code.specs.Machine.{Config, Stop}
@@ -106,7 +106,7 @@ module _ (g : RunInput) where
       by false ih k = ih k ∙ one
 
   -- once a fault stands it stays
-  faulted_stays : (pause : ℕ) (os : List Occurrence) (c : Course) (s t : StateOf g) (n : ℕ) → c.faulted ≡ true
+  faulted_stays : (pause : ℕ) (os : List Occurrence) (c : JournalState) (s t : StateOf g) (n : ℕ) → c.faulted ≡ true
       → Along g pause c s os n t → t.fault ≡ s.fault
   faulted_stays pause [] c s t n f h = ap (λ (y : StateOf g). y.fault) h.1
   faulted_stays pause (o ∷ os) c s t n f (_, n0, rest, mid, paused, _, turn0, enters) =
@@ -117,14 +117,14 @@ module _ (g : RunInput) where
       no e = let bad : true ≡ false = sym f ∙ e in absurd (cc bad)
 
       by : (what : Happening) → EntryStep g (λ c1 u r. Along g pause c1 u os r t) c mid paused o.who what rest
-          → ((c1 : Course) (r : ℕ) → c1.faulted ≡ true → Along g pause c1 mid os r t → t.fault ≡ mid.fault)
+          → ((c1 : JournalState) (r : ℕ) → c1.faulted ≡ true → Along g pause c1 mid os r t → t.fault ≡ mid.fault)
           → t.fault ≡ mid.fault
       by Laid k ih = ih (with_fault o.who c) rest refl k.1
       by _ k _ = no k.0
 
   -- an entry that is a fault says which one stands in the end
   pub fault_told : (pause : ℕ) (es : List Entry) (b : Births) → Lawful b → NameableFrom b es
-      → (c : Course) (s t : StateOf g) (n : ℕ) → Along g pause c s (occurrences_from b es) n t
+      → (c : JournalState) (s t : StateOf g) (n : ℕ) → Along g pause c s (occurrences_from b es) n t
       → (p : ℕ) (f : Fault) → HasFaultEntry es p f → t.fault ≡ Some ((births_from b es).name p, f)
   fault_told pause [] b w m c s t n h p f i = absurd i
   fault_told pause (e ∷ es) b w m c s t n (_, _, rest, mid, paused, _, _, enters) p f (inl x) =
@@ -160,7 +160,7 @@ module _ (g : RunInput) where
     where
       by : (what : Happening) → EntryStep g (λ c1 u r. Along g pause c1 u
           (occurrences_from (births_after_event b e.process e.event) es) r t) c mid paused (b.name e.process) what rest
-          → ((c1 : Course) (u : StateOf g) (r : ℕ)
+          → ((c1 : JournalState) (u : StateOf g) (r : ℕ)
           → Along g pause c1 u (occurrences_from (births_after_event b e.process e.event) es) r t
           → t.fault ≡ Some ((births_from b (e ∷ es)).name p, f))
           → t.fault ≡ Some ((births_from b (e ∷ es)).name p, f)

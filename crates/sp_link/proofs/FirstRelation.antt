@@ -10,14 +10,14 @@ use Rattle.sp_cell.specs.Map.{Plain, output_of}
 use Rattle.sp_meaning.specs.Model.{Name, Absent}
 use Rattle.sp_meaning.specs.LocalWork.{RunInput, Identity, Break}
 use Rattle.sp_meaning.specs.Actions.{push, size_of_frame}
-use Rattle.sp_meaning.specs.Owning.{Fit}
+use Rattle.sp_meaning.specs.Rights.{Fit}
 use Rattle.sp_meaning.specs.SuperPascal.{root, main_items, first_store}
 use Rattle.sp_meaning.specs.Runs.{start}
-use Rattle.sp_meaning.specs.Along.{no_course}
-use Rattle.sp_meaning.proofs.Owned.{Inv, ConditionInRights}
-use Rattle.sp_meaning.proofs.Reached.{start_well, start_sound}
+use Rattle.sp_meaning.specs.Along.{before_entries}
+use Rattle.sp_meaning.proofs.RightsInvariant.{Inv, ConditionInRights}
+use Rattle.sp_meaning.proofs.StepLaws.{start_well, start_sound}
 use Rattle.sp_meaning.proofs.Rights.{OwnOrGiven}
-use Rattle.sp_meaning.proofs.Started.{First, bottom, body_sound, first_fair}
+use Rattle.sp_meaning.proofs.RuleKeepers.{First, bottom, body_sound, first_fair}
 use Rattle.sp_meaning.proofs.SoundParts.{push_good}
 use Rattle.sp_code.specs.Machine.{At}
 use Rattle.sp_code.specs.Memory.{Memory, first_process, first_memory, entry_of}
@@ -103,7 +103,7 @@ module _ (G : RunContext) (b : Block) (eb : slice_get G.g.program.blocks 0 ≡ S
     memory = n0;
     configuration_is = first_is;
     stand = root_stands G.g G.code G.formed G.laid b eb G.pause (Named G) (Called G) called fits;
-    follows = subst (λ y. Rattle.sp_codegen.specs.Following.CodeFollows
+    follows = subst (λ y. Rattle.sp_codegen.specs.CodePositions.CodeFollows
         (execution G (lives []) kids [] fresh who refl 0)
         (lives []).end [] js block.layout.entry [] js y) (sym (todo_by false e))
         (push_follows (execution G (lives []) kids [] fresh who refl 0) b.body (lives []).end [] js
@@ -120,7 +120,7 @@ module _ (G : RunContext) (b : Block) (eb : slice_get G.g.program.blocks 0 ≡ S
       fits = Prim.grind (arith, e)
 
   -- its memory, whatever the limit of cells is
-  abbrev roomy_is : Rattle.sp_codegen.specs.Standing.Agrees (roomy G.g) G.code who (Named G) (Called G)
+  abbrev roomy_is : Rattle.sp_codegen.specs.MemoryRelation.Agrees (roomy G.g) G.code who (Named G) (Called G)
       (λ l. OwnOrGiven First [] l) (λ l. OwnOrGiven First [] l) NoIndexes 1 1 0 0 G.pause [] js (root (roomy G.g)).own
       (first_store G.g) n0
   roomy_is = root_stands (roomy G.g) G.code G.formed G.laid b eb G.pause (Named G) (Called G) called (omega arith)
@@ -149,7 +149,7 @@ module _ (G : RunContext) (b : Block) (eb : slice_get G.g.program.blocks 0 ≡ S
       no_room : frames_fit (ops G) G.code (first_process plain (run_is G)) ≡ false
       no_room = small
 
-  does_first : Performs_all G lives [] no_course (start G.g) 0 (sys.Working (first_process plain (run_is G)))
+  does_first : Performs_all G lives [] before_entries (start G.g) 0 (sys.Working (first_process plain (run_is G)))
   does_first = (root G.g, refl, by (nat_lt G.g.limits.cells (size_of_frame G.g 0)) refl, refl, refl)
     where
       by : (x : Bool) → nat_lt G.g.limits.cells (size_of_frame G.g 0) ≡ x
@@ -186,7 +186,7 @@ module _ (G : RunContext) (b : Block) (eb : slice_get G.g.program.blocks 0 ≡ S
   abbrev u0 : System Plain
   u0 = opening_system plain (run_is G)
 
-  pub opening_linked : G.opened ≡ 0 → Linked G lives no_course (start G.g) u0
+  pub opening_linked : G.opened ≡ 0 → Linked G lives before_entries (start G.g) u0
   opening_linked none = record {
     rights = rights;
     known = record { sound = start_sound G.g; well = start_well G.g };
@@ -209,9 +209,9 @@ module _ (G : RunContext) (b : Block) (eb : slice_get G.g.program.blocks 0 ≡ S
     numbered = λ q h. (0, omega arith, sym (first_name q h));
   }
     where
-      does_by : (i : ℕ) → i < 1 → Performs_all G lives (G.births.name i) no_course (start G.g) (u0.births.opens i)
+      does_by : (i : ℕ) → i < 1 → Performs_all G lives (G.births.name i) before_entries (start G.g) (u0.births.opens i)
           (u0.condition i)
-      does_by zero lt = subst (λ y. Performs_all G lives y no_course (start G.g) 0
+      does_by zero lt = subst (λ y. Performs_all G lives y before_entries (start G.g) 0
           (sys.Working (first_process plain (run_is G)))) (begun.names 0 (omega arith)) does_first
       does_by (suc i) lt = absurd (omega (arith, lt))
 
@@ -231,5 +231,5 @@ module _ (G : RunContext) (b : Block) (eb : slice_get G.g.program.blocks 0 ≡ S
 -- with the channels that are open at first: none
 pub opening_now : (G : RunContext) (b : Block) (eb : slice_get G.g.program.blocks 0 ≡ Some b)
     (begun : Began G first_births)
-    → Now G (lives (at_open G 0) b eb begun) no_course (start G.g) (opening_system plain (run_is G))
+    → Now G (lives (at_open G 0) b eb begun) before_entries (start G.g) (opening_system plain (run_is G))
 opening_now G b eb begun = opening_linked (at_open G 0) b eb begun refl

@@ -18,14 +18,14 @@ use Rattle.sp_cell.specs.Spots.{In, NotIn}
 use Rattle.sp_meaning.specs.Model.{Name}
 use Rattle.sp_meaning.specs.LocalWork.{Loc, Output, OfIndex, LocalState, Identity, Frame, Computed, Item, Process}
 use Rattle.sp_meaning.specs.Actions.{Birth, Forked, new_process, new_processes, push, indexed_children}
-use Rattle.sp_meaning.specs.Owning.{Aimed, Used, Born}
+use Rattle.sp_meaning.specs.Rights.{Aimed, Used, Born}
 use Rattle.sp_meaning.specs.Run.{Store}
 use Rattle.sp_meaning.specs.Turn as source
 use Rattle.sp_meaning.proofs.Children.{AimedAt, UsedAt}
 use Rattle.sp_meaning.proofs.Rights.{OwnOrGiven}
 use Rattle.sp_meaning.proofs.SoundParts.{copies, born_copies, element_sound}
 use Rattle.sp_code.specs.declared.code.ChildTable.{ChildTable}
-use Rattle.sp_code.specs.Emitted.{child_table}
+use Rattle.sp_code.specs.TreeCode.{child_table}
 use Rattle.sp_code.specs.Machine.{At, values_in}
 use Rattle.sp_code.specs.Memory.{Memory}
 use Rattle.sp_code.specs.Memory as mem
@@ -40,7 +40,7 @@ use Rattle.sp_code.specs.System as sys
 use Rattle.sp_codegen.proofs.Numbers.{next_small}
 use Rattle.sp_codegen.specs.FramePairs.{FramePair, sources}
 use Rattle.sp_codegen.specs.ProcessInfos.{Seen}
-use Rattle.sp_codegen.proofs.Born.{indexed_is}
+use Rattle.sp_codegen.proofs.ChildIndexes.{indexed_is}
 use Rattle.sp_codegen.proofs.FramePairs.{sources_length}
 use Rattle.sp_link.proofs.EachStands as each
 use Rattle.sp_link.proofs.Forks as fk

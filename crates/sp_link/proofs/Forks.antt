@@ -29,18 +29,18 @@ use Rattle.sp_journal.specs.Names as happenings
 use Rattle.sp_meaning.specs.LocalWork.{Loc, Output, LocationContent, Address, LocalState, Identity, Process}
 use Rattle.sp_meaning.specs.LocalWork.{WorkOutcome, Computed, Item}
 use Rattle.sp_meaning.specs.Actions.{Action, Birth, Forked, new_process, new_processes}
-use Rattle.sp_meaning.specs.Owning.{Born}
+use Rattle.sp_meaning.specs.Rights.{Born}
 use Rattle.sp_meaning.specs.SuperPascal.{superpascal, with_todo}
 use Rattle.sp_meaning.specs.Run.{Store}
 use Rattle.sp_meaning.specs.Runs.{StateOf, total_limits, next_state, happening_at, happening_of}
-use Rattle.sp_meaning.specs.Along.{Course, ticks_in, ticks_of, with_ticks, Either}
+use Rattle.sp_meaning.specs.Along.{JournalState, ticks_in, ticks_of, with_ticks, Either}
 use Rattle.sp_meaning.specs.Turn as source
 use Rattle.sp_meaning.proofs.Children.{AimedAt, UsedAt, writes_after, reads_after, it_is}
 use Rattle.sp_meaning.proofs.Keys.{name_test, number_or}
 use Rattle.sp_meaning.proofs.Maps.{at_same, at_other, differs, itself, same_or_not}
-use Rattle.sp_meaning.proofs.Owned.{Inv, ConditionInRights, known_if, forks_keep, after_births}
+use Rattle.sp_meaning.proofs.RightsInvariant.{Inv, ConditionInRights, known_if, forks_keep, after_births}
 use Rattle.sp_meaning.proofs.SilentActions.{IsDead}
-use Rattle.sp_meaning.proofs.Reached.{StateKeeps, step_well, raised, lowered, Conditions}
+use Rattle.sp_meaning.proofs.StepLaws.{StateKeeps, step_well, raised, lowered, Conditions}
 use Rattle.sp_meaning.proofs.Rights.{OwnOrGiven, OwnLocation}
 use Rattle.sp_meaning.proofs.Sound.{step_sound}
 use Rattle.sp_meaning.proofs.Status.{working_lives}
@@ -95,7 +95,8 @@ next_number b n j lt = ap (λ x. x && nat_lt (b.processes + j) (b.processes + n)
     ∙ lt-ltb (b.processes + j) (b.processes + n) (omega (arith, lt))
 
 -- who does anything is there
-not_absent : (G : RunContext) (lf : BirthRights) (kids : ℕ → ℕ → BirthRights) (q : Name) (c : Course) (s : StateOf G.g)
+not_absent : (G : RunContext) (lf : BirthRights) (kids : ℕ → ℕ
+    → BirthRights) (q : Name) (c : JournalState) (s : StateOf G.g)
     (opens : ℕ)
     (X : sys.Condition Plain) → Performs G lf kids q c s opens X → s.condition q ≢ Absent
 not_absent G lf kids q c s opens sys.Absent h = absurd h
@@ -477,7 +478,7 @@ module _ (at_stop : AtStop) (z : MatchesNow at_stop)
         (λ (g : (j : ℕ) → j < n → b ≢ (k, j) ∷ v). h (sym (cond_r b f g) ∙ e)) (child_or_not b))
         (same_or_not name_test b v)
 
-    abbrev c1 : Course
+    abbrev c1 : JournalState
     c1 = with_ticks v (ticks_of G.g t1 v) c
 
     since_here : c1.since v ≡ t.memory.ticks

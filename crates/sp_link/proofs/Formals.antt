@@ -8,18 +8,18 @@ use Rattle.sp_base.proofs.Facts.{get_in_front}
 use Rattle.sp_tree.specs.declared.checked.Role.{Role}
 use Rattle.sp_tree.specs.declared.checked.Role.TheVariants as role
 use Rattle.sp_tree.specs.Cells.{variables_of, sizes, cells_by}
-use Rattle.sp_tree.specs.Formed.{IsFormed, is_parameter, numbers_with_role, as_list}
+use Rattle.sp_tree.specs.TreeShape.{IsFormed, is_parameter, numbers_with_role, as_list}
 use Rattle.sp_tree.specs.Interference.{IsMember}
 use Rattle.sp_tree.specs.Plain.{Program, Stmt, Block, Variable}
 use Rattle.sp_tree.proofs.Members.{member_at}
 use Rattle.sp_code.specs.declared.code.Formal.{Formal}
 use Rattle.sp_code.specs.declared.code.Layout.{Layout}
 use Rattle.sp_code.specs.Formals.{HasRoom, BeginsWithFormals, HaveFormals}
-use Rattle.sp_code.specs.Emitted.{program_code, layouts_from, layout_of, formal_by, formal_of, cells_of}
+use Rattle.sp_code.specs.TreeCode.{program_code, layouts_from, layout_of, formal_by, formal_of, cells_of}
 use Rattle.sp_code.specs.Machine as m
 use Rattle.sp_code.specs.Places.{after_block}
 use Rattle.sp_code.specs.Scopes.{frame_of, is_local, size}
-use Rattle.sp_codegen.proofs.Closing.{among_role}
+use Rattle.sp_codegen.proofs.Returns.{among_role}
 use Rattle.sp_codegen.proofs.Numbers.{are_known, frame_is}
 
 -- ---- elements of lists

@@ -24,14 +24,14 @@ use Rattle.sp_meaning.specs.Actions as actions
 use Rattle.sp_meaning.specs.SuperPascal.{superpascal, action_of, with_todo, fuel_of, root}
 use Rattle.sp_meaning.specs.Run.{Store}
 use Rattle.sp_meaning.specs.Runs.{StateOf, total_limits, running_process, next_state, happening_at, happening_of}
-use Rattle.sp_meaning.specs.Along.{Course, ticks_in, ticks_of, with_ticks, with_fault, EntryStep}
+use Rattle.sp_meaning.specs.Along.{JournalState, ticks_in, ticks_of, with_ticks, with_fault, EntryStep}
 use Rattle.sp_meaning.specs.Along as along
 use Rattle.sp_meaning.specs.Turn as source
 use Rattle.sp_meaning.proofs.Instance.{loc_test}
 use Rattle.sp_meaning.proofs.Keys.{name_test}
 use Rattle.sp_meaning.proofs.Maps.{differs, itself}
-use Rattle.sp_meaning.proofs.Owned.{Keeps_to}
-use Rattle.sp_meaning.proofs.Reached.{StateKeeps, step_well, raised, lowered}
+use Rattle.sp_meaning.proofs.RightsInvariant.{Keeps_to}
+use Rattle.sp_meaning.proofs.StepLaws.{StateKeeps, step_well, raised, lowered}
 use Rattle.sp_meaning.proofs.Rights.{OwnOrGiven}
 use Rattle.sp_meaning.proofs.Sound.{step_sound}
 use Rattle.sp_code.specs.Machine.{Config, At}
@@ -42,7 +42,7 @@ use Rattle.sp_code.specs.PlainStore.{plain}
 use Rattle.sp_code.specs.System.{system_after_turn, event_of, event_or, fault_of, config_of, apply_unless_fault}
 use Rattle.sp_code.specs.System as sys
 use Rattle.sp_codegen.specs.FramePairs.{FramePair}
-use Rattle.sp_codegen.specs.Following.{StandsFor}
+use Rattle.sp_codegen.specs.CodePositions.{StandsFor}
 use Rattle.sp_meaning.proofs.SilentActions.{IsSameButOne}
 use Rattle.sp_link.proofs.AtStop.{keeps_at, same_but_dead, same_but_one, same_output}
 use Rattle.sp_link.proofs.Journal.{Way_on, IsOpen, now_by}
@@ -141,10 +141,10 @@ module _ (at_stop : AtStop) where
 
   -- ---- it is laid down
 
-  laid_other : (c1 : Course) (r : Name) → r ≢ v → (with_fault v c1).laid r ≡ c1.laid r
+  laid_other : (c1 : JournalState) (r : Name) → r ≢ v → (with_fault v c1).laid r ≡ c1.laid r
   laid_other c1 r a = ap (λ b. b || c1.laid r) (differs name_test v r (λ e. a (sym e)))
 
-  laid_here : (c1 : Course) → (with_fault v c1).laid v ≡ true
+  laid_here : (c1 : JournalState) → (with_fault v c1).laid v ≡ true
   laid_here c1 = ap (λ b. b || c1.laid v) (itself name_test v)
 
   pub laid_entry : Halted → u.faulted ≡ true → Entry_of G c s u i d
@@ -158,7 +158,7 @@ module _ (at_stop : AtStop) where
         (subst (λ y. Linked G lv c1 h.state y) (sym (after_laid G i h.turn u bad)) linked);
   }
     where
-      c1 : Course
+      c1 : JournalState
       c1 = with_fault v c
 
       event_is : event_of G.g.limits u h.turn ≡ event.Laid
@@ -212,10 +212,10 @@ module _ (at_stop : AtStop) where
       t1 : StateOf G.g
       t1 = with_change {L = superpascal G.g} (Faults v f) h.state
 
-      c0 : Course
+      c0 : JournalState
       c0 = with_ticks v (ticks_of G.g t1 v) c
 
-      c1 : Course
+      c1 : JournalState
       c1 = with_fault v c0
 
       known_then : StateKeeps G.g h.state

@@ -31,7 +31,7 @@ use Rattle.sp_code.specs.Control.{has_ended}
 use Rattle.sp_code.specs.Control.{is_ready, standing, entries_of}
 use Rattle.sp_code.specs.Control as ctrl
 use Rattle.sp_code.specs.Machine.{Stop, Forks, Opens, Sends, Receives, Ends, Pauses, Config}
-use Rattle.sp_code.specs.Emitted.{program_code}
+use Rattle.sp_code.specs.TreeCode.{program_code}
 use Rattle.sp_code.specs.Memory.{Memory}
 use Rattle.sp_code.specs.Memory as memory
 use Rattle.sp_code.specs.PlainStore.{plain}
@@ -41,7 +41,7 @@ use Rattle.sp_codegen.specs.TurnAgrees.{code_run}
 use Rattle.sp_history.specs.Agreement.{ToSend, ToReceive, Finished, phase, phase_in, IsOrderly, AgreesWithSystem}
 use Rattle.sp_history.specs.Agreement.{HasOuts}
 use Rattle.sp_history.specs.Agreement.{Reaches}
-use Rattle.sp_history.proofs.Agreeing.{orderly_start, agrees_start}
+use Rattle.sp_history.proofs.ControlAgreement.{orderly_start, agrees_start}
 use Rattle.sp_history.proofs.Holders.{one_holder}
 use Rattle.sp_history.proofs.Legal.{reaches_leads, reaches_keeps}
 use Rattle.sp_history.proofs.Outs.{outs_start, outs_all, nobody_runs}

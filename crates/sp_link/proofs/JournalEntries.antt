@@ -8,11 +8,11 @@ use Rattle.sp_meaning.specs.LocalWork.{WorkOutcome, Computed, EndsInFault, IllFo
 use Rattle.sp_meaning.specs.Actions.{Stepped, Ticked, Opened, Forked, Offered, Ended}
 use Rattle.sp_meaning.specs.Run.{Store}
 use Rattle.sp_meaning.specs.Runs.{start}
-use Rattle.sp_meaning.specs.Along.{no_course}
+use Rattle.sp_meaning.specs.Along.{before_entries}
 use Rattle.sp_meaning.specs.Turn as source
 use Rattle.sp_code.specs.PlainStore.{plain}
 use Rattle.sp_code.specs.System.{System, IsSystem, opening_system, system_after_turn, event_of}
-use Rattle.sp_code.proofs.Turning.{turn_same}
+use Rattle.sp_code.proofs.OneTurn.{turn_same}
 use Rattle.sp_codegen.proofs.Safe.{AtEnd}
 use Rattle.sp_link.proofs.TurnsMeet.{outcome, kept, turned, ends, result}
 use Rattle.sp_link.proofs.Ends.{finishing}
@@ -73,7 +73,7 @@ module _ (at_stop : AtStop) where
     by_fault true f r e x t y = laying at_stop z r e x t f
     by_fault false f r e x t y = by_no_fault r e x t y f
 
-    abbrev kt : Rattle.sp_meaning.proofs.Owned.Keeps_to G.g.program (Rattle.sp_link.proofs.Relation.W_of G lv)
+    abbrev kt : Rattle.sp_meaning.proofs.RightsInvariant.Keeps_to G.g.program (Rattle.sp_link.proofs.Relation.W_of G lv)
         (Rattle.sp_link.proofs.Relation.R_of G lv) s.forks (q at_stop) (pr at_stop)
     kt = keeps_to at_stop
 
@@ -124,9 +124,9 @@ module _ (G : RunContext) where
       }))
 
   -- where the system is defined along a journal, the meaning is
-  pub system_is_meaning : (lv : RightsOfAll G) → Now G lv no_course (start G.g) (opening_system plain (run_is G))
+  pub system_is_meaning : (lv : RightsOfAll G) → Now G lv before_entries (start G.g) (opening_system plain (run_is G))
       → (es : List Entry) (t : System Plain) → AllBegan G first_births es → IsSystem plain (run_is G) es t
-      → Goes_along G no_course (start G.g) first_births es t
+      → Goes_along G before_entries (start G.g) first_births es t
   system_is_meaning lv l es t b h =
-      goes_along G one_entry es lv no_course (start G.g) (opening_system plain (run_is G)) t l b
+      goes_along G one_entry es lv before_entries (start G.g) (opening_system plain (run_is G)) t l b
       h

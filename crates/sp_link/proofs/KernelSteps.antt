@@ -13,7 +13,7 @@ use Rattle.sp_meaning.specs.SuperPascal.{superpascal, act_tree, action_of, act_o
 use Rattle.sp_meaning.specs.Run.{Store}
 use Rattle.sp_meaning.specs.Runs.{StateOf, total_limits, running_process, next_state, happening_at, happening_of}
 use Rattle.sp_meaning.proofs.SilentActions.{IsDead}
-use Rattle.sp_meaning.proofs.Reached.{next_is}
+use Rattle.sp_meaning.proofs.StepLaws.{next_is}
 use Rattle.sp_code.specs.Memory.{Memory}
 use Rattle.sp_codegen.specs.FramePairs.{FramePair}
 use Rattle.sp_codegen.proofs.FramePairs.{from_length}

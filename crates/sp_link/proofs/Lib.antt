@@ -14,7 +14,7 @@ mod KernelSteps
 mod Rejoins
 mod Newborns
 mod Forks
-mod Scoping
+mod DeclaredUses
 mod Splits
 mod Parallels
 mod Foralls

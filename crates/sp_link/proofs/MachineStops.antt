@@ -23,11 +23,11 @@ use Rattle.sp_code.specs.Turns.{RunsTo}
 use Rattle.sp_code.specs.Scopes.{Scope, OfIndex, Channels, sort}
 use Rattle.sp_code.specs.Places.{after_statement}
 use Rattle.sp_code.specs.CodeOfTree.{CodeAt, HasFork, HasWords, StatementAt, ChildrenAt}
-use Rattle.sp_code.specs.Emitted.{children_tables, child_table}
+use Rattle.sp_code.specs.TreeCode.{children_tables, child_table}
 use Rattle.sp_codegen.specs.FramePairs.{FramePair}
 use Rattle.sp_codegen.specs.Executions.{Execution}
 use Rattle.sp_codegen.specs.Relation.{Placed}
-use Rattle.sp_codegen.specs.Following.{CodeFollows, PayloadIs, ForkIs, IsOwned, Turned}
+use Rattle.sp_codegen.specs.CodePositions.{CodeFollows, PayloadIs, ForkIs, IsOwned, Turned}
 
 module _ (ex : Execution (Memory Plain)) where
   open ex use {

@@ -23,11 +23,11 @@ use Rattle.sp_code.proofs.StoreLaws.{piece_holds}
 use Rattle.sp_codegen.specs.Relation.{StackHolds}
 use Rattle.sp_codegen.specs.FramePairs.{FramePair}
 use Rattle.sp_codegen.specs.Shapes.{Flat, SameShape, leaves}
-use Rattle.sp_codegen.specs.Following.{IsOwned, cells_in}
-use Rattle.sp_codegen.specs.Standing.{PointsTo}
-use Rattle.sp_codegen.proofs.Reading.{simple_value, has_all, shaped_size}
+use Rattle.sp_codegen.specs.CodePositions.{IsOwned, cells_in}
+use Rattle.sp_codegen.specs.MemoryRelation.{PointsTo}
+use Rattle.sp_codegen.proofs.Locations.{simple_value, has_all, shaped_size}
 use Rattle.sp_codegen.proofs.Shapes.{cells_length}
-use Rattle.sp_codegen.proofs.Writing.{put_cells_law}
+use Rattle.sp_codegen.proofs.Stores.{put_cells_law}
 use Rattle.sp_link.proofs.Relation.{RunContext, BirthRights, Called, Named, Rel, St, ProcessMatches, Ca, HasOwnTarget}
 use Rattle.sp_link.proofs.Relation.{ops}
 

@@ -14,13 +14,13 @@ use Rattle.sp_code.specs.declared.code.Parts.{Parts as Code}
 use Rattle.sp_code.specs.Memory.{Memory}
 use Rattle.sp_codegen.specs.FramePairs.{FramePair}
 use Rattle.sp_codegen.specs.Shapes.{leaves, CellIs, CellsAre, Flat}
-use Rattle.sp_codegen.specs.Standing.{Agrees}
-use Rattle.sp_codegen.proofs.Joining.{Joining}
+use Rattle.sp_codegen.specs.MemoryRelation.{Agrees}
+use Rattle.sp_codegen.proofs.Joins.{Joining}
 use Rattle.std.proofs.Common.{◌≡◌, ◌⊎◌, zero, suc, ◌+◌, length, if◌then◌else◌, refl, sym, ap, ◌∙◌, arith}
 use Rattle.sp_meaning.specs.Model.{Condition, Payload, Message, Takes}
 use Rattle.sp_meaning.specs.LocalWork.{LocationContent, Tree, Position, Written, Address, Item, Process}
 use Rattle.sp_meaning.specs.Runs.{StateOf}
-use Rattle.sp_meaning.specs.Along.{Course}
+use Rattle.sp_meaning.specs.Along.{JournalState}
 use Rattle.sp_meaning.specs.Steps.{has_ended}
 use Rattle.sp_meaning.proofs.Rights.{OwnLocation}
 use Rattle.sp_code.specs.Machine.{Entry, Config, Stop, At}
@@ -227,7 +227,7 @@ module _ (G : RunContext) where
         told_more (At pc st n) h = h
 
     -- whatever it does
-    pub does_more : (c : Course) (s : StateOf G.g) (opens : ℕ) (x : sys.Condition Plain)
+    pub does_more : (c : JournalState) (s : StateOf G.g) (opens : ℕ) (x : sys.Condition Plain)
         → Performs G lf kids q c s opens x → Performs (one_more G) lf kids q c s opens x
     does_more c s opens sys.Absent h = h
     does_more c s opens (sys.Working d) (pr, runs, stands, opens_are, not_laid) = (

@@ -4,10 +4,10 @@ use Rattle.std.proofs.Common.{◌≡◌, inl, inr, ⊎_elim, ℕ, ◌∷◌, sym
 use Rattle.sp_cell.specs.Map.{Plain}
 use Rattle.sp_meaning.specs.Model.{Name, Payload, Message, Takes, Condition, Absent, Works, Waits, Joins, Ended}
 use Rattle.sp_meaning.specs.LocalWork.{Loc, LocationContent, Address, Process}
-use Rattle.sp_meaning.specs.Owning.{MayTake}
+use Rattle.sp_meaning.specs.Rights.{MayTake}
 use Rattle.sp_meaning.specs.Runs.{StateOf}
-use Rattle.sp_meaning.specs.Along.{Course}
-use Rattle.sp_meaning.proofs.Owned.{Inv, ConditionInRights, Keeps_to, more_fit}
+use Rattle.sp_meaning.specs.Along.{JournalState}
+use Rattle.sp_meaning.proofs.RightsInvariant.{Inv, ConditionInRights, Keeps_to, more_fit}
 use Rattle.sp_meaning.proofs.Rights.{OwnOrGiven}
 use Rattle.sp_code.specs.System as sys
 use Rattle.sp_link.proofs.Relation.{RunContext, RightsOfAll, Performs, Performs_all}
@@ -15,7 +15,7 @@ use Rattle.sp_link.proofs.Relation.{RunContext, RightsOfAll, Performs, Performs_
 -- what a process does is told by its life and those of its children
 pub does_lives : (G : RunContext) (lv lv1 : RightsOfAll G) (r : Name) → lv1 r ≡ lv r
     → ((k i : ℕ) → lv1 ((k, i) ∷ r) ≡ lv ((k, i) ∷ r))
-    → (c : Course) (s : StateOf G.g) (opens : ℕ) (x : sys.Condition Plain) → Performs_all G lv r c s opens x
+    → (c : JournalState) (s : StateOf G.g) (opens : ℕ) (x : sys.Condition Plain) → Performs_all G lv r c s opens x
     → Performs_all G lv1 r c s opens x
 does_lives G lv lv1 r e h c s opens x d =
     subst (λ y. Performs G (lv1 r) y r c s opens x) (λ j k i. sym (h k i) j)

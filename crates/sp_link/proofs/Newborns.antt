@@ -12,8 +12,8 @@ use Rattle.sp_meaning.specs.SuperPascal.{superpascal}
 use Rattle.sp_meaning.specs.Runs.{StateOf}
 use Rattle.sp_meaning.proofs.Keys.{name_test}
 use Rattle.sp_meaning.proofs.Maps.{at_same, at_other}
-use Rattle.sp_meaning.proofs.Owned.{after_births}
-use Rattle.sp_meaning.proofs.Reached.{Conditions}
+use Rattle.sp_meaning.proofs.RightsInvariant.{after_births}
+use Rattle.sp_meaning.proofs.StepLaws.{Conditions}
 use Rattle.sp_link.proofs.Relation.{BirthRights}
 
 abbrev pub cons : ℕ × ℕ → Name → Name

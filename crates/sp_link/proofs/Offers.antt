@@ -90,7 +90,7 @@ module _ (at_stop : AtStop) (z : MatchesNow at_stop)
           g1 t.stop → fault_of G.g.limits u (Stopped t.stop (At t.pc t.stack t.memory)) ≡ Some fault.F15
       found (Message (Tree a)) e h = ap (λ b. fault_of G.g.limits u (Stopped b (At t.pc t.stack t.memory))) h.2
           ∙ ap (λ b. sys.first_fault (if b then Some fault.F15 else None)
-          (sys.clash_of u (machine.Sends h.0 kd (Rattle.sp_codegen.specs.Following.cells_in h.1)))) full
+          (sys.clash_of u (machine.Sends h.0 kd (Rattle.sp_codegen.specs.CodePositions.cells_in h.1)))) full
       found (Message (Position n)) e h = absurd h
       found (Message (Written bs)) e h = absurd h
       found (Takes a) e h = ap (λ b. fault_of G.g.limits u (Stopped b (At t.pc t.stack t.memory))) h.2

@@ -33,14 +33,14 @@ use Rattle.sp_meaning.specs.Actions.{Action, Offered}
 use Rattle.sp_meaning.specs.SuperPascal.{superpascal}
 use Rattle.sp_meaning.specs.Run.{Store}
 use Rattle.sp_meaning.specs.Runs.{StateOf, total_limits, next_state, happening_at, happening_of}
-use Rattle.sp_meaning.specs.Along.{Course, ticks_in, ticks_of, with_ticks}
+use Rattle.sp_meaning.specs.Along.{JournalState, ticks_in, ticks_of, with_ticks}
 use Rattle.sp_meaning.specs.Turn as source
 use Rattle.sp_meaning.proofs.Instance.{loc_test}
 use Rattle.sp_meaning.proofs.Keys.{name_test, channel_test, number_or}
 use Rattle.sp_meaning.proofs.Maps.{at_same, at_other, differs, itself, same_or_not}
-use Rattle.sp_meaning.proofs.Owned.{Inv, ConditionInRights}
+use Rattle.sp_meaning.proofs.RightsInvariant.{Inv, ConditionInRights}
 use Rattle.sp_meaning.proofs.Parallel.{IsAlone}
-use Rattle.sp_meaning.proofs.Reached.{StateKeeps, step_well, raised, lowered}
+use Rattle.sp_meaning.proofs.StepLaws.{StateKeeps, step_well, raised, lowered}
 use Rattle.sp_meaning.proofs.Rights.{OwnOrGiven}
 use Rattle.sp_meaning.proofs.Sound.{step_sound}
 use Rattle.sp_meaning.proofs.Status.{working_lives}
@@ -51,7 +51,7 @@ use Rattle.sp_code.specs.PlainStore.{plain}
 use Rattle.sp_code.specs.Scopes.{sort}
 use Rattle.sp_code.specs.System.{System, system_after_turn, event_of, event_or, fault_of, apply_unless_fault, on_store}
 use Rattle.sp_code.specs.System as sys
-use Rattle.sp_codegen.specs.Following.{cells_in}
+use Rattle.sp_codegen.specs.CodePositions.{cells_in}
 use Rattle.sp_link.proofs.AtOffer as ao
 use Rattle.sp_link.proofs.AtStop.{w, p1, known_at, rights_at, ended_at, other_name, does_at}
 use Rattle.sp_link.proofs.Halts.{failed_entry, offered_halt}
@@ -245,7 +245,7 @@ module _ (at_stop : AtStop) (z : MatchesNow at_stop)
           (same_or_not name_test b zn))
           (same_or_not name_test b v)
 
-      abbrev c1 : Course
+      abbrev c1 : JournalState
       c1 = with_ticks v (ticks_of G.g t1 v) c
 
       since_here : c1.since v ≡ t.memory.ticks
@@ -414,7 +414,7 @@ module _ (at_stop : AtStop) (z : MatchesNow at_stop)
       alone_z = inr (ch, subst (λ b. WaitsOn ch b) (sym waits) on)
 
       may_z : OwnOrGiven (W_of G lv) zn a.spot
-      may_z = (subst (λ b. Rattle.sp_meaning.specs.Owning.MayTake G.g.program (λ k. OwnOrGiven (W_of G lv) zn k)
+      may_z = (subst (λ b. Rattle.sp_meaning.specs.Rights.MayTake G.g.program (λ k. OwnOrGiven (W_of G lv) zn k)
           (λ k. OwnOrGiven (R_of G lv) zn k) b) payload2
           (subst (λ b. ConditionInRights G.g.program (W_of G lv) (R_of G lv) x.state.forks zn b) waits
           (rights_then.holds zn)).1)
@@ -422,7 +422,7 @@ module _ (at_stop : AtStop) (z : MatchesNow at_stop)
       abbrev t1s : StateOf G.g
       t1s = t1 a (Tree value) same_kind msg zn alone_z (inr refl) may_z
 
-      abbrev c1s : Course
+      abbrev c1s : JournalState
       c1s = c1 a (Tree value) same_kind msg zn alone_z (inr refl) may_z
 
       since_s : c1s.since v ≡ t.memory.ticks
@@ -543,13 +543,13 @@ module _ (at_stop : AtStop) (z : MatchesNow at_stop)
       alone_v = inl (x.left, x.runs)
 
       may_v : OwnOrGiven (W_of G lv) v a.spot
-      may_v = subst (λ b. Rattle.sp_meaning.specs.Owning.MayTake G.g.program (λ k. OwnOrGiven (W_of G lv) v k)
+      may_v = subst (λ b. Rattle.sp_meaning.specs.Rights.MayTake G.g.program (λ k. OwnOrGiven (W_of G lv) v k)
           (λ k. OwnOrGiven (R_of G lv) v k) b) cg_is (ao.holds at_stop z ch kd cg todo o m x t y).1
 
       abbrev t1r : StateOf G.g
       t1r = t1 a (Tree value) same_kind msg_r v alone_v (inl refl) may_v
 
-      abbrev c1r : Course
+      abbrev c1r : JournalState
       c1r = c1 a (Tree value) same_kind msg_r v alone_v (inl refl) may_v
 
       since_r : c1r.since v ≡ t.memory.ticks

@@ -5,7 +5,7 @@ use Rattle.std.proofs.Common.{cond, if◌then◌else◌, eq-eqb, refl, sym, ap, 
 use Rattle.std.specs.Prelude.{◌≢◌, nat_lt}
 use Rattle.std.proofs.lemmas.Bool.{ne_eqb}
 use Rattle.sp_journal.specs.Births.{channel}
-use Rattle.sp_meaning.proofs.Owned.{ConditionInRights}
+use Rattle.sp_meaning.proofs.RightsInvariant.{ConditionInRights}
 use Rattle.sp_meaning.proofs.Keys.{channel_test, name_test, number_or}
 use Rattle.sp_link.proofs.AfterEntry.{stand_again, follows_again, payload_again}
 use Rattle.sp_base.specs.declared.fault.Fault.{Fault}
@@ -28,11 +28,11 @@ use Rattle.sp_meaning.specs.Actions.{Action, Offered}
 use Rattle.sp_meaning.specs.SuperPascal.{with_todo, superpascal}
 use Rattle.sp_meaning.specs.Run.{Store}
 use Rattle.sp_meaning.specs.Runs.{StateOf, total_limits, next_state, happening_at}
-use Rattle.sp_meaning.specs.Along.{Course, ticks_in, ticks_of, with_ticks}
+use Rattle.sp_meaning.specs.Along.{JournalState, ticks_in, ticks_of, with_ticks}
 use Rattle.sp_meaning.specs.Turn as source
 use Rattle.sp_meaning.proofs.Maps.{at_same, at_other, differs, same_or_not}
-use Rattle.sp_meaning.proofs.Owned.{Inv}
-use Rattle.sp_meaning.proofs.Reached.{StateKeeps, step_well, raised, lowered}
+use Rattle.sp_meaning.proofs.RightsInvariant.{Inv}
+use Rattle.sp_meaning.proofs.StepLaws.{StateKeeps, step_well, raised, lowered}
 use Rattle.sp_meaning.proofs.Sound.{step_sound}
 use Rattle.sp_meaning.proofs.Status.{working_lives}
 use Rattle.sp_code.specs.Machine.{Config, At}
@@ -120,7 +120,7 @@ module _ (at_stop : AtStop) (z : MatchesNow at_stop)
   abbrev what : Happening
   what = Is_offered (way_of cg) ch
 
-  abbrev c1 : Course
+  abbrev c1 : JournalState
   c1 = with_ticks v (ticks_of G.g t1 v) c
 
   waits : t1.condition v ≡ Waits off

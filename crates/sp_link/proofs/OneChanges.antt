@@ -10,12 +10,12 @@ use Rattle.sp_meaning.specs.Steps.{own_part_in, has_ended, all_ended, IsAlive as
 use Rattle.sp_meaning.specs.LocalWork.{Loc, LocationContent, Address, Process}
 use Rattle.sp_meaning.specs.SuperPascal.{weight_of}
 use Rattle.sp_meaning.specs.Runs.{StateOf, total_limits, running_process}
-use Rattle.sp_meaning.specs.Along.{Course, with_ticks}
+use Rattle.sp_meaning.specs.Along.{JournalState, with_ticks}
 use Rattle.sp_meaning.proofs.Keys.{name_test, number_or}
 use Rattle.sp_meaning.proofs.Maps.{same_or_not, differs}
-use Rattle.sp_meaning.proofs.Owned.{Inv, Keeps_to, ConditionInRights, works_well}
+use Rattle.sp_meaning.proofs.RightsInvariant.{Inv, Keeps_to, ConditionInRights, works_well}
 use Rattle.sp_meaning.proofs.Parallel.{IsAlone}
-use Rattle.sp_meaning.proofs.Reached.{StateKeeps, working_keeps, K}
+use Rattle.sp_meaning.proofs.StepLaws.{StateKeeps, working_keeps, K}
 use Rattle.sp_meaning.proofs.Rights.{OwnOrGiven}
 use Rattle.sp_meaning.proofs.Status.{working_lives, lives_ended}
 use Rattle.sp_meaning.proofs.Weights.{AreLight}
@@ -27,7 +27,7 @@ use Rattle.sp_link.proofs.OthersStay.{does_stay}
 use Rattle.sp_link.proofs.Relation.{AtStop}
 
 -- an entry notes the ticks of its process alone
-pub since_other : (c : Course) (v : Name) (n : ℕ) (a : Name) → a ≢ v → (with_ticks v n c).since a ≡ c.since a
+pub since_other : (c : JournalState) (v : Name) (n : ℕ) (a : Name) → a ≢ v → (with_ticks v n c).since a ≡ c.since a
 since_other c v n a e = ap (λ b. cond b n (c.since a)) (differs name_test v a (λ h. e (sym h)))
 
 -- a working process, whatever condition it has, keeps to its rights
@@ -114,7 +114,7 @@ module _ (at_stop : AtStop) where
       go true e = absurd (lives_ended (s.condition q) (working_lives s.condition q (s.condition q) pr runs_as_pr) e)
       go false e = refl
 
-  module _ (t : StateOf G.g) (c1 : Course) (x : sys.Condition Plain) (f : Bool)
+  module _ (t : StateOf G.g) (c1 : JournalState) (x : sys.Condition Plain) (f : Bool)
       (other : (r : Name) → r ≢ q → t.condition r ≡ s.condition r) (forks : t.forks ≡ s.forks)
       (pending : t.pending ≡ s.pending) (totals : t.totals ≡ s.totals)
       (stays : (a : Loc) → (t.store a ≡ s.store a) ⊎ OwnOrGiven (W_of G lv) q a) (known : StateKeeps G.g t)

@@ -6,9 +6,9 @@ use Rattle.std.proofs.lemmas.Option.{none-some, same_Some}
 use Rattle.sp_meaning.specs.Entries.{Happening, Occurrence, Opened, Forked, Offered, Ended, Faulted, Laid, Paused}
 use Rattle.sp_meaning.specs.LocalWork.{RunInput}
 use Rattle.sp_meaning.specs.Runs.{StateOf, happening_at, start}
-use Rattle.sp_meaning.specs.Along.{Either, is_due_after, Turn, Course, KernelStep, EntryStep, Along, IsAlong}
+use Rattle.sp_meaning.specs.Along.{Either, is_due_after, Turn, JournalState, KernelStep, EntryStep, Along, IsAlong}
 use Rattle.sp_meaning.specs.Along.{course_after, ticks_of}
-use Rattle.sp_meaning.specs.Along.{no_course}
+use Rattle.sp_meaning.specs.Along.{before_entries}
 
 module _ (g : RunInput) (turn since : ℕ) (who : List (ℕ × ℕ)) where
   -- two ends of a turn are one, after one number of steps
@@ -56,13 +56,13 @@ module _ (g : RunInput) (turn : ℕ) where
   SameCountAndState n k a b = (n ≡ k) × (a ≡ b)
 
   -- what is left after an entry
-  abbrev IsAlongRest : List Occurrence → StateOf g → Course → StateOf g → ℕ → Type 0
+  abbrev IsAlongRest : List Occurrence → StateOf g → JournalState → StateOf g → ℕ → Type 0
   IsAlongRest es t c s n = Along g turn c s es n t
 
   module _ (es : List Occurrence) (t v : StateOf g)
-      (ih : (c : Course) (s : StateOf g) (n k : ℕ) → Along g turn c s es n t → Along g turn c s es k v
+      (ih : (c : JournalState) (s : StateOf g) (n k : ℕ) → Along g turn c s es n t → Along g turn c s es k v
       → SameCountAndState n k t v)
-      (c : Course) (m : StateOf g) (p : Bool) (q : List (ℕ × ℕ)) where
+      (c : JournalState) (m : StateOf g) (p : Bool) (q : List (ℕ × ℕ)) where
     kernel_one : (what : Happening) (n k : ℕ) → KernelStep g (IsAlongRest es t) c m p q what n
         → KernelStep g (IsAlongRest es v) c m p q what k → SameCountAndState n k t v
     kernel_one what n k (_, _, to, rest, count, (_, _, _, goes), after)
@@ -83,7 +83,7 @@ module _ (g : RunInput) (turn : ℕ) where
     entry_one Ended n k h i = kernel_one Ended n k h i
     entry_one (Faulted f) n k h i = kernel_one (Faulted f) n k h i
 
-  pub along_one : (es : List Occurrence) (t v : StateOf g) (c : Course) (s : StateOf g) (n k : ℕ)
+  pub along_one : (es : List Occurrence) (t v : StateOf g) (c : JournalState) (s : StateOf g) (n k : ℕ)
       → Along g turn c s es n t → Along g turn c s es k v → SameCountAndState n k t v
   along_one [] t v c s n k h i = (h.0 ∙ sym i.0, h.1 ∙ sym i.1)
   along_one (e ∷ es) t v c s n k (_, n0, rest, mid, paused, count, turn0, enters)
@@ -100,4 +100,4 @@ module _ (g : RunInput) (turn : ℕ) where
 -- from the start
 pub one_state : (g : RunInput) (turn : ℕ) (es : List Occurrence) (n k : ℕ) (t v : StateOf g) → IsAlong g turn es n t
     → IsAlong g turn es k v → (n ≡ k) × (t ≡ v)
-one_state g turn es n k t v h i = along_one g turn es t v no_course (start g) n k h i
+one_state g turn es n k t v h i = along_one g turn es t v before_entries (start g) n k h i

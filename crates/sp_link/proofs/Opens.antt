@@ -28,13 +28,13 @@ use Rattle.sp_meaning.specs.Actions.{Action, Opened}
 use Rattle.sp_meaning.specs.SuperPascal.{superpascal, act_tree, with_todo}
 use Rattle.sp_meaning.specs.Run.{Store}
 use Rattle.sp_meaning.specs.Runs.{StateOf, total_limits, next_state, happening_at, happening_of}
-use Rattle.sp_meaning.specs.Along.{Course, ticks_in, ticks_of, with_ticks}
+use Rattle.sp_meaning.specs.Along.{JournalState, ticks_in, ticks_of, with_ticks}
 use Rattle.sp_meaning.specs.Turn as source
 use Rattle.sp_meaning.proofs.Keys.{name_test, number_or}
 use Rattle.sp_meaning.proofs.Maps.{at_same, at_other, itself, same_or_not}
-use Rattle.sp_meaning.proofs.Moved.{stored, answered}
-use Rattle.sp_meaning.proofs.Owned.{Inv, ConditionInRights}
-use Rattle.sp_meaning.proofs.Reached.{StateKeeps, step_well, raised, lowered}
+use Rattle.sp_meaning.proofs.LocalSteps.{stored, answered}
+use Rattle.sp_meaning.proofs.RightsInvariant.{Inv, ConditionInRights}
+use Rattle.sp_meaning.proofs.StepLaws.{StateKeeps, step_well, raised, lowered}
 use Rattle.sp_meaning.proofs.Rights.{OwnLocation}
 use Rattle.sp_meaning.proofs.Sound.{step_sound}
 use Rattle.sp_code.specs.Machine.{Config, At}
@@ -46,7 +46,7 @@ use Rattle.sp_code.specs.Scopes.{sort}
 use Rattle.sp_code.specs.System.{System, system_after_turn, event_of, event_or, fault_of, apply_unless_fault, on_store}
 use Rattle.sp_code.specs.System as sys
 use Rattle.sp_codegen.specs.Relation.{OneCell, StackHolds}
-use Rattle.sp_codegen.proofs.Writing.{store_law}
+use Rattle.sp_codegen.proofs.Stores.{store_law}
 use Rattle.sp_link.proofs.AfterEntry.{stand_again, follows_again}
 use Rattle.sp_link.proofs.AtStop.{known_at}
 use Rattle.sp_link.proofs.Halts.{failed_entry, opened_halt}
@@ -63,7 +63,7 @@ use Rattle.sp_link.proofs.Relation.{AtStop}
 use Rattle.sp_link.proofs.Pauses.{MatchesNow, OpensAt}
 use Rattle.sp_link.proofs.OneChanges.{opens_are, unlaid}
 
-module _ (G : RunContext) (lv : RightsOfAll G) (c : Course) (s : StateOf G.g) (u : System Plain)
+module _ (G : RunContext) (lv : RightsOfAll G) (c : JournalState) (s : StateOf G.g) (u : System Plain)
     (l : Linked G lv c s u) where
   -- a pending offer is on a channel that is open
   pending_open : (ch : Channel) (zn : Name) → s.pending ch ≡ Some zn → (j : ℕ) × Named G ch j
@@ -264,7 +264,7 @@ module _ (at_stop : AtStop) (z : MatchesNow at_stop)
         (sym cond_v ∙ subst (λ k. t1.condition k ≡ Absent) f e) tt) (λ (f : b ≢ v). h (sym (cond_r b f) ∙ e))
         (same_or_not name_test b v)
 
-    abbrev c1 : Course
+    abbrev c1 : JournalState
     c1 = with_ticks v (ticks_of G.g t1 v) c
 
     since_here : c1.since v ≡ t.memory.ticks

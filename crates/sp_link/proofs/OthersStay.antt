@@ -11,14 +11,14 @@ use Rattle.sp_meaning.specs.Disjoint.{AreParallel}
 use Rattle.sp_meaning.specs.LocalWork.{Loc, Cell, Input, Output, LocationContent, Address, LocalState, Process}
 use Rattle.sp_meaning.specs.Run.{Store}
 use Rattle.sp_meaning.specs.Runs.{StateOf}
-use Rattle.sp_meaning.specs.Along.{Course}
+use Rattle.sp_meaning.specs.Along.{JournalState}
 use Rattle.sp_meaning.proofs.Rights.{OwnLocation, OwnOrGiven, Fair_rights, parallel_apart}
 use Rattle.sp_meaning.proofs.Parallel.{IsAlone, alone_lives, ancestors_live}
 use Rattle.sp_code.specs.Machine.{Config, At}
 use Rattle.sp_code.specs.Memory.{Memory}
 use Rattle.sp_code.specs.System as sys
 use Rattle.sp_codegen.specs.FramePairs.{FramePair}
-use Rattle.sp_codegen.proofs.Joining.{Joining, stand_same, joining_same}
+use Rattle.sp_codegen.proofs.Joins.{Joining, stand_same, joining_same}
 use Rattle.sp_link.proofs.ParallelOrBelow.{Under, stance, child_writes}
 use Rattle.sp_link.proofs.Relation.{RunContext, BirthRights, RightsOfAll, W_of, R_of, Called, Named, ProcessMatches}
 use Rattle.sp_link.proofs.Relation.{Joined, Lives_yet}
@@ -182,7 +182,7 @@ module _ (G : RunContext) (lv : RightsOfAll G) (s t : StateOf G.g) (sound : Soun
       }
 
     -- whatever it does
-    pub does_stay : (c c1 : Course) → c1.since r ≡ c.since r → c1.laid r ≡ c.laid r
+    pub does_stay : (c c1 : JournalState) → c1.since r ≡ c.since r → c1.laid r ≡ c.laid r
         → (c.faulted ≡ true → c1.faulted ≡ true) → (opens : ℕ) (x : sys.Condition Plain)
         → Performs_all G lv r c s opens x → Performs_all G lv r c1 t opens x
     does_stay c c1 si la fa opens sys.Absent h = h

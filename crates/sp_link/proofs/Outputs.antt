@@ -12,7 +12,7 @@ use Rattle.sp_meaning.specs.Steps.{has_ended, own_part_in, IsAlive as IsLive}
 use Rattle.sp_meaning.specs.LocalWork.{Output, Written, bytes_in, Process}
 use Rattle.sp_meaning.specs.Runs.{StateOf}
 use Rattle.sp_meaning.specs.Runs as run
-use Rattle.sp_meaning.specs.Along.{Course}
+use Rattle.sp_meaning.specs.Along.{JournalState}
 use Rattle.sp_meaning.proofs.Rights.{OwnOrGiven}
 use Rattle.sp_code.specs.Machine.{Config, At}
 use Rattle.sp_code.specs.Memory.{Memory}
@@ -21,7 +21,7 @@ use Rattle.sp_code.specs.System.{System, OutputIs, store_in, store_of}
 use Rattle.sp_code.specs.System as sys
 use Rattle.sp_link.proofs.Relation.{RunContext, RightsOfAll, R_of, OutputMatches, Performs_all, Linked, run_is}
 
-module _ (G : RunContext) (lv : RightsOfAll G) (c : Course) (s : StateOf G.g) (u : System Plain)
+module _ (G : RunContext) (lv : RightsOfAll G) (c : JournalState) (s : StateOf G.g) (u : System Plain)
     (l : Linked G lv c s u) where
   abbrev OutputIsSource : Type 0
   OutputIsSource = OutputIs plain (run_is G) u (run.output_of G.g s)

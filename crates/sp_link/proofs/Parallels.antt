@@ -17,7 +17,7 @@ use Rattle.sp_cell.specs.Spots.{In, NotIn}
 use Rattle.sp_meaning.specs.Model.{Name}
 use Rattle.sp_meaning.specs.LocalWork.{Loc, Output, LocalState, Identity, Computed, Item}
 use Rattle.sp_meaning.specs.Actions.{Birth, Forked, new_process, push, children}
-use Rattle.sp_meaning.specs.Owning.{Aimed, Used, Born}
+use Rattle.sp_meaning.specs.Rights.{Aimed, Used, Born}
 use Rattle.sp_meaning.specs.Run.{Store}
 use Rattle.sp_meaning.specs.Turn as source
 use Rattle.sp_meaning.proofs.Children.{AimedAt, UsedAt}
@@ -32,20 +32,20 @@ use Rattle.sp_code.specs.PlainStore.{plain}
 use Rattle.sp_code.specs.Places.{after_statement}
 use Rattle.sp_code.specs.Scopes.{Scope}
 use Rattle.sp_code.specs.Sound.{CanSplit}
-use Rattle.sp_code.specs.Emitted.{children_tables, child_table}
+use Rattle.sp_code.specs.TreeCode.{children_tables, child_table}
 use Rattle.sp_code.specs.CodeOfTree.{CodeAt as StandsIn, HasFork, HasWords, ChildrenAt}
 use Rattle.sp_code.specs.Tables.{child_at}
 use Rattle.sp_code.specs.System.{handing_of, plan_from, child_or, table_or}
 use Rattle.sp_code.specs.System as sys
 use Rattle.sp_codegen.specs.FramePairs.{sources}
-use Rattle.sp_codegen.proofs.Born.{ChildIs, Seen, table_at}
-use Rattle.sp_codegen.proofs.Handed.{shared_piece, output_unshared}
+use Rattle.sp_codegen.proofs.ChildIndexes.{ChildIs, Seen, table_at}
+use Rattle.sp_codegen.proofs.HandedUses.{shared_piece, output_unshared}
 use Rattle.sp_link.proofs.ChildrenStand as cs
 use Rattle.sp_link.proofs.Forks as fk
 use Rattle.sp_link.proofs.OneChanges.{q}
 use Rattle.sp_link.proofs.Pauses.{Entry_of, Meant, Kept_to}
 use Rattle.sp_code.proofs.Plans.{moved_by, shared_by, moved_in}
-use Rattle.sp_link.proofs.Scoping.{IsScoped, is_scoped}
+use Rattle.sp_link.proofs.DeclaredUses.{IsScoped, is_scoped}
 use Rattle.sp_link.proofs.Splits.{parallel_split, parts_differ}
 use Rattle.sp_link.proofs.Relation.{RunContext, BirthRights, W_of, R_of, Called, Named, Fresh}
 use Rattle.sp_link.proofs.Relation.{ProcessMatches, Handed, St}

@@ -14,10 +14,10 @@ use Rattle.sp_meaning.specs.LocalWork.{Loc, LocationContent, Address, LocalState
 use Rattle.sp_meaning.specs.SuperPascal.{with_todo}
 use Rattle.sp_meaning.specs.Run.{Store}
 use Rattle.sp_meaning.specs.Runs.{StateOf}
-use Rattle.sp_meaning.specs.Along.{Course, ticks_in, ticks_of, with_ticks, EntryStep, Turn as source_turn}
+use Rattle.sp_meaning.specs.Along.{JournalState, ticks_in, ticks_of, with_ticks, EntryStep, Turn as source_turn}
 use Rattle.sp_meaning.specs.Turn as source
 use Rattle.sp_meaning.proofs.Keys.{name_test}
-use Rattle.sp_meaning.proofs.Owned.{Keeps_to}
+use Rattle.sp_meaning.proofs.RightsInvariant.{Keeps_to}
 use Rattle.sp_meaning.proofs.Rights.{OwnOrGiven}
 use Rattle.sp_meaning.proofs.Maps.{itself, differs}
 use Rattle.sp_code.specs.Machine.{Config, At}
@@ -57,7 +57,7 @@ after_laid G i t u e = ap (λ b. record (if b then lays plain (run_is G) i (conf
     { births = births_after_event u.births i (if b then event.Laid else event_or (fault_of G.g.limits u t) t) }) e
 
 -- a turn, and the entry that it makes on both sides
-pub record Entry_of (G : RunContext) (c : Course) (s : StateOf G.g) (u : System Plain) (i : ℕ)
+pub record Entry_of (G : RunContext) (c : JournalState) (s : StateOf G.g) (u : System Plain) (i : ℕ)
     (d : Config (Memory Plain)) :
     Type 1 where
   pub turn : Turn (Memory Plain)
@@ -95,7 +95,7 @@ module _ (at_stop : AtStop) where
 
   -- the way to an entry that the next step makes, once it is known what the machine says
   abbrev pub way_of_step : (steps : ℕ) (at : StateOf G.g) → source_turn G.g G.pause (c.since w) w steps s at false
-      → (what : Happening) (t1 : StateOf G.g) → ((left : Course → StateOf G.g → ℕ → Type 0) (n : ℕ)
+      → (what : Happening) (t1 : StateOf G.g) → ((left : JournalState → StateOf G.g → ℕ → Type 0) (n : ℕ)
       → left (with_ticks w (ticks_of G.g t1 w) c) t1 n → EntryStep G.g left c at false w what (1 + n)) → (e : Happening)
       → what ≡ e → Way_on G c s w e
   way_of_step steps at turn what t1 enters e h = record {
@@ -202,7 +202,7 @@ module _ (at_stop : AtStop) where
         ticks : ticks_of G.g x.state w ≡ o.ticks
         ticks = ap ticks_in x.condition
 
-        c1 : Course
+        c1 : JournalState
         c1 = with_ticks w (ticks_of G.g x.state w) c
 
         since_here : c1.since w ≡ t.memory.ticks

@@ -13,7 +13,7 @@ use Rattle.sp_meaning.specs.Runs.{StateOf, output_of}
 use Rattle.sp_meaning.specs.Ends.{IsDone, IsIdle}
 use Rattle.sp_meaning.specs.Along.{IsAlong}
 use Rattle.sp_code.specs.declared.code.Parts.{Parts as Code}
-use Rattle.sp_code.specs.Emitted.{program_code}
+use Rattle.sp_code.specs.TreeCode.{program_code}
 use Rattle.sp_code.specs.NeverStops.{NeverStops}
 use Rattle.sp_code.specs.CodeOfTree.{BlocksAt}
 use Rattle.sp_code.specs.Machine.{Config}

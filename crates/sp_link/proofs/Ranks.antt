@@ -14,11 +14,11 @@ use Rattle.sp_tree.specs.Plain.{For, Case, Parallel, Forall, Assume, ReadValue, 
 use Rattle.sp_tree.specs.Plain.{WriteLine, Open, Send, Receive, Stmts, No, And, On, Arms, NoArm, Or}
 use Rattle.sp_code.specs.declared.instr.Instr.{Instr}
 use Rattle.sp_code.specs.declared.instr.Instr.TheVariants as i
-use Rattle.sp_code.specs.Emitted.{unary_code, binary_instr, standard_code, read_instr, index_instr, field_instr}
-use Rattle.sp_code.specs.Emitted.{write_instr, reading_instr, assign_instr, call_instr, test_code, tables_in, texts_in}
-use Rattle.sp_code.specs.Emitted.{end_instr, value_code, form_code, var_code, selectors_code, actuals_code, width_code}
-use Rattle.sp_code.specs.Emitted.{right_code, tests_code, code, code_all, code_children, code_arms, block_code}
-use Rattle.sp_code.specs.Emitted.{blocks_code, program_code}
+use Rattle.sp_code.specs.TreeCode.{unary_code, binary_instr, standard_code, read_instr, index_instr, field_instr}
+use Rattle.sp_code.specs.TreeCode.{write_instr, reading_instr, assign_instr, call_instr, test_code, tables_in, texts_in}
+use Rattle.sp_code.specs.TreeCode.{end_instr, value_code, form_code, var_code, selectors_code, actuals_code, width_code}
+use Rattle.sp_code.specs.TreeCode.{right_code, tests_code, code, code_all, code_children, code_arms, block_code}
+use Rattle.sp_code.specs.TreeCode.{blocks_code, program_code}
 use Rattle.sp_code.specs.Lengths.{value_length, stmt_length, all_length, children_length, arms_length, tests_length}
 use Rattle.sp_code.specs.Lengths.{blocks_length}
 use Rattle.sp_code.specs.Places.{after_value, after_test, after_tests, after_statement, after_all, after_children}
@@ -31,7 +31,7 @@ use Rattle.sp_code.specs.CodeOfTree.{HasAt}
 use Rattle.sp_code.proofs.Blocks.{has_self, program_count}
 use Rattle.sp_code.proofs.Counts.{value_count, value_after, test_after, tests_after, tests_count, stmt_after, all_after}
 use Rattle.sp_code.proofs.Counts.{arms_after, code_count, last_count}
-use Rattle.sp_code.proofs.Standing.{has_front, has_back}
+use Rattle.sp_code.proofs.CodePositions.{has_front, has_back}
 use Rattle.sp_link.proofs.BoundedRanks.{AllMost, bounded_ranked, most_max}
 use Rattle.sp_link.proofs.StraightCode.{AllStraight, IsStraight, addr_straight, assign_straight, binary_straight, both}
 use Rattle.sp_link.proofs.StraightCode.{call_straight, index_straight, input_straight, last, read_straight}

@@ -20,8 +20,8 @@ use Rattle.sp_meaning.proofs.Maps.{at_same, at_other}
 use Rattle.sp_meaning.proofs.Rights.{OwnLocation}
 use Rattle.sp_code.specs.Machine.{Config, At}
 use Rattle.sp_code.specs.Memory.{Memory}
-use Rattle.sp_codegen.specs.Standing.{spot_at}
-use Rattle.sp_codegen.proofs.Joining.{joined_joining, all_joined}
+use Rattle.sp_codegen.specs.MemoryRelation.{spot_at}
+use Rattle.sp_codegen.proofs.Joins.{joined_joining, all_joined}
 use Rattle.sp_codegen.proofs.Contents.{known_piece}
 use Rattle.sp_link.proofs.Relation.{RunContext, BirthRights, RightsOfAll, Named, Called, St, ProcessMatches, Joined}
 use Rattle.sp_link.proofs.Relation.{Handed, Lives_yet, Away_yet}

@@ -25,12 +25,12 @@ use Rattle.sp_meaning.specs.LocalWork.{Break, Process}
 use Rattle.sp_meaning.specs.Run.{Store}
 use Rattle.sp_meaning.specs.SuperPascal.{root}
 use Rattle.sp_meaning.specs.Runs.{StateOf}
-use Rattle.sp_meaning.specs.Along.{Course}
+use Rattle.sp_meaning.specs.Along.{JournalState}
 use Rattle.sp_meaning.proofs.Rights.{OwnLocation}
 use Rattle.sp_meaning.proofs.Keys.{channel_test}
-use Rattle.sp_meaning.proofs.Owned.{Inv}
+use Rattle.sp_meaning.proofs.RightsInvariant.{Inv}
 use Rattle.sp_meaning.proofs.Pure.{AreFunctionsPure, DoFunctionsTakeValues}
-use Rattle.sp_meaning.proofs.Reached.{StateKeeps}
+use Rattle.sp_meaning.proofs.StepLaws.{StateKeeps}
 use Rattle.sp_code.specs.declared.code.Layout.{Layout}
 use Rattle.sp_code.specs.declared.code.Parts.{Parts as Code}
 use Rattle.sp_code.specs.declared.instr.Instr.TheVariants as i
@@ -47,16 +47,16 @@ use Rattle.sp_code.specs.Shares.{SetsAre}
 use Rattle.sp_code.specs.Sizes.{HasSmallTypes}
 use Rattle.sp_code.specs.Sound.{AreLimits}
 use Rattle.sp_code.specs.CodeOfTree.{BlocksAt}
-use Rattle.sp_tree.specs.Formed.{IsFormed}
+use Rattle.sp_tree.specs.TreeShape.{IsFormed}
 use Rattle.sp_codegen.specs.FramePairs.{FramePair, pairs_from}
 use Rattle.sp_codegen.specs.TurnAgrees.{code_run, due_after}
 use Rattle.sp_codegen.specs.Executions.{Execution}
-use Rattle.sp_codegen.specs.Following.{CodeFollows, PayloadIs}
+use Rattle.sp_codegen.specs.CodePositions.{CodeFollows, PayloadIs}
 use Rattle.sp_codegen.specs.Relation.{Relation, KeepsRelation}
-use Rattle.sp_codegen.specs.Standing.{Live, Agrees, relation, spot_at}
-use Rattle.sp_codegen.proofs.Closing.{Laid}
+use Rattle.sp_codegen.specs.MemoryRelation.{Live, Agrees, relation, spot_at}
+use Rattle.sp_codegen.proofs.Returns.{Laid}
 use Rattle.sp_codegen.proofs.Instance.{instance}
-use Rattle.sp_codegen.proofs.Joining.{Joining}
+use Rattle.sp_codegen.proofs.Joins.{Joining}
 
 -- what a run of the code of a tree is of, and all that its journal gives
 pub record RunContext : Type 1 where
@@ -296,7 +296,7 @@ module _ (G : RunContext) where
       pub output : OutputMatches s c
 
     -- condition by condition
-    abbrev pub Performs : Course → StateOf G.g → ℕ → sys.Condition Plain → Type 0
+    abbrev pub Performs : JournalState → StateOf G.g → ℕ → sys.Condition Plain → Type 0
     Performs c s opens sys.Absent = ⊥
     Performs c s opens (sys.Working d) = (pr : Process) × (own_part_in s.condition q (s.condition q) ≡ Some pr)
         × (ProcessMatches (c.since q) pr s.store d ⊎ TooLarge s.store pr d) × (pr.who.opens ≡ opens)
@@ -322,7 +322,7 @@ module _ (G : RunContext) where
   abbrev pub R_of : RightsOfAll → Name → Loc → Type 0
   R_of lv q l = (lv q).R l
 
-  abbrev pub Performs_all : RightsOfAll → Name → Course → StateOf G.g → ℕ → sys.Condition Plain → Type 0
+  abbrev pub Performs_all : RightsOfAll → Name → JournalState → StateOf G.g → ℕ → sys.Condition Plain → Type 0
   Performs_all lv q c s opens x = Performs (lv q) (λ k i. lv ((k, i) ∷ q)) q c s opens x
 
   -- whose offer is pending, by name and by number
@@ -333,7 +333,7 @@ module _ (G : RunContext) where
   IsPending (Some q) (Some z) = Called q z
 
   -- the two states, after the same entries
-  pub record Linked (lv : RightsOfAll) (c : Course) (s : StateOf G.g) (u : System Plain) : Type 0 where
+  pub record Linked (lv : RightsOfAll) (c : JournalState) (s : StateOf G.g) (u : System Plain) : Type 0 where
     pub rights : Inv G.g.program (W_of lv) (R_of lv) s.condition s.forks
     pub known : StateKeeps G.g s
     -- the first process may read the output
@@ -363,7 +363,7 @@ module _ (G : RunContext) where
 pub record AtStop : Type 1 where
   pub run : RunContext
   pub lives : RightsOfAll run
-  pub course : Course
+  pub course : JournalState
   pub state : StateOf run.g
   pub system : System Plain
   pub linked : Linked run lives course state system
@@ -372,7 +372,7 @@ pub record AtStop : Type 1 where
   pub working : system.condition number ≡ sys.Working configuration
 
 -- by its parts
-abbrev pub stop_of : (G : RunContext) (lv : RightsOfAll G) (c : Course) (s : StateOf G.g) (u : System Plain)
+abbrev pub stop_of : (G : RunContext) (lv : RightsOfAll G) (c : JournalState) (s : StateOf G.g) (u : System Plain)
     → Linked G lv c s u → (i : ℕ) (d : Config (Memory Plain)) → u.condition i ≡ sys.Working d → AtStop
 stop_of G lv c s u l i d at = record {
   run = G;

@@ -17,7 +17,7 @@ use Rattle.sp_meaning.specs.Steps.{own_part_in, all_ended, has_ended}
 use Rattle.sp_meaning.specs.Entries.{Happening, Offered, Laid, Paused}
 use Rattle.sp_meaning.specs.LocalWork.{RunInput, Process}
 use Rattle.sp_meaning.specs.Runs.{StateOf, running_process, happening_at}
-use Rattle.sp_meaning.specs.Along.{Turn, Course, KernelStep, EntryStep, Along, with_fault, with_ticks, ticks_of}
+use Rattle.sp_meaning.specs.Along.{Turn, JournalState, KernelStep, EntryStep, Along, with_fault, with_ticks, ticks_of}
 use Rattle.sp_meaning.specs.Along.{course_after}
 use Rattle.sp_code.specs.Machine.{Config}
 use Rattle.sp_code.specs.Memory.{Memory}
@@ -35,27 +35,30 @@ use Rattle.sp_link.proofs.Relation.{stop_of}
 
 module _ (g : RunInput) where
   -- an entry's three forms
-  abbrev pub Forms : (Course → StateOf g → ℕ → Type 0) → Course → StateOf g → Bool → Name → Happening → ℕ → Type 0
+  abbrev pub Forms : (JournalState → StateOf g → ℕ → Type 0) → JournalState → StateOf g → Bool → Name → Happening → ℕ
+      → Type 0
   Forms left c m p q what n = ((what ≡ Laid) × (c.faulted ≡ true) × left (with_fault q c) m n)
       ⊎ (((what ≡ Paused) × (c.faulted ≡ false) × (p ≡ true) × left (with_ticks q (ticks_of g m q) c) m n)
       ⊎ KernelStep g left c m p q what n)
 
-  forms : (left : Course → StateOf g → ℕ → Type 0) (c : Course) (m : StateOf g) (p : Bool) (q : Name) (what : Happening)
+  forms : (left : JournalState → StateOf g → ℕ
+      → Type 0) (c : JournalState) (m : StateOf g) (p : Bool) (q : Name) (what : Happening)
       (n : ℕ) → EntryStep g left c m p q what n → Forms left c m p q what n
   forms left c m p q Laid n h = inl (refl, h.0, h.1)
   forms left c m p q Paused n h = inr (inl (refl, h.0, h.1, h.2))
   forms _ _ _ _ _ _ _ h = inr (inr h)
 
-  abbrev pub Here : Course → StateOf g → Course → StateOf g → ℕ → Type 0
+  abbrev pub Here : JournalState → StateOf g → JournalState → StateOf g → ℕ → Type 0
   Here c1 s1 c2 s2 n = (c2 ≡ c1) × (s2 ≡ s1)
 
   -- two entries from one place are one, and lead to one place
-  pub entry_one : (left : Course → StateOf g → ℕ → Type 0) (c c1 : Course) (m s1 : StateOf g) (p : Bool) (q : Name)
+  pub entry_one : (left : JournalState → StateOf g → ℕ
+      → Type 0) (c c1 : JournalState) (m s1 : StateOf g) (p : Bool) (q : Name)
       (a b : Happening) (n k : ℕ)
       → EntryStep g (Here c1 s1) c m p q a n → EntryStep g left c m p q b k → (a ≡ b) × ((r : ℕ) × left c1 s1 r)
   entry_one left c c1 m s1 p q a b n k h i = both (forms (Here c1 s1) c m p q a n h) (forms left c m p q b k i)
     where
-      moved : (c2 : Course) (s2 : StateOf g) (r : ℕ) → Here c1 s1 c2 s2 0 → left c2 s2 r → left c1 s1 r
+      moved : (c2 : JournalState) (s2 : StateOf g) (r : ℕ) → Here c1 s1 c2 s2 0 → left c2 s2 r → left c1 s1 r
       moved c2 s2 r e x = subst (λ y. left y s1 r) e.0 (subst (λ y. left c2 y r) e.1 x)
 
       both : Forms (Here c1 s1) c m p q a n → Forms left c m p q b k → (a ≡ b) × ((r : ℕ) × left c1 s1 r)
@@ -187,7 +190,8 @@ follows_open _ _ _ _ = tt
 
 module _ (G : RunContext) where
   -- who is running in the meaning runs in the machine
-  pub runs_there : (lv : RightsOfAll G) (c : Course) (s : StateOf G.g) (u : System Plain) → Linked G lv c s u → (i : ℕ)
+  pub runs_there : (lv : RightsOfAll G) (c : JournalState) (s : StateOf G.g) (u : System Plain) → Linked G lv c s u
+      → (i : ℕ)
       → i < u.births.processes → (own : Process) → running_process G.g s (G.births.name i) ≡ Some own
       → c.laid (G.births.name i) ≡ false → (d : Config (Memory Plain)) × (u.condition i ≡ sys.Working d)
   runs_there lv c s u l i lt own e la = go (u.condition i) refl (l.does i lt)
@@ -227,7 +231,7 @@ module _ (G : RunContext) where
   turn_runs s m q since zero p (_, _, own, runs, _, _) = (own, runs)
   turn_runs s m q since (suc n) p (own, runs, _, _, _, _) = (own, runs)
 
-  pub replays : (es : List Entry) (lv : RightsOfAll G) (c : Course) (s : StateOf G.g) (u : System Plain)
+  pub replays : (es : List Entry) (lv : RightsOfAll G) (c : JournalState) (s : StateOf G.g) (u : System Plain)
       → Now G lv c s u
       → AllBegan G u.births es → NameableFrom u.births es → (n : ℕ) (t : StateOf G.g)
       → Along G.g G.pause c s (occurrences_from u.births es) n t → (v : System Plain)
@@ -251,7 +255,7 @@ module _ (G : RunContext) where
       way : Turn G.g G.pause (c.since (G.births.name e.process)) (G.births.name e.process) k0 s mid paused
       way = subst (λ a. Turn G.g G.pause (c.since a) a k0 s mid paused) name_is turn0
 
-      left : Course → StateOf G.g → ℕ → Type 0
+      left : JournalState → StateOf G.g → ℕ → Type 0
       left c1 s1 r = Along G.g G.pause c1 s1 (occurrences_from (births_after_event u.births e.process e.event) es) r t
 
       entered : EntryStep G.g left c mid paused (G.births.name e.process) (happening u.births e.event) rest
@@ -298,7 +302,7 @@ module _ (G : RunContext) where
       births_are : u1.births ≡ births_after_event u.births e.process e.event
       births_are = ap (λ a. births_after_event u.births e.process a) event_is
 
-      on : ((lv1 : RightsOfAll G) (c1 : Course) (s1 : StateOf G.g) (u1 : System Plain) → Now G lv1 c1 s1 u1
+      on : ((lv1 : RightsOfAll G) (c1 : JournalState) (s1 : StateOf G.g) (u1 : System Plain) → Now G lv1 c1 s1 u1
           → AllBegan G u1.births es → NameableFrom u1.births es → (r : ℕ)
           → Along G.g G.pause c1 s1 (occurrences_from u1.births es) r t → (v : System Plain)
           × EntriesLead plain (run_is G) u1 es v) → (v : System Plain) × EntriesLead plain (run_is G) u (e ∷ es) v

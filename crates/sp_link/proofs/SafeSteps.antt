@@ -24,7 +24,7 @@ use Rattle.sp_meaning.specs.LocalWork.{WorkOutcome, Computed, EndsInFault, IllFo
 use Rattle.sp_meaning.specs.Actions.{Stepped, Ticked, Opened, Forked, Offered, Ended}
 use Rattle.sp_meaning.specs.Run.{Store}
 use Rattle.sp_meaning.specs.Runs.{StateOf}
-use Rattle.sp_meaning.specs.Along.{Course}
+use Rattle.sp_meaning.specs.Along.{JournalState}
 use Rattle.sp_meaning.specs.Turn as source
 use Rattle.sp_meaning.proofs.Rights.{OwnLocation}
 use Rattle.sp_meaning.proofs.Status.{working_lives}
@@ -38,12 +38,12 @@ use Rattle.sp_code.specs.Scopes.{sort, size}
 use Rattle.sp_code.specs.Sound.{StopsAt, CanSplit, CanJoin, CanPut}
 use Rattle.sp_code.specs.System.{System, store_of, plan_of}
 use Rattle.sp_code.specs.System as sys
-use Rattle.sp_code.proofs.Turning.{turn_same}
+use Rattle.sp_code.proofs.OneTurn.{turn_same}
 use Rattle.sp_code.proofs.StoreLaws.{held_of_cells}
-use Rattle.sp_codegen.specs.Following.{PayloadIs, cells_in}
+use Rattle.sp_codegen.specs.CodePositions.{PayloadIs, cells_in}
 use Rattle.sp_codegen.specs.FramePairs.{FramePair}
 use Rattle.sp_codegen.specs.Shapes.{Flat}
-use Rattle.sp_codegen.specs.Standing.{PointsTo, made_frames}
+use Rattle.sp_codegen.specs.MemoryRelation.{PointsTo, made_frames}
 use Rattle.sp_codegen.proofs.Safe.{AtEnd}
 use Rattle.sp_link.proofs.TurnsMeet.{outcome, kept, turned, ends, result}
 use Rattle.sp_link.proofs.Foralls as forall
@@ -102,7 +102,8 @@ can_put G k a e cs t m = record {
   in_range = subst (λ y. HasCells (store_of e).map a y) (sym (message_length G k t.typed m.0 cs m.1)) t.room;
 }
 
-module _ (G : RunContext) (lv : RightsOfAll G) (c : Course) (s : StateOf G.g) (u : System Plain) (l : Linked G lv c s u)
+module _ (G : RunContext) (lv : RightsOfAll G) (c : JournalState) (s : StateOf G.g) (u : System Plain)
+    (l : Linked G lv c s u)
     (no_fault : u.faulted ≡ false) where
   -- a process that runs
   module _ (i : ℕ) (d : Config (Memory Plain)) (at : u.condition i ≡ sys.Working d) where
@@ -119,7 +120,8 @@ module _ (G : RunContext) (lv : RightsOfAll G) (c : Course) (s : StateOf G.g) (u
       HoldsAtTurnEnd r = AtEnd r → Meant at_stop z r → Machined at_stop z r
           → Kept_to at_stop z r → (tn : Turn (Memory Plain)) × IsTurn (ops G) G.code d tn × P tn
 
-      abbrev kt : Rattle.sp_meaning.proofs.Owned.Keeps_to G.g.program (Rattle.sp_link.proofs.Relation.W_of G lv)
+      abbrev kt : Rattle.sp_meaning.proofs.RightsInvariant.Keeps_to G.g.program
+          (Rattle.sp_link.proofs.Relation.W_of G lv)
           (Rattle.sp_link.proofs.Relation.R_of G lv) s.forks (q at_stop) (pr at_stop)
       kt = keeps_to at_stop
 

@@ -9,9 +9,9 @@ use Rattle.sp_journal.specs.Births.{first_births, NameableFrom}
 use Rattle.sp_cell.specs.Map.{Plain}
 use Rattle.sp_meaning.specs.LocalWork.{RunInput}
 use Rattle.sp_meaning.specs.Runs.{StateOf}
-use Rattle.sp_meaning.specs.Along.{Course}
+use Rattle.sp_meaning.specs.Along.{JournalState}
 use Rattle.sp_code.specs.PlainStore.{plain}
-use Rattle.sp_code.specs.Emitted.{program_code}
+use Rattle.sp_code.specs.TreeCode.{program_code}
 use Rattle.sp_code.specs.Memory as machine
 use Rattle.sp_code.specs.Sound.{AreLimits, IsSound, IsSafeSystem}
 use Rattle.sp_code.specs.System.{System, IsSystem}
@@ -19,7 +19,7 @@ use Rattle.sp_code.specs.Ranks.{IsRanked}
 use Rattle.sp_code.proofs.Blocks.{distinct_blocks}
 use Rattle.sp_code.proofs.Falls.{ranked_along}
 use Rattle.sp_codegen.specs.TurnAgrees.{code_run}
-use Rattle.sp_history.proofs.Naming.{system_nameable}
+use Rattle.sp_history.proofs.NameableRuns.{system_nameable}
 use Rattle.sp_link.specs.Premises.{IsReady}
 use Rattle.sp_link.proofs.Formals.{have_formals}
 use Rattle.sp_link.proofs.Programs.{ground}
@@ -31,7 +31,7 @@ use Rattle.sp_link.proofs.TurnsSafe.{turn_safe}
 use Rattle.sp_link.proofs.Relation.{stop_of}
 
 -- of a system that is linked
-system_well : (G : RunContext) (lv : RightsOfAll G) (c : Course) (s : StateOf G.g) (u : System Plain)
+system_well : (G : RunContext) (lv : RightsOfAll G) (c : JournalState) (s : StateOf G.g) (u : System Plain)
     → IsRanked G.code.instrs
     → Linked G lv c s u → IsSafeSystem (run_is G) u
 system_well G lv c s u ranked l = record {

@@ -18,8 +18,8 @@ use Rattle.sp_meaning.specs.Along.{Either, ticks_in, ticks_of, is_due_after, Tur
 use Rattle.sp_meaning.specs.Turn as source
 use Rattle.sp_meaning.proofs.Keys.{name_test}
 use Rattle.sp_meaning.proofs.Maps.{at_same, at_other}
-use Rattle.sp_meaning.proofs.Moved.{moved, local_step, pausing_step}
-use Rattle.sp_meaning.proofs.Reached.{next_is}
+use Rattle.sp_meaning.proofs.LocalSteps.{moved, local_step, pausing_step}
+use Rattle.sp_meaning.proofs.StepLaws.{next_is}
 use Rattle.sp_meaning.proofs.Run.{then_run, run_bind}
 use Rattle.sp_codegen.specs.TurnAgrees.{due_after}
 

@@ -23,7 +23,7 @@ use Rattle.sp_meaning.proofs.Rights.{OwnLocation}
 use Rattle.sp_meaning.proofs.SoundParts.{list_of, used_part, target_part}
 use Rattle.sp_code.specs.declared.code.ChildTable.{ChildTable}
 use Rattle.sp_code.specs.declared.code.ForkTable.{ForkTable}
-use Rattle.sp_code.specs.Emitted.{child_table, children_tables}
+use Rattle.sp_code.specs.TreeCode.{child_table, children_tables}
 use Rattle.sp_code.specs.Memory.{Memory}
 use Rattle.sp_code.specs.Places.{after_statement}
 use Rattle.sp_code.specs.Scopes.{Scope}
@@ -33,15 +33,15 @@ use Rattle.sp_code.specs.System.{spot_of, handing_of, plan_from, child_or}
 use Rattle.sp_code.specs.Tables.{child_at}
 use Rattle.sp_codegen.specs.FramePairs.{FramePair, sources, pairs_from}
 use Rattle.sp_codegen.specs.Relation.{Placed}
-use Rattle.sp_codegen.proofs.Born.{table_at}
-use Rattle.sp_codegen.proofs.Handed.{MovedStands, moved_stands, right_of, once}
+use Rattle.sp_codegen.proofs.ChildIndexes.{table_at}
+use Rattle.sp_codegen.proofs.HandedUses.{MovedStands, moved_stands, right_of, once}
 use Rattle.sp_codegen.proofs.Owners.{no_longer_owner}
 use Rattle.sp_link.proofs.ChildrenStand.{reached_formed, consoles}
 use Rattle.sp_code.proofs.Plans.{in_spots, spots_from, out_of, distinct_spots, moved_by, shared_by, distinct_plan}
 use Rattle.sp_code.proofs.Plans.{index_by}
 use Rattle.sp_code.proofs.StoreLaws.{held_of_cells}
 use Rattle.sp_link.proofs.Relation.{RunContext, BirthRights, Called, Named, Fresh, St}
-use Rattle.sp_link.proofs.Scoping.{parts_scoped}
+use Rattle.sp_link.proofs.DeclaredUses.{parts_scoped}
 use Rattle.sp_link.proofs.Newborns.{cons}
 
 -- ---- contents
@@ -140,7 +140,7 @@ module _ (G : RunContext) (lf : BirthRights) (kids : ℕ → ℕ → BirthRights
         (ap (λ fs. spot_of G.code.layouts fs z) (sym t.frames.machines_are) ∙ g)
 
     right : (l : Loc) (y : ℕ) → IsUsed p (In_stmt whole) y
-        → Rattle.sp_meaning.specs.Owning.location_of p (sources js) y ≡ Some l → Rd l
+        → Rattle.sp_meaning.specs.Rights.location_of p (sources js) y ≡ Some l → Rd l
     right l y a e = right_of G.g G.code w (Named G) (Called G) Wr Rd lf.J lf.low (length lf.below) lf.born since G.pause
         lf.moved G.formed G.laid G.free f.reads G.moves G.shares G.sets t whole pl.sound unread child new_name table
         refl refl value 0 l y a e

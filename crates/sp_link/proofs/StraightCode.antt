@@ -13,8 +13,8 @@ use Rattle.sp_tree.specs.declared.operators.StandardFn.TheVariants as standard
 use Rattle.sp_tree.specs.Plain.{Variable, Block}
 use Rattle.sp_code.specs.declared.instr.Instr.{Instr}
 use Rattle.sp_code.specs.declared.instr.Instr.TheVariants as i
-use Rattle.sp_code.specs.Emitted.{unary_code, binary_instr, standard_code, input_instr, read_instr, index_instr}
-use Rattle.sp_code.specs.Emitted.{write_instr, reading_instr, assign_instr, addr_by, addr_of, call_instr}
+use Rattle.sp_code.specs.TreeCode.{unary_code, binary_instr, standard_code, input_instr, read_instr, index_instr}
+use Rattle.sp_code.specs.TreeCode.{write_instr, reading_instr, assign_instr, addr_by, addr_of, call_instr}
 use Rattle.sp_code.specs.Ranks.{ways}
 use Rattle.sp_code.specs.Scopes.{Sort, Ordinals, Channels, Many, NoSort, Scope}
 use Rattle.sp_link.proofs.BoundedRanks.{AllMost}

@@ -8,7 +8,7 @@ use Rattle.sp_journal.specs.Births.{first_births, births_from, occurrences_from,
 use Rattle.sp_journal.proofs.BirthLaws.{lawful_start}
 use Rattle.sp_cell.specs.Map.{Plain}
 use Rattle.sp_meaning.specs.Runs.{StateOf, start, running_process, output_of}
-use Rattle.sp_meaning.specs.Along.{no_course, IsAlong}
+use Rattle.sp_meaning.specs.Along.{before_entries, IsAlong}
 use Rattle.sp_code.specs.Machine.{Config}
 use Rattle.sp_code.specs.Turns.{IsSafe}
 use Rattle.sp_code.specs.Memory.{Memory}
@@ -35,7 +35,7 @@ module _ (G : RunContext) (b : Block) (eb : slice_get G.g.program.blocks 0 ≡ S
 
   -- with the relation at its end
   pub linked_along : (t : System Plain) → IsSystem plain (run_is G) es t
-      → Goes_along G no_course (start G.g) first_births es t
+      → Goes_along G before_entries (start G.g) first_births es t
   linked_along t h = system_is_meaning G (lives (at_open G 0) b eb begun) (opening_now G b eb begun) es t
       (all_began G es first_births lawful_start named all) h
 
@@ -52,14 +52,14 @@ module _ (G : RunContext) (b : Block) (eb : slice_get G.g.program.blocks 0 ≡ S
   -- and the other way round
   pub system_of_meaning : (n : ℕ) (s : StateOf G.g) → IsAlong G.g G.pause (occurrences_from first_births es) n s
       → (t : System Plain) × IsSystem plain (run_is G) es t
-  system_of_meaning n s h = replays G es (lives (at_open G 0) b eb begun) no_course (start G.g)
+  system_of_meaning n s h = replays G es (lives (at_open G 0) b eb begun) before_entries (start G.g)
       (opening_system plain (run_is G)) (opening_now G b eb begun) (all_began G es first_births lawful_start named all)
       named n s h
 
   -- the state of the meaning that the relation has is the one along the journal
   module _ (t : System Plain) (h : IsSystem plain (run_is G) es t) (n : ℕ) (s : StateOf G.g)
       (k : IsAlong G.g G.pause (occurrences_from first_births es) n s) where
-    at_end : Goes_along G no_course (start G.g) first_births es t
+    at_end : Goes_along G before_entries (start G.g) first_births es t
     at_end = linked_along t h
 
     is_it : at_end.state ≡ s

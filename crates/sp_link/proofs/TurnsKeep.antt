@@ -9,13 +9,13 @@ use Rattle.sp_meaning.specs.LocalWork.{RunInput, Loc, Cell, LocationContent, Fra
 use Rattle.sp_meaning.specs.LocalWork.{WorkOutcome, Computed, EndsInFault, IllFormed, OutOfFuel, same_loc}
 use Rattle.sp_meaning.specs.LocalWork.{give}
 use Rattle.sp_meaning.specs.Actions.{Action, Stepped, Ticked, Opened, Forked, Offered, Ended}
-use Rattle.sp_meaning.specs.Owning.{Fit, Fair}
+use Rattle.sp_meaning.specs.Rights.{Fit, Fair}
 use Rattle.sp_meaning.specs.SuperPascal.{fuel_of}
 use Rattle.sp_meaning.specs.Run.{Store, run}
 use Rattle.sp_meaning.specs.Turn as source
 use Rattle.sp_meaning.proofs.ActionRights.{next_action_from}
 use Rattle.sp_meaning.proofs.Instance.{loc_test}
-use Rattle.sp_meaning.proofs.Owned.{Result, result_within}
+use Rattle.sp_meaning.proofs.RightsInvariant.{Result, result_within}
 use Rattle.sp_meaning.proofs.Run.{then_run, run_bind}
 use Rattle.sp_meaning.proofs.Within.{StaysWithin}
 

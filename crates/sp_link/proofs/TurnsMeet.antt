@@ -8,7 +8,7 @@ use Rattle.sp_meaning.specs.EffectTree.{run_tree}
 use Rattle.sp_meaning.specs.LocalWork.{RunInput, Loc, Cell, LocalState, Item, Frame, Process, WorkOutcome, Computed}
 use Rattle.sp_meaning.specs.LocalWork.{EndsInFault, IllFormed, OutOfFuel, same_loc}
 use Rattle.sp_meaning.specs.Actions.{Action, Stepped, Ticked, Opened, Forked, Offered, Ended}
-use Rattle.sp_meaning.specs.Owning.{Fit, Fair}
+use Rattle.sp_meaning.specs.Rights.{Fit, Fair}
 use Rattle.sp_meaning.specs.SuperPascal.{action_of, with_todo, fuel_of, weight_of}
 use Rattle.sp_meaning.specs.Run.{Store, run}
 use Rattle.sp_meaning.specs.Runs.{StateOf, total_limits, running_process}
@@ -18,8 +18,8 @@ use Rattle.sp_meaning.proofs.ActionRights.{next_action_from}
 use Rattle.sp_meaning.proofs.Pure.{PureItems, AreBlocksPure}
 use Rattle.sp_meaning.proofs.SilentActions.{pure_kept}
 use Rattle.sp_codegen.proofs.PureCode.{blocks_pure, follows_pure}
-use Rattle.sp_meaning.proofs.Owned.{Result, result_within}
-use Rattle.sp_meaning.proofs.Reached.{StateKeeps, step_well, raised, lowered}
+use Rattle.sp_meaning.proofs.RightsInvariant.{Result, result_within}
+use Rattle.sp_meaning.proofs.StepLaws.{StateKeeps, step_well, raised, lowered}
 use Rattle.sp_meaning.proofs.Rights.{OwnLocation}
 use Rattle.sp_meaning.proofs.Sound.{step_sound}
 use Rattle.sp_meaning.proofs.Within.{StaysWithin}
@@ -29,7 +29,7 @@ use Rattle.sp_code.specs.Turns.{IsSafe, BeginsOrFaults, IsTurn, Turn as Machine_
 use Rattle.sp_code.specs.Memory.{Memory}
 use Rattle.sp_codegen.specs.TurnAgrees.{due_after}
 use Rattle.sp_codegen.proofs.Safe.{AtEnd, turn_finishes, finishes_safe}
-use Rattle.sp_codegen.specs.Following.{Turned}
+use Rattle.sp_codegen.specs.CodePositions.{Turned}
 use Rattle.sp_codegen.proofs.Turn.{turn_meets}
 use Rattle.sp_link.proofs.TurnsEnd.{Ended as Over_now, enough_turn, this_turn_ends}
 use Rattle.sp_link.proofs.TurnsKeep.{ChangesWritable, stays_on, stored_within, TurnKeeps, turn_keeps}

@@ -11,7 +11,7 @@ use Rattle.sp_meaning.specs.Model.{Ended}
 use Rattle.sp_meaning.specs.Steps.{own_part_in, way_of}
 use Rattle.sp_meaning.specs.LocalWork.{Tree, Position, Written, LocationContent, Address, Process}
 use Rattle.sp_meaning.specs.Runs.{StateOf}
-use Rattle.sp_meaning.specs.Along.{Course}
+use Rattle.sp_meaning.specs.Along.{JournalState}
 use Rattle.sp_meaning.specs.Ends.{Waiting, WaitsSo, IsDeadlock}
 use Rattle.sp_code.specs.Machine.{Config, Stop}
 use Rattle.sp_code.specs.Memory.{Memory}
@@ -23,7 +23,7 @@ use Rattle.sp_link.proofs.Journal.{has_number}
 use Rattle.sp_link.proofs.Relation.{RunContext, RightsOfAll, Named, Ca, Performs_all, Linked}
 use Rattle.sp_link.proofs.WhoRuns.{nobody, somebody, root_over}
 
-module _ (G : RunContext) (lv : RightsOfAll G) (c : Course) (s : StateOf G.g) (u : System Plain)
+module _ (G : RunContext) (lv : RightsOfAll G) (c : JournalState) (s : StateOf G.g) (u : System Plain)
     (l : Linked G lv c s u) where
   -- the channel of a number
   named_here : (ch : Channel) (j : ℕ) → Named G ch j → channel u.births j ≡ ch

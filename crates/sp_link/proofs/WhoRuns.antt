@@ -6,7 +6,7 @@ use Rattle.sp_meaning.specs.Model.{Name, Ended}
 use Rattle.sp_meaning.specs.Steps.{IsAlive as IsLive}
 use Rattle.sp_meaning.specs.LocalWork.{Process}
 use Rattle.sp_meaning.specs.Runs.{StateOf, running_process}
-use Rattle.sp_meaning.specs.Along.{Course}
+use Rattle.sp_meaning.specs.Along.{JournalState}
 use Rattle.sp_meaning.proofs.Status.{working_lives}
 use Rattle.sp_code.specs.Machine.{Config}
 use Rattle.sp_code.specs.Memory.{Memory}
@@ -16,7 +16,7 @@ use Rattle.sp_link.proofs.Relation.{RunContext, RightsOfAll, Linked, Performs_al
 use Rattle.sp_link.proofs.Replay.{runs_there}
 use Rattle.sp_link.proofs.Relation.{stop_of}
 
-module _ (G : RunContext) (lv : RightsOfAll G) (c : Course) (s : StateOf G.g) (u : System Plain)
+module _ (G : RunContext) (lv : RightsOfAll G) (c : JournalState) (s : StateOf G.g) (u : System Plain)
     (l : Linked G lv c s u) where
   -- nobody runs in the meaning, where nobody runs in the machine and no fault stands
   pub nobody : u.faulted ≡ false → ((i : ℕ) (d : Config (Memory Plain)) → u.condition i ≡ Working d → ⊥) → (q : Name)

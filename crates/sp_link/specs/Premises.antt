@@ -3,7 +3,7 @@
 -- The laws of this crate require it, and `sp_execute` shows it of every accepted text.
 use Rattle.std.specs.Prelude.{◌≡◌, ℕ, List, Some, slice_get}
 use Rattle.sp_tree.specs.declared.checked.Role.TheVariants as role
-use Rattle.sp_tree.specs.Formed.{IsFormed}
+use Rattle.sp_tree.specs.TreeShape.{IsFormed}
 use Rattle.sp_tree.specs.Interference.{IsFreeOfInterference, IsFunction, IsMember}
 use Rattle.sp_tree.specs.Plain.{Stmt, Block, Variable}
 use Rattle.sp_tree.specs.Sets.{ImplicitTarget}
@@ -13,7 +13,7 @@ use Rattle.sp_journal.specs.declared.entry.Entry.{Entry}
 use Rattle.sp_journal.specs.Births.{first_births, occurrences_from}
 use Rattle.sp_meaning.specs.Runs.{StateOf}
 use Rattle.sp_meaning.specs.Along.{IsAlong}
-use Rattle.sp_code.specs.Emitted.{program_code}
+use Rattle.sp_code.specs.TreeCode.{program_code}
 use Rattle.sp_code.specs.Memory as memory
 use Rattle.sp_code.specs.PlainStore.{plain}
 use Rattle.sp_code.specs.NeverStops.{NeverStops}

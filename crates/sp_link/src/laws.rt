@@ -18,7 +18,7 @@ ghost use Rattle.sp_meaning.specs.Runs.{StateOf, output_of};
 ghost use Rattle.sp_meaning.specs.Ends.{Waiting, WaitsSo, IsDone, IsIdle, IsDeadlock, HasFault, EndIs};
 ghost use Rattle.sp_meaning.specs.Along.{IsAlong};
 ghost use Rattle.sp_code.specs.Control.{control_at_start, entries_of};
-ghost use Rattle.sp_code.specs.Emitted.{program_code};
+ghost use Rattle.sp_code.specs.TreeCode.{program_code};
 ghost use Rattle.sp_code.specs.Machine.{Config, Stop};
 ghost use Rattle.sp_code.specs.Memory.{Memory, memory};
 ghost use Rattle.sp_code.specs.PlainStore.{plain};

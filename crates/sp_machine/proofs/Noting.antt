@@ -11,8 +11,8 @@ use Rattle.sp_code.specs.declared.code.Layout.{Layout}
 use Rattle.sp_code.specs.Memory.{Frame as PlainFrame, last_frames, reference_target}
 use Rattle.sp_code.specs.System.{place_of, spot_by, spot_at, spot_in, spot_from, or_outward}
 use Rattle.sp_machine.specs.Seen.{under, Notes, NotesAll}
-use Rattle.sp_machine.proofs.Placing.{place_here, place_on, place_end, spot_next}
-use Rattle.sp_machine.proofs.Framing.{referred_here, referred_on, referred_end}
+use Rattle.sp_machine.proofs.VariablePlaces.{place_here, place_on, place_end, spot_next}
+use Rattle.sp_machine.proofs.FrameLists.{referred_here, referred_on, referred_end}
 
 -- ---- options
 

@@ -25,7 +25,7 @@ use sp_store::Store;
 use std::alloc::Global;
 
 /// The addresses among arguments, by the numbers of their parameters.
-#[tactic(auto, using(crate::proofs::Calling::references_pointer, crate::proofs::Calling::references_other, crate::proofs::Calling::references_end))]
+#[tactic(auto, using(crate::proofs::CallLaws::references_pointer, crate::proofs::CallLaws::references_other, crate::proofs::CallLaws::references_end))]
 fn references(alloc: Global, arguments: &[Operand]) -> Result<List<(u32, Address)>, Memory>
     requires { length arguments.now ≤ 4294967295 }
     ensures { IfOk result (λ found. found ≡ references 0 (entries_of arguments.now)) }
@@ -42,7 +42,7 @@ fn references(alloc: Global, arguments: &[Operand]) -> Result<List<(u32, Address
 }
 
 /// Puts the arguments by value into the variables of a frame.
-#[tactic(auto, using(crate::proofs::Calling::fill_step, crate::proofs::Calling::take_step, crate::proofs::Calling::take_here, crate::proofs::Calling::fill_end))]
+#[tactic(auto, using(crate::proofs::CallLaws::fill_step, crate::proofs::CallLaws::take_step, crate::proofs::CallLaws::take_here, crate::proofs::CallLaws::fill_end))]
 fn fill(store: &mut Store, frame: u64, arguments: &[Operand]) -> Result<(), Memory>
     requires few { length arguments.now ≤ 4294967295 }
     requires take { TakeAll store.old.map frame 0 (entries_of arguments.now) }
@@ -57,7 +57,7 @@ fn fill(store: &mut Store, frame: u64, arguments: &[Operand]) -> Result<(), Memo
 }
 
 /// Puts an argument by value into a variable.
-#[tactic(auto, using(sp_code::proofs::StoreLaws::cells_same, crate::proofs::Calling::own_has))]
+#[tactic(auto, using(sp_code::proofs::StoreLaws::cells_same, crate::proofs::CallLaws::own_has))]
 fn fill_one(store: &mut Store, frame: u64, variable: u32, argument: &Operand) -> Result<(), Memory>
     requires { TakeAll store.old.map frame variable (entries_of (argument.now ∷ [])) }
     ensures { OnOk result (store.new ≡ with_arguments plain frame variable (entries_of (argument.now ∷ [])) store.old) }
@@ -79,7 +79,7 @@ fn fill_one(store: &mut Store, frame: u64, variable: u32, argument: &Operand) ->
 
 impl State {
     /// Opens a frame for a block with the arguments on the stack, which go.
-    #[tactic(auto, using(crate::proofs::Calling::take_all))]
+    #[tactic(auto, using(crate::proofs::CallLaws::take_all))]
     fn open_frame(
         &mut self,
         layout: &Layout,
@@ -189,7 +189,7 @@ impl State {
     }
 
     // Calls a block.
-    #[tactic(auto, using(crate::proofs::Finding::few_sizes, crate::proofs::Finding::few_formals))]
+    #[tactic(auto, using(crate::proofs::LayoutLookups::few_sizes, crate::proofs::LayoutLookups::few_formals))]
     pub(crate) fn call(
         &mut self,
         block: u32,

@@ -18,7 +18,7 @@ ghost use Rattle.sp_machine.specs.declared.state.State.{State};
 ghost use Rattle.sp_machine.specs.Frames.{frame_of, home_of, plain_frames};
 ghost use Rattle.sp_machine.specs.Seen.{IsSeen};
 
-use crate::frames::{Frame, Frames, Home, lesser, referred};
+use crate::frames::{Frame, Frames, Home, referred, smaller};
 use crate::have;
 use crate::layouts::layout_of;
 use crate::proc::Proc;
@@ -35,7 +35,7 @@ use std::sync::Arc;
 
 /// The place of a variable of the tree in a frame, counted from the first one. More places than a number can tell count
 /// as want of memory.
-#[tactic(auto, using(crate::proofs::Placing::place_here, crate::proofs::Placing::place_on, crate::proofs::Placing::place_end))]
+#[tactic(auto, using(crate::proofs::VariablePlaces::place_here, crate::proofs::VariablePlaces::place_on, crate::proofs::VariablePlaces::place_end))]
 fn place_of(variable: u32, first: u32, variables: &[u32]) -> Result<Option<u32>, Memory>
     ensures { IfOk result (λ r. r ≡ place_of variable first variables.now) }
 {
@@ -107,7 +107,7 @@ fn spot_in(frame: &Frame, code: &Code, variable: u32) -> Result<Option<Spot>, Me
 }
 
 /// Where a variable of the tree stands, outward from the newest frame.
-#[tactic(auto, using(crate::proofs::Placing::spot_none, crate::proofs::Placing::spot_start, crate::proofs::Placing::spot_here, crate::proofs::Placing::spot_on))]
+#[tactic(auto, using(crate::proofs::VariablePlaces::spot_none, crate::proofs::VariablePlaces::spot_start, crate::proofs::VariablePlaces::spot_here, crate::proofs::VariablePlaces::spot_on))]
 fn spot_from(frames: &Frames, code: &Code, variable: u32) -> Result<Option<Spot>, Memory>
     requires { HasDistinctBlocks code.now.layouts }
     ensures { IfOk result (λ r. r ≡ spot_from code.now.layouts (length frames.now) frames.now variable) }
@@ -119,7 +119,7 @@ fn spot_from(frames: &Frames, code: &Code, variable: u32) -> Result<Option<Spot>
         if let Some(spot) = found {
             return Ok(Some(spot));
         }
-        let next = lesser(frame.link, count - 1);
+        let next = smaller(frame.link, count - 1);
         count = next;
     }
     Ok(None)
@@ -146,7 +146,7 @@ fn spot_of(
 }
 
 /// The spots of variables.
-#[tactic(auto, using(crate::proofs::Placing::spots_found, crate::proofs::Placing::spots_not, crate::proofs::Placing::spots_end))]
+#[tactic(auto, using(crate::proofs::VariablePlaces::spots_found, crate::proofs::VariablePlaces::spots_not, crate::proofs::VariablePlaces::spots_end))]
 fn spots_of(
     alloc: Global,
     frames: &Frames,
@@ -241,7 +241,7 @@ fn handing_of(
 
 impl State {
     /// What the children of the fork are handed at which the process stopped.
-    #[tactic(auto, using(crate::proofs::Planning::plan_more, crate::proofs::Planning::plan_end))]
+    #[tactic(auto, using(crate::proofs::ForkPlans::plan_more, crate::proofs::ForkPlans::plan_end))]
     fn plan(&self, code: &Code, table: &ForkTable, count: u32) -> Result<List<Handing>, Memory>
         requires blocks { HasDistinctBlocks code.now.layouts }
         requires values { (self.now.first +ℤ pos count) ≤ℤ pos 9223372036854775808 }
@@ -322,7 +322,7 @@ impl State {
     }
 
     /// The children before they have their stores.
-    #[tactic(auto, using(crate::proofs::Planning::born_none, crate::proofs::Planning::born_more))]
+    #[tactic(auto, using(crate::proofs::ForkPlans::born_none, crate::proofs::ForkPlans::born_more))]
     fn children(
         &self,
         table: &ForkTable,

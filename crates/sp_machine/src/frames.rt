@@ -58,7 +58,7 @@ impl Model for Frames {
 }
 
 // The frames of both parts, counted.
-#[tactic(auto, using(crate::proofs::Framing::length_parts))]
+#[tactic(auto, using(crate::proofs::FrameLists::length_parts))]
 #[inline(always)]
 fn count_in(shared: &[Frame], visible: usize, own: &[Frame]) -> usize
     requires { visible ≤ length shared.now }
@@ -69,7 +69,7 @@ fn count_in(shared: &[Frame], visible: usize, own: &[Frame]) -> usize
 }
 
 // The frame at a place, counted from the oldest.
-#[tactic(auto, using(crate::proofs::Framing::at_shared, crate::proofs::Framing::at_own))]
+#[tactic(auto, using(crate::proofs::FrameLists::at_shared, crate::proofs::FrameLists::at_own))]
 #[inline(always)]
 fn frame_in<'a>(shared: &'a [Frame], visible: usize, own: &'a [Frame], place: usize) -> &'a Frame
     requires within { visible ≤ length shared.now }
@@ -83,7 +83,7 @@ fn frame_in<'a>(shared: &'a [Frame], visible: usize, own: &'a [Frame], place: us
     &own[place - visible]
 }
 
-pub(crate) fn lesser(a: usize, b: usize) -> usize
+pub(crate) fn smaller(a: usize, b: usize) -> usize
     ensures { result ≡ min a b }
 {
     if a < b { a } else { b }
@@ -91,7 +91,7 @@ pub(crate) fn lesser(a: usize, b: usize) -> usize
 
 impl Frames {
     /// The frames of a run's first process: that of the program.
-    #[tactic(auto, using(crate::proofs::Framing::one_plain))]
+    #[tactic(auto, using(crate::proofs::FrameLists::one_plain))]
     pub(crate) fn first(alloc: Global, frame: Frame) -> Result<Frames, Memory>
         ensures { IfOk result (λ r. r ≡ frame_of frame ∷ []) }
     {
@@ -106,7 +106,7 @@ impl Frames {
     }
 
     /// Frames that are shared with others: so many of them are visible.
-    #[tactic(auto, using(crate::proofs::Framing::all_shared))]
+    #[tactic(auto, using(crate::proofs::FrameLists::all_shared))]
     pub(crate) fn of(alloc: Global, shared: Arc<List<Frame>>, visible: usize) -> Frames
         requires { visible ≤ length shared.value }
         ensures { result ≡ plain_frames (take visible shared.value) }
@@ -119,7 +119,7 @@ impl Frames {
     }
 
     /// All frames become shared ones. They are given with how many of them are visible.
-    #[tactic(auto, using(crate::proofs::Framing::all_shared, crate::proofs::Framing::all_gathered, crate::proofs::Framing::still_shared))]
+    #[tactic(auto, using(crate::proofs::FrameLists::all_shared, crate::proofs::FrameLists::all_gathered, crate::proofs::FrameLists::still_shared))]
     pub(crate) fn share(&mut self) -> Result<(Arc<List<Frame>>, usize), Memory>
         ensures same { self.new ≡ self.old }
         ensures frames { IfOk result (λ r. self.old ≡ plain_frames (take r.1 r.0.value)) }
@@ -150,7 +150,7 @@ impl Frames {
     }
 
     /// The frame at a place, counted from the oldest.
-    #[tactic(auto, using(crate::proofs::Framing::within_parts))]
+    #[tactic(auto, using(crate::proofs::FrameLists::within_parts))]
     pub fn at(&self, place: usize) -> &Frame
         requires { place < length self.now }
         ensures { last_frames (place + 1) self.now ≡ frame_of result.now ∷ last_frames place self.now }
@@ -159,7 +159,7 @@ impl Frames {
     }
 
     /// How many frames there are from the one so many static levels outward on, 0 where there is none.
-    #[tactic(auto, using(crate::proofs::Framing::none_last, crate::proofs::Framing::all_last, crate::proofs::Framing::up_none))]
+    #[tactic(auto, using(crate::proofs::FrameLists::none_last, crate::proofs::FrameLists::all_last, crate::proofs::FrameLists::up_none))]
     #[inline(always)]
     fn outward(&self, up: u32) -> usize
         ensures same { frames_up up self.now ≡ last_frames result self.now }
@@ -171,14 +171,14 @@ impl Frames {
                 return 0;
             }
             let link = self.at(count - 1).link;
-            let next = lesser(link, count - 1);
+            let next = smaller(link, count - 1);
             count = next;
         }
         count
     }
 
     /// How many frames there are from the one so many static levels outward on.
-    #[tactic(auto, using(crate::proofs::Framing::length_last))]
+    #[tactic(auto, using(crate::proofs::FrameLists::length_last))]
     pub(crate) fn level(&self, up: u32) -> usize
         ensures { result ≡ length (frames_up up self.now) }
     {
@@ -186,7 +186,7 @@ impl Frames {
     }
 
     /// A variable of the frame so many static levels outward.
-    #[tactic(auto, using(crate::proofs::Framing::none_last, crate::proofs::Framing::addr_first))]
+    #[tactic(auto, using(crate::proofs::FrameLists::none_last, crate::proofs::FrameLists::addr_first))]
     #[inline(always)]
     pub(crate) fn address(&self, up: u32, variable: u32) -> Option<Address>
         ensures { result ≡ addr_in (frames_up up self.now) variable }
@@ -203,7 +203,7 @@ impl Frames {
     }
 
     /// What a variable parameter of the frame so many static levels outward stands for.
-    #[tactic(auto, using(crate::proofs::Framing::none_last, crate::proofs::Framing::deref_first))]
+    #[tactic(auto, using(crate::proofs::FrameLists::none_last, crate::proofs::FrameLists::deref_first))]
     pub(crate) fn reference(&self, up: u32, variable: u32) -> Option<Address>
         ensures { result ≡ deref_in (frames_up up self.now) variable }
     {
@@ -216,7 +216,7 @@ impl Frames {
     }
 
     /// The number and the home of the newest.
-    #[tactic(auto, using(crate::proofs::Framing::newest_first, crate::proofs::Framing::none_shorter))]
+    #[tactic(auto, using(crate::proofs::FrameLists::newest_first, crate::proofs::FrameLists::none_shorter))]
     pub(crate) fn newest(&self) -> (u64, Home)
         requires { self.now ≢ [] }
         ensures { (f : PlainFrame) (fs : List PlainFrame) → self.now ≡ f ∷ fs → (f.number ≡ result.0)
@@ -228,7 +228,7 @@ impl Frames {
     }
 
     /// Puts a frame on top. Where memory is refused, nothing has changed.
-    #[tactic(auto, using(crate::proofs::Framing::more_plain))]
+    #[tactic(auto, using(crate::proofs::FrameLists::more_plain))]
     pub(crate) fn push(&mut self, frame: Frame) -> Result<(), Memory>
         ensures ok { OnOk result (self.new ≡ frame_of frame ∷ self.old) }
         ensures err { OnErr result (self.new ≡ self.old) }
@@ -240,7 +240,7 @@ impl Frames {
     }
 
     /// The newest goes.
-    #[tactic(auto, using(crate::proofs::Framing::less_own, crate::proofs::Framing::less_shared, crate::proofs::Framing::some_visible))]
+    #[tactic(auto, using(crate::proofs::FrameLists::less_own, crate::proofs::FrameLists::less_shared, crate::proofs::FrameLists::some_visible))]
     pub(crate) fn drop_newest(&mut self)
         requires { self.old ≢ [] }
         ensures { self.new ≡ drop 1 self.old }
@@ -266,7 +266,7 @@ fn copy_frame(alloc: Global, frame: &Frame) -> Result<Frame, Memory>
 }
 
 /// Puts the same frames last.
-#[tactic(auto, using(crate::proofs::Framing::copied_more, crate::proofs::Framing::copied_all))]
+#[tactic(auto, using(crate::proofs::FrameLists::copied_more, crate::proofs::FrameLists::copied_all))]
 fn copy_frames(alloc: Global, to: &mut List<Frame>, frames: &[Frame]) -> Result<(), Memory>
     ensures { OnOk result (to.new ≡ to.old ++ frames.now) }
 {
@@ -278,7 +278,7 @@ fn copy_frames(alloc: Global, to: &mut List<Frame>, frames: &[Frame]) -> Result<
 }
 
 // What the variable parameter of this number stands for.
-#[tactic(auto, using(crate::proofs::Framing::referred_on, crate::proofs::Framing::referred_here, crate::proofs::Framing::referred_end))]
+#[tactic(auto, using(crate::proofs::FrameLists::referred_on, crate::proofs::FrameLists::referred_here, crate::proofs::FrameLists::referred_end))]
 pub fn referred(variable: u32, references: &[(u32, Address)]) -> Option<Address>
     ensures { result ≡ reference_target variable references.now }
 {

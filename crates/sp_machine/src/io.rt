@@ -104,7 +104,7 @@ fn input_address() -> Address
 }
 
 /// Writes a text behind so many blanks. `false` where the output would pass its limit; then nothing is written.
-#[tactic(auto, using(crate::proofs::Printing::appended_none, crate::proofs::Printing::appended_more, crate::proofs::Printing::appended_held, crate::proofs::Printing::blanks_more, crate::proofs::Printing::length_blanks))]
+#[tactic(auto, using(crate::proofs::OutputBytes::appended_none, crate::proofs::OutputBytes::appended_more, crate::proofs::OutputBytes::appended_held, crate::proofs::OutputBytes::blanks_more, crate::proofs::OutputBytes::length_blanks))]
 fn emit(store: &mut Store, blanks: u64, text: &[u8], limits: &Limits) -> Result<bool, Memory>
     requires { is_held (plain.output store.old) ≡ true }
     ensures { IfOk result (λ b. Emits b limits.now.output (replicate blanks 32 ++ text.now) store.old store.new) }

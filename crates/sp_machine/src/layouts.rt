@@ -14,7 +14,7 @@ use sp_cell::{Address, Spot};
 use sp_code::{Code, Layout};
 
 /// The first layout of a block.
-#[tactic(auto, using(crate::proofs::Finding::layout_on, crate::proofs::Finding::layout_here, crate::proofs::Finding::layout_end))]
+#[tactic(auto, using(crate::proofs::LayoutLookups::layout_on, crate::proofs::LayoutLookups::layout_here, crate::proofs::LayoutLookups::layout_end))]
 fn search(layouts: &[Layout], block: u32) -> Option<&Layout>
     ensures { option_copied result ≡ layout_of layouts.now block }
 {
@@ -27,7 +27,7 @@ fn search(layouts: &[Layout], block: u32) -> Option<&Layout>
 }
 
 /// The layout of a block. In most code it stands at the block's number.
-#[tactic(auto, using(crate::proofs::Finding::layout_found))]
+#[tactic(auto, using(crate::proofs::LayoutLookups::layout_found))]
 pub fn layout_of(code: &Code, block: u32) -> Option<&Layout>
     requires { HasDistinctBlocks code.now.layouts }
     ensures { option_copied result ≡ layout_of code.now.layouts block }
@@ -44,7 +44,7 @@ pub fn layout_of(code: &Code, block: u32) -> Option<&Layout>
 }
 
 /// The cells of a frame.
-#[tactic(auto, using(crate::proofs::Finding::sum_all))]
+#[tactic(auto, using(crate::proofs::LayoutLookups::sum_all))]
 pub(crate) fn cells_of(sizes: &[u32]) -> u64
     requires { length sizes.now ≤ 4294967294 }
     ensures { result ≡ sum sizes.now }
@@ -57,7 +57,7 @@ pub(crate) fn cells_of(sizes: &[u32]) -> u64
 }
 
 /// The cells of the frame of a home.
-#[tactic(auto, using(crate::proofs::Finding::few_sizes))]
+#[tactic(auto, using(crate::proofs::LayoutLookups::few_sizes))]
 pub(crate) fn cells_of_home(code: &Code, home: Home) -> u64
     requires { HasDistinctBlocks code.now.layouts }
     ensures { result ≡ cells_of_home code.now.layouts (home_of home) }
@@ -75,7 +75,7 @@ pub(crate) fn cells_of_home(code: &Code, home: Home) -> u64
 }
 
 /// The result of the block of a frame.
-#[tactic(auto, using(crate::proofs::Finding::few_sizes, crate::proofs::Finding::few_formals))]
+#[tactic(auto, using(crate::proofs::LayoutLookups::few_sizes, crate::proofs::LayoutLookups::few_formals))]
 pub(crate) fn answer_of(code: &Code, frame: u64, home: Home) -> Option<Address>
     requires blocks { HasDistinctBlocks code.now.layouts }
     requires formals { HaveFormals code.now.layouts }

@@ -23,7 +23,7 @@
 //! - Each instruction is a function of `State`, whose contract is `CameBy` of the definition's instruction. It answers
 //!   by a small `Interrupt`, and what a stop holds besides stands in the state, so that the many instructions that go
 //!   on hand nothing about. How an instruction ends: `src/steps.rt`. `src/turn.rt` joins them to a turn, and
-//!   `proofs/Going` leads from instructions to a turn.
+//!   `proofs/TurnSteps` leads from instructions to a turn.
 //! - The instructions that loops are made of stand in the turn itself, and what they do seldom, as a fault, stands
 //!   apart and tells it by an `Outcome`, so that the turn keeps nothing in memory between two instructions. A
 //!   variable whose address is pushed and then loaded is pushed at once (`proceed`).

@@ -192,7 +192,7 @@ impl Proc {
 
 impl State {
     /// The state of process 0.
-    #[tactic(auto, using(crate::proofs::Finding::few_sizes))]
+    #[tactic(auto, using(crate::proofs::LayoutLookups::few_sizes))]
     fn root(alloc: Global, code: &Code, input: Arc<Text>) -> Result<State, Memory>
         requires { HasDistinctBlocks code.now.layouts }
         ensures config { IfOk result (λ p. config_of p ≡ start_of code.now input.value) }

@@ -7,7 +7,7 @@ ghost use Rattle.sp_machine.specs.Frames.{frame_of, home_of};
 ghost use Rattle.sp_machine.specs.Seen.{Notes, NotesAll, HasReferences, IsSeen};
 
 use crate::children::first_number;
-use crate::frames::{Frame, Frames, Home, lesser};
+use crate::frames::{Frame, Frames, Home, smaller};
 use crate::have;
 use crate::layouts::layout_of;
 use sp_base::Memory;
@@ -167,7 +167,7 @@ fn all_seen(
         if !whole {
             return Ok(None);
         }
-        let next = lesser(frame.link, count - 1);
+        let next = smaller(frame.link, count - 1);
         count = next;
     }
     Ok(Some(seen))

@@ -63,7 +63,7 @@ impl Stack {
     }
 
     /// Puts an entry on top. Where memory is refused, the stack is unchanged.
-    #[tactic(auto, using(crate::proofs::Stacking::replies_few))]
+    #[tactic(auto, using(crate::proofs::StackLaws::replies_few))]
     #[inline(always)]
     pub(crate) fn push(&mut self, entry: Operand) -> Result<(), Memory>
         ensures ok { OnOk result (self.new ≡ entry ∷ self.old) }
@@ -143,7 +143,7 @@ impl Stack {
     }
 
     /// The number on top, which stays. `None` where none is there.
-    #[tactic(auto, using(crate::proofs::Stacking::top_last))]
+    #[tactic(auto, using(crate::proofs::StackLaws::top_last))]
     #[inline(always)]
     pub(crate) fn top_number(&self) -> Option<i64>
         ensures { MatchOption result (HasNoNumber self.now)
@@ -157,7 +157,7 @@ impl Stack {
     }
 
     /// The address on top, which stays. `None` where none is there.
-    #[tactic(auto, using(crate::proofs::Stacking::top_last))]
+    #[tactic(auto, using(crate::proofs::StackLaws::top_last))]
     #[inline(always)]
     pub(crate) fn top_pointer(&self) -> Option<Address>
         ensures { MatchOption result (HasNoPointer self.now)
@@ -188,7 +188,7 @@ impl Stack {
     }
 
     /// So many entries from the top, the lowest first.
-    #[tactic(auto, using(crate::proofs::Stacking::top_part))]
+    #[tactic(auto, using(crate::proofs::StackLaws::top_part))]
     pub(crate) fn top(&self, count: usize) -> &[Operand]
         requires { count ≤ length self.now }
         ensures { result.now ≡ reverse (take count self.now) }
@@ -205,7 +205,7 @@ impl Stack {
     }
 
     /// So many entries from the top go.
-    #[tactic(auto, using(crate::proofs::Stacking::drop_more, crate::proofs::Stacking::some_left))]
+    #[tactic(auto, using(crate::proofs::StackLaws::drop_more, crate::proofs::StackLaws::some_left))]
     pub(crate) fn drop_top(&mut self, count: usize)
         requires { count ≤ length self.old }
         ensures { self.new ≡ drop count self.old }
@@ -219,7 +219,7 @@ impl Stack {
     }
 
     /// Whether no function is being called.
-    #[tactic(auto, using(crate::proofs::Stacking::outside_yes, crate::proofs::Stacking::outside_no))]
+    #[tactic(auto, using(crate::proofs::StackLaws::outside_yes, crate::proofs::StackLaws::outside_no))]
     pub(crate) fn is_outside(&self) -> bool
         ensures { result ≡ is_in_no_function (entries_of self.now) }
     {

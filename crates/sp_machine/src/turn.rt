@@ -204,7 +204,7 @@ impl State {
     }
 
     /// Pushes what a variable holds, where its address is pushed next and loaded then. Else nothing is done.
-    #[tactic(auto, using(crate::proofs::Going::at_address, crate::proofs::Going::safe_load, crate::proofs::Going::loaded_both))]
+    #[tactic(auto, using(crate::proofs::TurnSteps::at_address, crate::proofs::TurnSteps::safe_load, crate::proofs::TurnSteps::loaded_both))]
     #[inline(always)]
     fn push_loaded(
         &mut self,
@@ -231,7 +231,7 @@ impl State {
     }
 
     /// The next instruction, or two of them at once.
-    #[tactic(auto, using(crate::proofs::Going::once))]
+    #[tactic(auto, using(crate::proofs::TurnSteps::once))]
     #[inline(always)]
     fn proceed(&mut self, code: &Code, limits: &Limits) -> Result<Option<Interrupt>, Memory>
         requires blocks { HasDistinctBlocks code.now.layouts }

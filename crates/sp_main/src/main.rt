@@ -16,7 +16,7 @@
 
 ghost use Rattle.std.specs.Prelude.{◌≡◌, map};
 ghost use Rattle.std.specs.String.{string_bytes};
-ghost use Rattle.sp_report.specs.Telling.{AreFresh, reports};
+ghost use Rattle.sp_report.specs.WatcherReports.{AreFresh, reports};
 ghost use Rattle.superpascal.specs.declared.outcome.Outcome.{Outcome};
 ghost use Rattle.superpascal.specs.Calls.{call, sink_of};
 ghost use Rattle.superpascal.specs.Causes.{files_of, stream_of};

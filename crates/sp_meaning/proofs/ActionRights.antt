@@ -35,9 +35,9 @@ use Rattle.sp_meaning.specs.Model.{Name, Message, Takes}
 use Rattle.sp_tree.specs.Uses.{Use, Target, ParallelOf, ForallOf, In_expr, In_target, In_call, In_width, In_stmt}
 use Rattle.sp_tree.specs.Uses.{In_loop}
 use Rattle.sp_tree.specs.Interference.{IsFreeOfInterference}
-use Rattle.sp_meaning.specs.Owning.{frame_found, Linked, frames_below, last_of, location_by, location_at, location_of}
-use Rattle.sp_meaning.specs.Owning.{cell_of, Gave, Sound}
-use Rattle.sp_meaning.specs.Owning.{ItemsAreSound, Fit, Born, Fair}
+use Rattle.sp_meaning.specs.Rights.{frame_found, Linked, frames_below, last_of, location_by, location_at, location_of}
+use Rattle.sp_meaning.specs.Rights.{cell_of, AreArgumentsOf, Sound}
+use Rattle.sp_meaning.specs.Rights.{ItemsAreSound, Fit, Born, Fair}
 use Rattle.sp_meaning.proofs.Static.{sought}
 use Rattle.sp_meaning.proofs.Within.{address_of_keeps, MayRead, StaysWithin, within_then, KeepsRights, Any, part}
 use Rattle.sp_meaning.proofs.Within.{then_keeps}
@@ -205,7 +205,7 @@ module _ (set : RunInput) (q : Name) (W R : Loc → Type 0) (low : ℕ) (own : (
       × (new : Frame) × (gs ≡ new ∷ fs) × (new.owner ≡ q) × (new.home ≡ OfBlock f)
 
   enter_from : (fs : List Frame) → low ≤ length fs → (f : ℕ) (args : Actuals) (gs : List ArgumentValue) → Linked fs
-      → Sound set.program W R fs (In_call f args) → Gave set.program fs args gs
+      → Sound set.program W R fs (In_call f args) → AreArgumentsOf set.program fs args gs
       → From q W R fs (BodyIsSound f fs) (enter set f gs)
   enter_from fs high f args gs l s g =
       after q W R _ _ (or_lost_keeps q W R fs (slice_get set.program.blocks f))
@@ -556,7 +556,7 @@ module _ (set : RunInput) (q : Name) (W R : Loc → Type 0) (low : ℕ) (own : (
           (λ v _. after_from q W R _ _ (leave_from hs) (λ u gs e. gives q W R v (e ∙ ap frames_below h.4, tt)))
 
       whole : (f : ℕ) (args : Actuals) (gs : List ArgumentValue) → Sound set.program W R fs (In_call f args)
-          → Gave set.program fs args gs → From q W R fs Ended
+          → AreArgumentsOf set.program fs args gs → From q W R fs Ended
           (bind (enter set f gs) (λ b. bind (run_items set n (push b.body [])) (λ rest. finish b)))
       whole f args gs so gave = after_from q W R _ _ (enter_from fs high f args gs l so gave) (λ b hs h.
           after_from q W R _ _ (ih.proof hs hs (push b.body []) (higher hs h.3 h.4)

@@ -16,9 +16,9 @@ use Rattle.sp_meaning.specs.Actions.{references}
 use Rattle.sp_tree.specs.Uses.{Use, Target, Seen, CallOf, ParallelOf, ForallOf, Stop, In_actuals, In_call, In_stmt}
 use Rattle.sp_tree.specs.Sets.{IsBelow, IsFree, IsUseOfCallers, Reach, IsUsed, Implicit}
 use Rattle.sp_tree.specs.Interference.{refs, IsMember, AllDifferent, IsFreeOfInterference}
-use Rattle.sp_meaning.specs.Owning.{frame_found, IsOlder, AreOlder, Linked, cell_of, spot_of, reference_of, console}
-use Rattle.sp_meaning.specs.Owning.{location_by}
-use Rattle.sp_meaning.specs.Owning.{location_at, location_of, Touches, Gave, Right, Sound}
+use Rattle.sp_meaning.specs.Rights.{frame_found, IsOlder, AreOlder, Linked, cell_of, spot_of, reference_of, console}
+use Rattle.sp_meaning.specs.Rights.{location_by}
+use Rattle.sp_meaning.specs.Rights.{location_at, location_of, Touches, AreArgumentsOf, Right, Sound}
 use Rattle.sp_meaning.proofs.Static.{lower, through}
 
 older_more : (n m : ℕ) (l : Loc) → n ≤ m → IsOlder n l → IsOlder m l
@@ -106,7 +106,7 @@ module _ (p : Program) (fs : List Frame) where
   abbrev IsArgumentPlace : Actuals → Address → Type 0
   IsArgumentPlace args a = (v : ℕ) × IsMember v (refs args) × (location_of p fs v ≡ Some a.spot)
 
-  comes : (args : Actuals) (zs : List ℕ) (gs : List ArgumentValue) → Gave p fs args gs → (x : ℕ) (a : Address)
+  comes : (args : Actuals) (zs : List ℕ) (gs : List ArgumentValue) → AreArgumentsOf p fs args gs → (x : ℕ) (a : Address)
       → reference_target x (references zs gs) ≡ Some a → IsArgumentPlace args a
   comes args [] gs g x a e = absurd (cc e)
   comes Nothing (z ∷ zs) [] g x a e = absurd (cc e)
@@ -132,7 +132,8 @@ module _ (p : Program) (fs : List Frame) where
       × (location_of p fs v ≡ Some a.spot)
       × (location_of p fs w ≡ Some b.spot)
 
-  two : (args : Actuals) (zs : List ℕ) (gs : List ArgumentValue) → Gave p fs args gs → AllDifferent (refs args)
+  two : (args : Actuals) (zs : List ℕ) (gs : List ArgumentValue) → AreArgumentsOf p fs args gs
+      → AllDifferent (refs args)
       → (x y : ℕ) (a b : Address) → x ≢ y → reference_target x (references zs gs) ≡ Some a
       → reference_target y (references zs gs) ≡ Some b → Two args a b
   two args [] gs g k x y a b n e d = absurd (cc e)
@@ -180,7 +181,7 @@ module _ (p : Program) (fs : List Frame) where
           )
       go ih false es false et e d = let r = ih e d in (r.0, r.1, inr r.2, inr r.3, r.4, r.5, r.6)
 
-  given_older : Linked fs → (args : Actuals) (zs : List ℕ) (gs : List ArgumentValue) → Gave p fs args gs
+  given_older : Linked fs → (args : Actuals) (zs : List ℕ) (gs : List ArgumentValue) → AreArgumentsOf p fs args gs
       → AreOlder (length fs) (references zs gs)
   given_older l args [] gs g = tt
   given_older l Nothing (z ∷ zs) [] g = tt
@@ -252,7 +253,7 @@ module _ (p : Program) (q : Name) (W R : Loc → Type 0) (low : ℕ) (own : (n x
       references = references k.formals gs;
     }
 
-    module _ (linked : Linked fs) (is_block_b : slice_get p.blocks b ≡ Some k) (gave : Gave p fs args gs)
+    module _ (linked : Linked fs) (is_block_b : slice_get p.blocks b ≡ Some k) (gave : AreArgumentsOf p fs args gs)
         (before : c < b) (seen : frame_found (is_block c) (length fs) fs ≡ Some outer) where
       pub fresh_linked : Linked (fresh ∷ fs)
       fresh_linked = (

@@ -12,9 +12,9 @@ use Rattle.sp_meaning.specs.LocalWork.{Loc, Cell, Input, Output, OfIndex, Frame,
 use Rattle.sp_meaning.specs.Actions.{Birth, push, with_index}
 use Rattle.sp_tree.specs.Uses.{Use, Target, Seen, In_stmt}
 use Rattle.sp_tree.specs.Sets.{IsUsed, Reach}
-use Rattle.sp_meaning.specs.Owning.{frame_found, Linked, cell_of, reference_of, location_by, location_at, location_of}
-use Rattle.sp_meaning.specs.Owning.{Touches, Right}
-use Rattle.sp_meaning.specs.Owning.{Sound, Fit, Aimed, Used, IsClearOf, Born}
+use Rattle.sp_meaning.specs.Rights.{frame_found, Linked, cell_of, reference_of, location_by, location_at, location_of}
+use Rattle.sp_meaning.specs.Rights.{Touches, Right}
+use Rattle.sp_meaning.specs.Rights.{Sound, Fit, Aimed, Used, IsClearOf, Born}
 use Rattle.sp_meaning.proofs.Keys.{name_test}
 use Rattle.sp_meaning.proofs.Rights.{OwnOrGiven, IsAbove, Fair_rights}
 use Rattle.sp_meaning.proofs.SoundParts.{push_good}

@@ -12,7 +12,8 @@ use Rattle.sp_meaning.specs.SuperPascal.{superpascal}
 use Rattle.sp_meaning.specs.Entries.{Happening, Opened, Forked, Offered, Ended, Faulted, Laid, Paused, Occurrence}
 use Rattle.sp_meaning.specs.Runs.{StateOf, total_limits, running_process, next_state, Lawful, happening_of}
 use Rattle.sp_meaning.specs.Runs.{happening_at}
-use Rattle.sp_meaning.specs.Along.{Either, is_due_after, Turn, Course, KernelStep, EntryStep, Along, IsCleanly, IsClean}
+use Rattle.sp_meaning.specs.Along.{Either, is_due_after, Turn, JournalState, KernelStep, EntryStep, Along, IsCleanly}
+use Rattle.sp_meaning.specs.Along.{IsClean}
 use Rattle.sp_meaning.proofs.Frames.{all_in, fault_frame}
 
 abbrev IsCleanStep : Option Happening → Type 0
@@ -88,18 +89,20 @@ module _ (g : RunInput) where
           zero_add = omega arith
       rest false x still later = later x
 
-  kernel_goes : (left : Course → StateOf g → ℕ → Type 0) (c : Course) (m : StateOf g) (paused : Bool) (q : Name)
+  kernel_goes : (left : JournalState → StateOf g → ℕ
+      → Type 0) (c : JournalState) (m : StateOf g) (paused : Bool) (q : Name)
       (w : Happening) (n : ℕ) (t : StateOf g) → IsCleanly w → KernelStep g left c m paused q w n
-      → ((c1 : Course) (u : StateOf g) (r : ℕ) → left c1 u r → u.fault ≡ None → FaultFreeSchedule u r t)
+      → ((c1 : JournalState) (u : StateOf g) (r : ℕ) → left c1 u r → u.fault ≡ None → FaultFreeSchedule u r t)
       → m.fault ≡ None
       → FaultFreeSchedule m n t
   kernel_goes left c m paused q w n t ok h next_goes f =
       let still = no_fault_step m q h.5.0 h.2 (Some w) h.5.1 h.5.2 ok h.5.3 f in
       subst (λ z. FaultFreeSchedule m z t) (sym h.4) (first m q h.2 h.3 t f h.5.3 (next_goes _ h.2 h.3 h.6 still))
 
-  entered_goes : (left : Course → StateOf g → ℕ → Type 0) (c : Course) (m : StateOf g) (paused : Bool) (q : Name)
+  entered_goes : (left : JournalState → StateOf g → ℕ
+      → Type 0) (c : JournalState) (m : StateOf g) (paused : Bool) (q : Name)
       (w : Happening) (n : ℕ) (t : StateOf g) → IsCleanly w → EntryStep g left c m paused q w n
-      → ((c1 : Course) (u : StateOf g) (r : ℕ) → left c1 u r → u.fault ≡ None → FaultFreeSchedule u r t)
+      → ((c1 : JournalState) (u : StateOf g) (r : ℕ) → left c1 u r → u.fault ≡ None → FaultFreeSchedule u r t)
       → m.fault ≡ None
       → FaultFreeSchedule m n t
   entered_goes left c m paused q Opened n t ok h k f = kernel_goes left c m paused q Opened n t ok h k f
@@ -110,7 +113,7 @@ module _ (g : RunInput) where
   entered_goes left c m paused q Laid n t ok h k f = absurd ok
   entered_goes left c m paused q Paused n t ok h k f = k _ m n h.2 f
 
-  pub along_goes : (turn : ℕ) (es : List Occurrence) (c : Course) (s : StateOf g) (n : ℕ) (t : StateOf g)
+  pub along_goes : (turn : ℕ) (es : List Occurrence) (c : JournalState) (s : StateOf g) (n : ℕ) (t : StateOf g)
       → Along g turn c s es n t → IsClean es → s.fault ≡ None → FaultFreeSchedule s n t
   along_goes turn [] c s n t a clean f = record {
     names = [];

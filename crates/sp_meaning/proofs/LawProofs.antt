@@ -17,7 +17,7 @@ use Rattle.sp_meaning.proofs.Instance.{loc_test}
 use Rattle.sp_meaning.proofs.Frames.{WritesTo, all_in, store_frame}
 use Rattle.sp_meaning.proofs.Status.{working_lives}
 use Rattle.sp_meaning.proofs.Parallel.{ancestors_live, parallel}
-use Rattle.sp_meaning.proofs.Reached.{Result, action_is, working_keeps, risen, own_is, step_well, raised, known, K}
+use Rattle.sp_meaning.proofs.StepLaws.{Result, action_is, working_keeps, risen, own_is, step_well, raised, known, K}
 
 module _ (g : RunInput) where
   pub bounded : (s : StateOf g) → IsReached g s → (q : Name) → IsBounded g s q

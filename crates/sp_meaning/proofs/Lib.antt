@@ -6,20 +6,20 @@ pub mod Instance
 pub mod Frames
 pub mod Status
 pub mod Meeting
-pub mod Kept
+pub mod StepInvariants
 pub mod Parallel
 mod Schedules
 pub mod Run
 mod Enough
 pub mod Weights
 pub mod EnoughSteps
-pub mod Moved
+pub mod LocalSteps
 pub mod Sound
-pub mod Reached
+pub mod StepLaws
 pub mod JournalSchedules
 pub mod LawProofs
 mod Faults
-mod Reading
+mod ReadRows
 mod Examples
 mod Pauses
 mod Rows
@@ -31,7 +31,7 @@ pub mod Rights
 pub mod SoundParts
 pub mod ActionRights
 pub mod Children
-pub mod Owned
-pub mod Started
+pub mod RightsInvariant
+pub mod RuleKeepers
 pub mod Pure
 pub mod SilentActions

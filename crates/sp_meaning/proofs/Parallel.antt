@@ -7,7 +7,7 @@ use Rattle.sp_meaning.proofs.Maps.{same_or_not}
 use Rattle.sp_meaning.proofs.Keys.{name_test}
 use Rattle.sp_meaning.specs.Disjoint.{AreParallel}
 use Rattle.sp_meaning.proofs.Status.{working_lives, lives_ended, working_joins, waits_joins}
-use Rattle.sp_meaning.proofs.Kept.{waits_lives}
+use Rattle.sp_meaning.proofs.StepInvariants.{waits_lives}
 
 -- a is b or an ancestor of it, or the other way round, or they part
 pub record Below (a b : Name) : Type 0 where

@@ -38,8 +38,8 @@ use Rattle.sp_meaning.specs.Actions.{pushed_frame, references, lay, copy_in, wri
 use Rattle.sp_meaning.specs.Actions.{turn_of, fork, arm_action, statement_action, item_action, settle, call_by}
 use Rattle.sp_meaning.specs.Actions.{run_items, action_by, next_action}
 use Rattle.sp_meaning.specs.Actions.{size_of_frame, reading_by, ordinal_text}
-use Rattle.sp_meaning.specs.Owning.{Linked, cell_of, location_at, location_by, location_of, frame_found, Right, Sound}
-use Rattle.sp_meaning.specs.Owning.{Fit}
+use Rattle.sp_meaning.specs.Rights.{Linked, cell_of, location_at, location_by, location_of, frame_found, Right, Sound}
+use Rattle.sp_meaning.specs.Rights.{Fit}
 use Rattle.sp_meaning.specs.Run.{Store, run}
 use Rattle.sp_meaning.specs.SuperPascal.{action_of, fuel_of}
 use Rattle.sp_meaning.proofs.ActionRights.{From, after, gives, call_keeps, all_keep, tick_stays, deepen_stays}
@@ -49,7 +49,7 @@ use Rattle.sp_meaning.proofs.Instance.{loc_test}
 use Rattle.sp_meaning.proofs.Pure.{AreFunctionsPure, IsLocal, PureExpr, PureVar, PureActuals, PureWidth, PureStmt}
 use Rattle.sp_meaning.proofs.Pure.{PureStmts, PureArms, PureItems, AreBlocksPure, PureUse, expr_uses, selectors_uses}
 use Rattle.sp_meaning.proofs.Pure.{no_target}
-use Rattle.sp_meaning.proofs.Owned.{Result, result_within}
+use Rattle.sp_meaning.proofs.RightsInvariant.{Result, result_within}
 use Rattle.sp_meaning.proofs.Run.{then_run, run_bind}
 use Rattle.sp_meaning.proofs.Within.{StaysWithin, KeepsRights, Any, IsComponentOf, part, variable_of, selectors_of}
 use Rattle.sp_meaning.proofs.Within.{CallsKeep, then_keeps}

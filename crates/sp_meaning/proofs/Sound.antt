@@ -6,7 +6,7 @@ use Rattle.sp_meaning.specs.Model.{Name, Totals, Language, State, Faults, with_c
 use Rattle.sp_meaning.specs.Steps.{own_part, ActOutcome, Advances, Faulty, act_outcome, limit_fault, cost, fault_or}
 use Rattle.sp_meaning.specs.Steps.{step_outcome, result_of}
 use Rattle.sp_meaning.specs.Steps.{step, step_with, Sound}
-use Rattle.sp_meaning.proofs.Kept.{sound_kept}
+use Rattle.sp_meaning.proofs.StepInvariants.{sound_kept}
 
 module _ {L : Language} (limits : Totals) (s : State L) (p : Name) where
   faulted_sound : (f : Fault) → Sound s → Sound (with_change {L = L} (Faults p f) s)

@@ -11,9 +11,9 @@ use Rattle.sp_tree.specs.Uses.{Use, Target, Seen, CallOf, ParallelOf, ForallOf, 
 use Rattle.sp_tree.specs.Uses.{IsOther}
 use Rattle.sp_tree.specs.Sets.{Reach, IsTarget, IsUsed}
 use Rattle.sp_tree.specs.Interference.{KeepsI1, IsFreeUse}
-use Rattle.sp_meaning.specs.Owning.{Linked, frames_below, last_of, location_by, location_at, location_of, Touches}
-use Rattle.sp_meaning.specs.Owning.{Sound, Fit, AreClear}
-use Rattle.sp_meaning.specs.Owning.{IsClearOf, Born}
+use Rattle.sp_meaning.specs.Rights.{Linked, frames_below, last_of, location_by, location_at, location_of, Touches}
+use Rattle.sp_meaning.specs.Rights.{Sound, Fit, AreClear}
+use Rattle.sp_meaning.specs.Rights.{IsClearOf, Born}
 use Rattle.sp_meaning.proofs.Within.{reach_part, part}
 use Rattle.sp_meaning.proofs.Keys.{number_or}
 

@@ -3,7 +3,7 @@ use Rattle.std.proofs.Common.{◌≡◌, ℕ, suc, ◌<◌, ◌≤◌, ◌==◌,
 use Rattle.std.proofs.Common.{ap, ◌∙◌, subst, arith, if◌then◌else◌, eqb-true, eq-eqb}
 use Rattle.std.proofs.lemmas.Option.{same_Some}
 use Rattle.sp_meaning.specs.LocalWork.{Home, OfBlock, OfIndex, Frame, seek, top_frame, is_block}
-use Rattle.sp_meaning.specs.Owning.{frame_found, IsInside, Linked}
+use Rattle.sp_meaning.specs.Rights.{frame_found, IsInside, Linked}
 
 pub unequal : (a b : ℕ) → b < a → a == b ≡ false
 unequal a b l = go (a == b) refl

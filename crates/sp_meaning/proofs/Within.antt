@@ -35,9 +35,9 @@ use Rattle.sp_meaning.specs.Eval.{ordinal_of}
 use Rattle.sp_tree.specs.Uses.{Use, Target, Seen, In_expr, In_form, In_target, In_selectors, In_actuals, In_call}
 use Rattle.sp_tree.specs.Sets.{Reach}
 use Rattle.sp_tree.specs.Interference.{IsFreeOfInterference}
-use Rattle.sp_meaning.specs.Owning.{frame_found, cell_of, spot_of, reference_of, console, location_by, location_at}
-use Rattle.sp_meaning.specs.Owning.{location_of, Sound}
-use Rattle.sp_meaning.specs.Owning.{Gave}
+use Rattle.sp_meaning.specs.Rights.{frame_found, cell_of, spot_of, reference_of, console, location_by, location_at}
+use Rattle.sp_meaning.specs.Rights.{location_of, Sound}
+use Rattle.sp_meaning.specs.Rights.{AreArgumentsOf}
 use Rattle.sp_meaning.proofs.Static.{find_is}
 
 -- what a computation reads and writes is R's and W's, and what it comes to has this fact
@@ -309,7 +309,7 @@ module _ (q : Name) (W R : Loc → Type 0) (fs : List Frame) where
       -- calls keep within what their call may do
       pub record CallsKeep (call : Calls) : Type 0 where
         pub proof : (f : ℕ) (args : Actuals) (gs : List ArgumentValue) → IsSound (In_call f args)
-            → Gave set.program fs args gs
+            → AreArgumentsOf set.program fs args gs
             → KeepsRightsOnly (call f gs)
 
       at_console : (x : ℕ) → (i : Variable) × (slice_get set.program.variables x ≡ Some i) × (i.role ≡ role.Console)
@@ -379,7 +379,7 @@ module _ (q : Name) (W R : Loc → Type 0) (fs : List Frame) where
             then_keeps (field_place set f z) _ (fielded_keeps x f z e) (λ r d. selected_keeps call ok x rest r d s)
 
         pub actuals_keeps : (call : Calls) → CallsKeep call → (args : Actuals) → IsSound (In_actuals args)
-            → KeepsRights q W R fs (Gave set.program fs args) (actuals set call args)
+            → KeepsRights q W R fs (AreArgumentsOf set.program fs args) (actuals set call args)
         actuals_keeps call ok Nothing s = give_keeps _ tt
         actuals_keeps call ok (Pass (ByValue e) rest) s =
             then_stays (value set call e) _ (value_stays call ok e (part (λ u. inl) s))

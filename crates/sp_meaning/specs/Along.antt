@@ -26,25 +26,25 @@ ticks_in (Joins fork count next_state) = next_state.own.ticks
 ticks_in Ended = 0
 
 -- what is kept beside the state: each process's ticks at its last entry, whether a fault stands, and who is laid
-pub record Course : Type 0 where
+pub record JournalState : Type 0 where
   pub since : Name → ℕ
   pub faulted : Bool
   pub laid : Name → Bool
 
 -- before the first entry
-abbrev pub no_course : Course
-no_course = record { since = λ q. 0; faulted = false; laid = λ q. false }
+abbrev pub before_entries : JournalState
+before_entries = record { since = λ q. 0; faulted = false; laid = λ q. false }
 
 -- the process's ticks at this entry
-abbrev pub with_ticks : Name → ℕ → Course → Course
+abbrev pub with_ticks : Name → ℕ → JournalState → JournalState
 with_ticks q n c = record c { since = λ r. cond (same_name q r) n (c.since r) }
 
 -- a fault stands, and who met it is laid
-abbrev pub with_fault : Name → Course → Course
+abbrev pub with_fault : Name → JournalState → JournalState
 with_fault q c = record c { faulted = true; laid = λ r. same_name q r || c.laid r }
 
 -- an entry notes its process's ticks; who faults is laid from there on
-abbrev pub course_after : Name → Happening → ℕ → Course → Course
+abbrev pub course_after : Name → Happening → ℕ → JournalState → JournalState
 course_after q what n c = if is_fault what then with_fault q (with_ticks q n c) else with_ticks q n c
 
 module _ (g : RunInput) where
@@ -72,13 +72,15 @@ module _ (g : RunInput) where
       × (next_state g s q ≡ Some t)
 
   -- a kernel step: only where no fault stands, and where the process is not due
-  abbrev pub KernelStep : (Course → StateOf g → ℕ → Type 0) → Course → StateOf g → Bool → Name → Happening → ℕ → Type 0
+  abbrev pub KernelStep : (JournalState → StateOf g → ℕ → Type 0) → JournalState → StateOf g → Bool → Name → Happening
+      → ℕ → Type 0
   KernelStep left c m paused q what n = (c.faulted ≡ false) × (paused ≡ false) × (u : StateOf g) × (rest : ℕ)
       × (n ≡ suc rest) × MakesEntry m q what u × left (course_after q what (ticks_of u q) c) u rest
 
   -- what the entry's process does after its local steps, which led to m, and what is then left. Laid comes only after a
   -- fault
-  abbrev pub EntryStep : (Course → StateOf g → ℕ → Type 0) → Course → StateOf g → Bool → Name → Happening → ℕ → Type 0
+  abbrev pub EntryStep : (JournalState → StateOf g → ℕ → Type 0) → JournalState → StateOf g → Bool → Name → Happening
+      → ℕ → Type 0
   EntryStep left c m paused q Laid n = (c.faulted ≡ true) × left (with_fault q c) m n
   EntryStep left c m paused q Paused n = (c.faulted ≡ false) × (paused ≡ true)
       × left (with_ticks q (ticks_of m q) c) m n
@@ -89,7 +91,7 @@ module _ (g : RunInput) where
   EntryStep left c m paused q (Faulted f) n = KernelStep left c m paused q (Faulted f) n
 
   -- the entries in order lead from s to t by n steps in all, where a process pauses after so many ticks
-  abbrev pub Along : ℕ → Course → StateOf g → List Occurrence → ℕ → StateOf g → Type 0
+  abbrev pub Along : ℕ → JournalState → StateOf g → List Occurrence → ℕ → StateOf g → Type 0
   Along turn c s [] n t = (n ≡ 0) × (t ≡ s)
   Along turn c s (e ∷ es) n t =
       (c.laid e.who ≡ false) × (k rest : ℕ) × (m : StateOf g) × (paused : Bool) × (n ≡ k + rest)
@@ -98,7 +100,7 @@ module _ (g : RunInput) where
 
   -- along a journal from the start
   abbrev pub IsAlong : ℕ → List Occurrence → ℕ → StateOf g → Type 0
-  IsAlong turn es n t = Along turn no_course (start g) es n t
+  IsAlong turn es n t = Along turn before_entries (start g) es n t
 
 -- no entry is Fault or Laid
 abbrev pub IsCleanly : Happening → Type 0

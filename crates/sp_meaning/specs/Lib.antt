@@ -20,4 +20,4 @@ pub mod Along
 pub mod Ends
 pub mod Fronts
 pub mod Laws
-pub mod Owning
+pub mod Rights

@@ -23,8 +23,8 @@
 //! - `specs/Model.antt` and `Steps` are the processes, whatever their language; `LocalWork`, `EffectTree`, `Eval`,
 //!   `Actions`,
 //!   `Turn` and `SuperPascal` are one process; `Runs`, `Along`, `Ends`, `Disjoint` are what is said of a run.
-//! - `Owning` is what each process has the right to, which `proofs/Started.antt`, `ActionRights`, `Children` and
-//!   `Owned`
+//! - `Owning` is what each process has the right to, which `proofs/RuleKeepers.antt`, `ActionRights`, `Children` and
+//!   `RightsInvariant`
 //!   keep along a run. `proofs/SilentActions.antt`: what a step that forks, offers, ends or fails leaves as it was,
 //!   where
 //!   expressions are pure (`Pure`).
@@ -47,7 +47,7 @@
 //! - `Frames`: what a step changes, and that all else stays.
 //! - `Status`: what each condition of a process says of the others: who is running, who waits, whom a step meets.
 //! - `Meeting`: an offer that met another's, and one that waits.
-//! - `Kept`: each step keeps what is known of the state: a pending offer's process waits, unborn children are
+//! - `StepInvariants`: each step keeps what is known of the state: a pending offer's process waits, unborn children are
 //!   absent, and the parent of a child that lives joins it.
 //! - `Parallel`: two processes that do not wait for one another are parallel.
 //! - `Run`: computations run on a store one after the other: the only place where the trees of reads and writes are
@@ -55,9 +55,9 @@
 //! - `Weights`: how much stands between two ticks of what is left to do: no more than in the statement that it
 //!   comes from.
 //! - `EnoughSteps`: the bound of a step never runs out: each tick pays for what stands between two ticks.
-//! - `Moved`: a local step of the model is the run of the process's own step on the store.
+//! - `LocalSteps`: a local step of the model is the run of the process's own step on the store.
 //! - `Sound`: every step keeps what is known of the state, a faulting one too.
-//! - `Reached`: what every step keeps: names, counts of forks, light items; and ticks never fall.
+//! - `StepLaws`: what every step keeps: names, counts of forks, light items; and ticks never fall.
 //! - `JournalSchedules`: along a journal without a fault goes a lawful schedule of that length.
 //! - `LawProofs`: the laws, as the contracts of `laws.rt` state them.
 //! - `Static`: static links: what is visible from a frame is the same seen from the frames inside it.
@@ -72,8 +72,8 @@
 //!   write, and what it comes to is fair.
 //! - `Children`: a fork hands over rights: each child gets those of its statement's variables, and keeps the
 //!   invariant behind disjointness with them.
-//! - `Owned`: the invariant behind disjointness holds along every lawful schedule.
-//! - `Started`: a program that keeps the rules is disjoint.
+//! - `RightsInvariant`: the invariant behind disjointness holds along every lawful schedule.
+//! - `RuleKeepers`: a program that keeps the rules is disjoint.
 //! - `Pure`: expressions are pure: what they call is functions alone, with values alone, and a function changes
 //!   nothing outside itself.
 //! - `SilentActions`: what a step that forks, offers, ends or fails leaves as it was, where expressions are pure.

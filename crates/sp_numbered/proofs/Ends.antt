@@ -16,7 +16,7 @@ use Rattle.sp_meaning.specs.Ends.{IsDone, IsIdle, EndIs, EndsSo}
 use Rattle.sp_link.proofs.OneState.{one_state}
 use Rattle.sp_witness.specs.Witness.{who_at, witness}
 use Rattle.sp_witness.specs.Contention.{IsContention}
-use Rattle.sp_witness.specs.Numbered.{witness_journal}
+use Rattle.sp_witness.specs.OccurrenceNumbers.{witness_journal}
 use Rattle.sp_numbered.specs.Journals.{IsWitness}
 
 -- in contention a process is running, and a fault stands: so the end is that fault alone

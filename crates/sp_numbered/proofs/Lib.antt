@@ -1,4 +1,4 @@
 mod Ways
-mod Numbering
+mod EntryNumbers
 mod Journals
 mod Ends

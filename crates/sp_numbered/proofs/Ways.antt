@@ -8,13 +8,14 @@ use Rattle.sp_meaning.specs.LocalWork.{RunInput, Process}
 use Rattle.sp_meaning.specs.Entries.{Happening, Opened, Forked, Offered, Faulted, Laid, Paused, Occurrence}
 use Rattle.sp_journal.specs.Names as happenings
 use Rattle.sp_meaning.specs.Runs.{StateOf, running_process, happening_at}
-use Rattle.sp_meaning.specs.Along.{Turn, Course, with_fault, with_ticks, course_after, ticks_of, KernelStep, EntryStep}
+use Rattle.sp_meaning.specs.Along.{Turn, JournalState, with_fault, with_ticks, course_after, ticks_of, KernelStep}
+use Rattle.sp_meaning.specs.Along.{EntryStep}
 use Rattle.sp_meaning.specs.Along.{Along}
 use Rattle.sp_link.proofs.OneState.{turn_one}
 
 module _ (g : RunInput) (turn : ℕ) where
   -- the front of a journal, and that the process of the entry after it runs
-  pub record Front (c : Course) (s : StateOf g) (xs : List Occurrence) (q : Name) : Type 0 where
+  pub record Front (c : JournalState) (s : StateOf g) (xs : List Occurrence) (q : Name) : Type 0 where
     pub steps : ℕ
     pub state : StateOf g
     pub along : Along g turn c s xs steps state
@@ -22,7 +23,7 @@ module _ (g : RunInput) (turn : ℕ) where
     pub runs : running_process g state q ≡ Some own
 
   -- an entry in front of a front
-  record FrontEntry (xs : List Occurrence) (r : Name) (c : Course) (m : StateOf g) (p : Bool) (q : Name)
+  record FrontEntry (xs : List Occurrence) (r : Name) (c : JournalState) (m : StateOf g) (p : Bool) (q : Name)
       (what : Happening) :
       Type 0 where
     state : StateOf g
@@ -31,8 +32,9 @@ module _ (g : RunInput) (turn : ℕ) where
     own : Process
     runs : running_process g state r ≡ Some own
 
-  module _ (xs : List Occurrence) (r : Name) (left : Course → StateOf g → ℕ → Type 0)
-      (go : (c1 : Course) (u : StateOf g) (k : ℕ) → left c1 u k → Front c1 u xs r) (c : Course) (m : StateOf g)
+  module _ (xs : List Occurrence) (r : Name) (left : JournalState → StateOf g → ℕ → Type 0)
+      (go : (c1 : JournalState) (u : StateOf g) (k : ℕ) → left c1 u k
+      → Front c1 u xs r) (c : JournalState) (m : StateOf g)
       (p : Bool) (q : Name) where
     entry : (what : Happening) (n : ℕ) → EntryStep g left c m p q what n → FrontEntry xs r c m p q what
     entry Laid n h = let x = go (with_fault q c) m n h.1 in
@@ -95,7 +97,7 @@ module _ (g : RunInput) (turn : ℕ) where
   turn_runs since q zero s m p (_, _, own, runs, _, _) = (own, runs)
   turn_runs since q (suc k) s m p (own, runs, _, _, _, _) = (own, runs)
 
-  pub front : (xs : List Occurrence) (o : Occurrence) (ys : List Occurrence) (c : Course) (s : StateOf g) (n : ℕ)
+  pub front : (xs : List Occurrence) (o : Occurrence) (ys : List Occurrence) (c : JournalState) (s : StateOf g) (n : ℕ)
       (t : StateOf g) → Along g turn c s (xs ++ o ∷ ys) n t → Front c s xs o.who
   front [] o ys c s n t (_, k, _, mid, paused, _, turn0, _) =
       let r = turn_runs (c.since o.who) o.who k s mid paused turn0 in
@@ -112,7 +114,7 @@ module _ (g : RunInput) (turn : ℕ) where
       }
 
   -- the front with the next entry
-  pub along_front : (xs ys : List Occurrence) (c : Course) (s : StateOf g) (n : ℕ) (t : StateOf g)
+  pub along_front : (xs ys : List Occurrence) (c : JournalState) (s : StateOf g) (n : ℕ) (t : StateOf g)
       → Along g turn c s (xs ++ ys) n t → (k : ℕ) × (u : StateOf g) × Along g turn c s xs k u
   along_front xs [] c s n t a = (n, t, subst (λ z. Along g turn c s z n t) (append-nil xs) a)
   along_front xs (o ∷ ys) c s n t a = let f = front xs o ys c s n t a in (f.steps, f.state, f.along)
@@ -127,7 +129,7 @@ module _ (g : RunInput) (turn : ℕ) where
   pick false true w = Some Paused
   pick false false w = w
 
-  module _ (left : Course → StateOf g → ℕ → Type 0) (c : Course) (m : StateOf g) (p : Bool) (q : Name) where
+  module _ (left : JournalState → StateOf g → ℕ → Type 0) (c : JournalState) (m : StateOf g) (p : Bool) (q : Name) where
     kernel_says : (what : Happening) (n : ℕ) → KernelStep g left c m p q what n
         → Some what ≡ pick c.faulted p (said_by (running_process g m q) m q)
     unfolding said_by
@@ -145,8 +147,9 @@ module _ (g : RunInput) (turn : ℕ) where
     entry_says (Faulted f) n h = kernel_says (Faulted f) n h
 
   -- two ways on after one entry
-  module _ (A : Type 0) (left right : Course → StateOf g → ℕ → Type 0) (c : Course) (m : StateOf g) (p : Bool)
-      (q : Name) (go : (c1 : Course) (u : StateOf g) (n k : ℕ) → left c1 u n → right c1 u k → A) where
+  module _ (A : Type 0) (left right : JournalState → StateOf g → ℕ
+      → Type 0) (c : JournalState) (m : StateOf g) (p : Bool)
+      (q : Name) (go : (c1 : JournalState) (u : StateOf g) (n k : ℕ) → left c1 u n → right c1 u k → A) where
     kernel_two : (what : Happening) (n k : ℕ) → KernelStep g left c m p q what n → KernelStep g right c m p q what k → A
     kernel_two what n k (_, _, to, rest, _, (_, _, _, goes), after) (_, _, to1, rest1, _, (_, _, _, goes1), after1) =
         let one : to1 ≡ to = same_Some to1 to (sym goes1 ∙ goes) in
@@ -163,7 +166,7 @@ module _ (g : RunInput) (turn : ℕ) where
     entered_two (Faulted f) n k h i = kernel_two (Faulted f) n k h i
 
   -- the next entry of one process is one
-  pub next_one : (xs : List Occurrence) (q : Name) (a b : Happening) (c : Course) (s : StateOf g) (n k : ℕ)
+  pub next_one : (xs : List Occurrence) (q : Name) (a b : Happening) (c : JournalState) (s : StateOf g) (n k : ℕ)
       (t v : StateOf g) → Along g turn c s (xs ++ record { who = q; what = a } ∷ []) n t
       → Along g turn c s (xs ++ record { who = q; what = b } ∷ []) k v → a ≡ b
   next_one [] q a b c s n k t v (_, n0, rest, mid, paused, _, turn0, enters)
@@ -178,7 +181,7 @@ module _ (g : RunInput) (turn : ℕ) where
   next_one (x ∷ xs) q a b c s n k t v (_, n0, rest, mid, paused, _, turn0, enters)
       (_, n1, rest1, mid1, paused1, _, turn1, enters1) =
       let z = turn_one g turn (c.since x.who) x.who n1 n0 s mid1 mid paused1 paused turn1 turn0 in
-      let right : Course → StateOf g → ℕ → Type 0 =
+      let right : JournalState → StateOf g → ℕ → Type 0 =
       λ c1 u r. Along g turn c1 u (xs ++ record { who = q; what = b } ∷ []) r v in
       let at : EntryStep g right c mid paused x.who x.what rest1 =
       subst (λ y. EntryStep g right c mid y x.who x.what rest1) z.paused

@@ -1,2 +1,2 @@
-pub mod Numbering
+pub mod NumberedRuns
 pub mod Journals

@@ -17,8 +17,8 @@ ghost use Rattle.sp_meaning.specs.Ends.{EndsSo};
 ghost use Rattle.sp_judge.specs.Races.{IsLeastRace};
 ghost use Rattle.sp_link.specs.Premises.{IsReady};
 ghost use Rattle.sp_witness.specs.Witness.{who_at};
-ghost use Rattle.sp_witness.specs.Numbered.{witness_journal};
-ghost use Rattle.sp_numbered.specs.Numbering.{Numbered};
+ghost use Rattle.sp_witness.specs.OccurrenceNumbers.{witness_journal};
+ghost use Rattle.sp_numbered.specs.NumberedRuns.{Numbered};
 ghost use Rattle.sp_numbered.specs.Journals.{IsWitness};
 
 use sp_meaning::done_is_idle;

@@ -3,7 +3,7 @@
 ghost use Rattle.std.specs.Prelude.{◌≡◌, None, IfOk, IfSome, take};
 
 use crate::count::raised;
-use crate::failed::LoadError;
+use crate::failures::LoadError;
 use crate::library::Library;
 use std::alloc::Global;
 use std::io::{ErrorKind, Read};

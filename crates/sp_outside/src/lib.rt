@@ -36,7 +36,7 @@
 #![tactic(auto)]
 
 mod count;
-mod failed;
+mod failures;
 mod files;
 mod gate;
 mod input_buffer;
@@ -46,19 +46,19 @@ mod memory_sink;
 mod memory_source;
 mod output_buffer;
 mod plan;
-mod read;
+mod reader;
 mod sink;
 mod source;
 mod streams;
 
-pub use failed::{Failed, LoadError, ReadError};
+pub use failures::{Failed, LoadError, ReadError};
 pub use files::FileLibrary;
 pub use gate::{Gate, OpenGate};
 pub use library::Library;
 pub use memory_library::{MemoryLibrary, SureLibrary};
 pub use memory_sink::{MemorySink, SureSink};
 pub use memory_source::{MemorySource, SureSource};
-pub use read::read_all;
+pub use reader::read_all;
 pub use sink::{Sink, put_all};
 pub use source::Source;
 pub use streams::{StreamSink, StreamSource};

@@ -3,7 +3,7 @@
 ghost use Rattle.std.specs.Prelude.{◌≡◌, ◌≢◌, ◌↔◌, ℕ, List, Option, ◌<◌, ◌≤◌, length, IfOk, IfSome, vec_len};
 ghost use Rattle.sp_outside.specs.Counts.{Rose};
 
-use crate::failed::LoadError;
+use crate::failures::LoadError;
 use std::alloc::Global;
 
 /// Texts under names.

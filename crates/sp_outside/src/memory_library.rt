@@ -7,7 +7,7 @@ ghost use Rattle.sp_outside.specs.Counts.{Rose};
 ghost use Rattle.sp_outside.specs.Plans.{fails_next, plan_after_call, first_plan};
 ghost use Rattle.sp_outside.specs.Files.{bytes_under};
 
-use crate::failed::LoadError;
+use crate::failures::LoadError;
 use crate::library::Library;
 use crate::plan::Plan;
 use sp_base::{List, Text};

@@ -5,7 +5,7 @@ ghost use Rattle.std.specs.Prelude.{vec_len};
 ghost use Rattle.sp_outside.specs.Counts.{Rose};
 ghost use Rattle.sp_outside.specs.Visible.{Grows};
 
-use crate::failed::Failed;
+use crate::failures::Failed;
 use crate::output_buffer::OutputBuffer;
 use crate::plan::Plan;
 use crate::sink::Sink;

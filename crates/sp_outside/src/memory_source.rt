@@ -4,7 +4,7 @@ ghost use Rattle.std.specs.Prelude.{◌≡◌, ◌↔◌, ◌<◌, ◌≤◌, So
 ghost use Rattle.sp_outside.specs.Visible.{Shrinks, IsAtEnd};
 ghost use Rattle.sp_outside.specs.Counts.{Rose};
 
-use crate::failed::Failed;
+use crate::failures::Failed;
 use crate::input_buffer::InputBuffer;
 use crate::plan::Plan;
 use crate::source::Source;

@@ -4,7 +4,7 @@ ghost use Rattle.std.specs.Prelude.{◌≡◌, ℕ, List, Option, ◌<◌, ◌�
 ghost use Rattle.sp_outside.specs.Counts.{Rose};
 ghost use Rattle.sp_outside.specs.Visible.{Grows};
 
-use crate::failed::Failed;
+use crate::failures::Failed;
 
 /// Takes bytes.
 pub trait Sink {

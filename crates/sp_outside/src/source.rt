@@ -4,7 +4,7 @@ ghost use Rattle.std.specs.Prelude.{◌≡◌, ℕ, List, Option, ◌<◌, ◌�
 ghost use Rattle.sp_outside.specs.Visible.{Shrinks, IsAtEnd};
 ghost use Rattle.sp_outside.specs.Counts.{Rose};
 
-use crate::failed::Failed;
+use crate::failures::Failed;
 
 /// Gives bytes.
 pub trait Source {

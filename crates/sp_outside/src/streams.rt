@@ -7,7 +7,7 @@ ghost use Rattle.std.specs.Io.KnownBytes.{Consumes, Appends, IsAtEnd};
 ghost use Rattle.sp_outside.specs.Counts.{Rose};
 
 use crate::count::raised;
-use crate::failed::Failed;
+use crate::failures::Failed;
 use crate::sink::Sink;
 use crate::source::Source;
 use std::io;

@@ -1,6 +1,6 @@
 mod Steps
 mod Behind
-mod Spelling
+mod DigitNumbers
 mod SoFar
 mod Rounds
 mod ReadNames
@@ -13,5 +13,5 @@ mod ReadFactors
 mod ReadParts
 mod ReadBlocks
 mod ReadStatements
-pub mod Fitting
-mod Parsing
+pub mod TokenBounds
+mod TreeAnswers

@@ -9,7 +9,7 @@ ghost use Rattle.sp_parse.specs.BlockProductions as grammar;
 use crate::have;
 use crate::operators::is;
 use crate::source::{Source, cut, expect, misplaced};
-use crate::spelled::{name_at, number_at, quoted_at};
+use crate::spelling::{name_at, number_at, quoted_at};
 use sp_base::{Halt, Place};
 use sp_tree::{Kind, SynConst, SynValue, Token, sign};
 

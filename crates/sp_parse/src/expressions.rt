@@ -7,16 +7,16 @@ ghost use Rattle.sp_parse.specs.Reads.{HasTokens, ParsesAs, ReadsSoFar};
 ghost use Rattle.sp_parse.specs.ExpressionProductions as grammar;
 ghost use Rattle.sp_parse.specs.Trees.{selectors_of, and_selectors};
 
-use crate::deep::{deep_expression, deep_factor};
-use crate::have;
-use crate::made::{
+use crate::constructors::{
     argument as make_argument, binary, call_expression, field, index, moved, number_expression,
     quoted_expression, read_expression, unary, variable,
 };
+use crate::deep::{deep_expression, deep_factor};
+use crate::have;
 use crate::names::name;
 use crate::operators::{adding, is, multiplying, relational, sign_of};
 use crate::source::{Source, cut, expect, misplaced, pass};
-use crate::spelled::{name_at, number_at, quoted_at};
+use crate::spelling::{name_at, number_at, quoted_at};
 use sp_base::{Halt, List, Place};
 use sp_tree::{Kind, MAX_NESTING, Name, SynArg, SynExpr, SynSelector, Token, UnaryOp, sign, word};
 

@@ -14,30 +14,30 @@
 //! - Chains, lists and selectors are loops. Only nesting is recursion, and at most 200 parts deep.
 //! - Of the proofs, `Steps` and `Behind` are the steps of the machine and what stands behind them, `SoFar` and
 //!   `Rounds` the loops (`Rounds` those that begin with an item), `Rows` the use of rows of the table. `Read*` have
-//!   the lemmas of each group of functions, and `Parsing` leads to the tokens' own definitions.
+//!   the lemmas of each group of functions, and `TreeAnswers` leads to the tokens' own definitions.
 //!
 //! Lemmas for others, in `proofs`:
-//! - `Fitting`: the tokens of a text that breaks no rule of characters lie in it, and their numbers are integers.
+//! - `TokenBounds`: the tokens of a text that breaks no rule of characters lie in it, and their numbers are integers.
 //!
 //! To change:
-//! - A line of the grammar: its production, the function of its symbol, its constructor in `src/made*.rt`, and its
-//!   lemmas in `proofs/Read*`.
+//! - A line of the grammar: its production, the function of its symbol, its constructor in `src/constructors*.rt`, and
+//!   its lemmas in `proofs/Read*`.
 #![tactic(auto)]
 
 mod blocks;
 mod constants;
+mod constructors;
 mod declarations;
 mod deep;
 mod expressions;
 mod headings;
-mod made;
 mod made_blocks;
 mod made_statements;
 mod names;
 mod operators;
 mod parser;
 mod source;
-mod spelled;
+mod spelling;
 mod statements;
 mod types;
 

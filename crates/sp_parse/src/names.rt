@@ -7,7 +7,7 @@ ghost use Rattle.sp_parse.specs.BlockProductions as grammar;
 
 use crate::have;
 use crate::source::{Source, cut, expect, misplaced, pass};
-use crate::spelled::name_at;
+use crate::spelling::name_at;
 use sp_base::{Halt, List};
 use sp_tree::{Kind, Name, Token, sign};
 

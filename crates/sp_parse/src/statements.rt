@@ -9,10 +9,10 @@ ghost use Rattle.sp_parse.specs.StatementProductions as grammar;
 ghost use Rattle.sp_parse.specs.Trees.{other_of, arms_of, branches_of, bounds_of};
 
 use crate::constants::constant;
+use crate::constructors::variable;
 use crate::deep::deep_statement;
 use crate::expressions::{arguments, expression, expression_then, selectors};
 use crate::have;
-use crate::made::variable;
 use crate::made_statements::{
     Bounds, arm as make_arm, assign_statement, assume_statement, call_statement, case_statement,
     empty_statement, for_statement, forall_statement, if_statement, parallel_statement, process,
@@ -21,7 +21,7 @@ use crate::made_statements::{
 use crate::names::name_then;
 use crate::operators::{begins_selector, is};
 use crate::source::{Source, cut, expect, misplaced, pass};
-use crate::spelled::name_at;
+use crate::spelling::name_at;
 use sp_base::{Boxed, Halt, List, Place};
 use sp_tree::{Kind, MAX_NESTING, Name, SynArm, SynBranch, SynConst, SynStmt, Token, sign, word};
 

@@ -10,7 +10,7 @@ use crate::have;
 use crate::names::{name, names};
 use crate::operators::is;
 use crate::source::{Source, cut, expect, misplaced, pass};
-use crate::spelled::name_at;
+use crate::spelling::name_at;
 use sp_base::{Halt, List};
 use sp_tree::{Kind, Name, SynGroup, SynKind, Token, sign, word};
 

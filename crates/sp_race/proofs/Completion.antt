@@ -13,8 +13,8 @@ use Rattle.sp_journal.specs.Past.{KnowsCompletions, CompletedFrom, AreOrdered}
 use Rattle.sp_meaning.specs.Maps.{at_key}
 use Rattle.sp_meaning.proofs.Maps.{same_or_not, at_other}
 use Rattle.sp_meaning.proofs.Keys.{channel_test}
-use Rattle.sp_race.specs.Known.{KnowsOffers, KnownFrom, AreKnown}
-use Rattle.sp_race.proofs.Linking.{grown_size, kept_entry, last_entry}
+use Rattle.sp_race.specs.OfferOrder.{KnowsOffers, KnownFrom, AreKnown}
+use Rattle.sp_race.proofs.NoteLaws.{grown_size, kept_entry, last_entry}
 use Rattle.sp_race.proofs.LinkedSteps.{learn_below, teach_below, now_below, report_below}
 
 -- where it holds a completion, it holds what was completed

@@ -17,15 +17,15 @@ use Rattle.sp_meaning.proofs.Frames.{IsOn, WritesTo, AllIn, all_in, forks_frame,
 use Rattle.sp_meaning.proofs.Status.{Makes, working_stands, far, keeps_working, working_no_parent, on_partner}
 use Rattle.sp_meaning.proofs.Status.{waiting_far, waiting_no_parent}
 use Rattle.sp_meaning.proofs.Meeting.{waited}
-use Rattle.sp_meaning.proofs.Kept.{sound_kept}
+use Rattle.sp_meaning.proofs.StepInvariants.{sound_kept}
 use Rattle.sp_meaning.proofs.Parallel.{parallel}
 use Rattle.sp_race.specs.Notes.{JudgeNotes, Note, with_judge_notes, notes_of, no_notes, IsKnowledge, KnowsBefore}
-use Rattle.sp_race.specs.Noting.{WithNotes, notes_after, noted_step_of, step_with_notes, system_with_notes}
-use Rattle.sp_race.specs.Ordered.{IsOrderedRun}
+use Rattle.sp_race.specs.RunNotes.{WithNotes, notes_after, noted_step_of, step_with_notes, system_with_notes}
+use Rattle.sp_race.specs.OrderedRuns.{IsOrderedRun}
 use Rattle.sp_race.proofs.Diamond.{CommutingSteps, GoodRun, ends_alike}
 use Rattle.sp_race.proofs.NotesFrames.{notes_in, events_frame, past_frame, offers_frame, notes_same, all_notes_swap}
 use Rattle.sp_race.proofs.NotesFrames.{offers_grow, known_kept}
-use Rattle.sp_race.proofs.Commuting.{Touches, exchange}
+use Rattle.sp_race.proofs.Exchanges.{Touches, exchange}
 use Rattle.sp_race.proofs.Rendezvous.{ExchangedTo, met_first, waits_first}
 use Rattle.sp_race.proofs.Partners.{TakesPart, accessor, clash_or_off, knows_same, part_alone, parts_apart, writer}
 

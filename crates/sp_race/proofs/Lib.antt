@@ -1,14 +1,14 @@
 mod Ways
 mod Diamond
 mod Changes
-pub mod Commuting
+pub mod Exchanges
 pub mod NotesFrames
 mod Rendezvous
 pub mod Partners
 pub mod GoodSteps
-pub mod Linking
+pub mod NoteLaws
 pub mod LinkedSteps
 pub mod Completion
 pub mod Verdict
-mod Testing
+mod OrderTests
 mod Rows

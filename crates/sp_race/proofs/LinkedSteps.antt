@@ -19,11 +19,11 @@ use Rattle.sp_meaning.proofs.Meeting.{met, waited, same_changes}
 use Rattle.sp_race.specs.Notes.{Event, same_event, JudgeNotes, Note, Counts, Learns, with_judge_note, with_judge_notes}
 use Rattle.sp_race.specs.Notes.{next_event_of, known_after_event, notes_to_children}
 use Rattle.sp_race.specs.Notes.{notes_to_parent, meeting_notes, offer_notes, notes_of, IsKnowledge}
-use Rattle.sp_race.specs.Noting.{notes_after}
-use Rattle.sp_race.specs.Linked.{known_label, IsPending, NotesMatch}
+use Rattle.sp_race.specs.RunNotes.{notes_after}
+use Rattle.sp_race.specs.PastsAndNotes.{known_label, IsPending, NotesMatch}
 use Rattle.sp_race.proofs.NotesFrames.{HasCount}
-use Rattle.sp_race.proofs.Linking.{past_is, index_is, spread, linked_on, linked_waits, linked_meets, below_or_at}
-use Rattle.sp_race.proofs.Linking.{kept_entry, grown_size}
+use Rattle.sp_race.proofs.NoteLaws.{past_is, index_is, spread, linked_on, linked_waits, linked_meets, below_or_at}
+use Rattle.sp_race.proofs.NoteLaws.{kept_entry, grown_size}
 
 puts_forks : {L : Language} (ws : List (L.Loc × L.Value)) (t : State L) → (with_changes (write_changes ws) t).forks
     ≡ t.forks

@@ -12,7 +12,7 @@ use Rattle.sp_meaning.proofs.Frames.{IsOn, WritesTo}
 use Rattle.sp_meaning.proofs.Status.{IsNotWaiting, waits_stands, working_stands, waits_one}
 use Rattle.sp_meaning.proofs.Parallel.{IsAlone}
 use Rattle.sp_race.specs.Notes.{Event, JudgeNotes, KnowsBefore}
-use Rattle.sp_race.proofs.Commuting.{Touches}
+use Rattle.sp_race.proofs.Exchanges.{Touches}
 
 -- Who takes part in a step: the process, and whom its offer meets
 abbrev pub TakesPart : {L : Language} → State L → Name → ActOf L → Name → Type 0

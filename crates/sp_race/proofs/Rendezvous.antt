@@ -20,9 +20,9 @@ use Rattle.sp_meaning.proofs.Meeting.{met}
 use Rattle.sp_race.specs.Notes.{same_event, known_to_either, JudgeNotes, Note, Counts, Learns, Records, with_judge_note}
 use Rattle.sp_race.specs.Notes.{with_judge_notes, next_event_of, known_after_event}
 use Rattle.sp_race.specs.Notes.{other_way, meeting_notes, offer_notes, notes_of, IsKnowledge, KnowsBefore}
-use Rattle.sp_race.specs.Noting.{notes_after}
+use Rattle.sp_race.specs.RunNotes.{notes_after}
 use Rattle.sp_race.proofs.NotesFrames.{event_test, or_comm, notes_swap, notes_in, past_frame, both_kept, both_right}
-use Rattle.sp_race.proofs.Commuting.{passed_earlier}
+use Rattle.sp_race.proofs.Exchanges.{passed_earlier}
 use Rattle.sp_race.proofs.Ways.{way_itself}
 
 -- The state

@@ -4,8 +4,8 @@ use Rattle.std.proofs.lemmas.Bool.{true≢false}
 use Rattle.sp_journal.specs.declared.entry.Way.TheVariants as way
 use Rattle.sp_journal.specs.Names.{Name, Channel, Happening, Opened, Forked, Offered, Ended, Occurrence}
 use Rattle.sp_journal.specs.Past.{AreOrdered}
-use Rattle.sp_race.specs.Tested.{order_test}
-use Rattle.sp_race.proofs.Testing.{test_ordered, ordered_test}
+use Rattle.sp_race.specs.OrderTest.{order_test}
+use Rattle.sp_race.proofs.OrderTests.{test_ordered, ordered_test}
 
 abbrev by : Name → Happening → Occurrence
 by p h = record { who = p; what = h }

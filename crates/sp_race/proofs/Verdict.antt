@@ -14,23 +14,24 @@ use Rattle.sp_meaning.specs.SuperPascal.{superpascal, root, first_store}
 use Rattle.sp_meaning.specs.Entries.{Happening, Opened, Forked, Offered, Ended, Faulted, Laid, Paused, Occurrence}
 use Rattle.sp_meaning.specs.Runs.{StateOf, start, total_limits, running_process, next_state, system_of, Lawful}
 use Rattle.sp_meaning.specs.Runs.{happening_of, happening_at, IsDisjointRun}
-use Rattle.sp_meaning.specs.Along.{Either, is_due_after, Turn, Course, no_course, KernelStep, EntryStep, Along, IsAlong}
+use Rattle.sp_meaning.specs.Along.{Either, is_due_after, Turn, JournalState, before_entries, KernelStep, EntryStep}
+use Rattle.sp_meaning.specs.Along.{Along, IsAlong}
 use Rattle.sp_meaning.specs.Along.{IsCleanly}
 use Rattle.sp_meaning.specs.Along.{IsClean}
 use Rattle.sp_meaning.specs.Ends.{IsDone, IsIdle}
 use Rattle.sp_meaning.proofs.Status.{Makes}
-use Rattle.sp_meaning.proofs.Kept.{sound_kept}
+use Rattle.sp_meaning.proofs.StepInvariants.{sound_kept}
 use Rattle.sp_meaning.proofs.Instance.{superpascal_keeps}
 use Rattle.sp_meaning.proofs.JournalSchedules.{no_fault_step}
 use Rattle.sp_meaning.proofs.LawProofs.{done_idle}
 use Rattle.sp_race.specs.Notes.{Event, JudgeNotes, no_notes, IsKnowledge, KnowsBefore}
-use Rattle.sp_race.specs.Noting.{notes_after}
-use Rattle.sp_race.specs.Ordered.{IsOrderedRun}
-use Rattle.sp_race.specs.Known.{KnowsOffers, KnownFrom}
-use Rattle.sp_race.specs.Linked.{NotesMatch}
+use Rattle.sp_race.specs.RunNotes.{notes_after}
+use Rattle.sp_race.specs.OrderedRuns.{IsOrderedRun}
+use Rattle.sp_race.specs.OfferOrder.{KnowsOffers, KnownFrom}
+use Rattle.sp_race.specs.PastsAndNotes.{NotesMatch}
 use Rattle.sp_race.proofs.NotesFrames.{known_kept}
 use Rattle.sp_race.proofs.GoodSteps.{made_of, sound_opening, knows_nothing, confluence}
-use Rattle.sp_race.proofs.Linking.{known_linked}
+use Rattle.sp_race.proofs.NoteLaws.{known_linked}
 use Rattle.sp_race.proofs.LinkedSteps.{opens_linked, forks_linked, ends_linked, moves_linked, offers_linked}
 use Rattle.sp_race.proofs.LinkedSteps.{pause_linked}
 use Rattle.sp_race.proofs.Completion.{ordered_known}
@@ -252,12 +253,13 @@ module _ (g : RunInput) where
           (put Ended _ (ends_linked s v q x.cs at.sound at.known x.makes j done n label at.linked e)
           (subst (λ a. KnowsBefore (superpascal g) v q a) (sym e) tt))
 
-  abbrev Goes_on : (Course → StateOf g → ℕ → Type 0) → StateOf g → Knowledge → List Occurrence → ℕ → Type 0
-  Goes_on left t j done n = (c1 : Course) (u : StateOf g) (r : ℕ) → left c1 u r
+  abbrev Goes_on : (JournalState → StateOf g → ℕ → Type 0) → StateOf g → Knowledge → List Occurrence → ℕ → Type 0
+  Goes_on left t j done n = (c1 : JournalState) (u : StateOf g) (r : ℕ) → left c1 u r
       → (w : JudgeNotes) (label : ℕ → Option Event)
       → KnownAfterEntries u w j done n label → OrderedSchedule u w r t
 
-  kernel_goes : (left : Course → StateOf g → ℕ → Type 0) (c : Course) (m : StateOf g) (paused : Bool) (q : Name)
+  kernel_goes : (left : JournalState → StateOf g → ℕ
+      → Type 0) (c : JournalState) (m : StateOf g) (paused : Bool) (q : Name)
       (w : Happening) (r : ℕ) (t : StateOf g) (v : JudgeNotes) (j : Knowledge) (done : List Occurrence) (n : ℕ)
       (label : ℕ → Option Event) → IsCleanly w → KernelStep g left c m paused q w r
       → KnownAfterEntries m v j done n label → KnowsOffers j done q w
@@ -270,7 +272,8 @@ module _ (g : RunInput) where
       subst (λ z. OrderedSchedule m v z t) (sym rest_is) (first m v q own u rest t at.no_fault runs goes y.knows
       (go _ u rest after (notes_after m v q ((superpascal g).next own m.store)) y.label y.at))
 
-  entered_goes : (left : Course → StateOf g → ℕ → Type 0) (c : Course) (m : StateOf g) (paused : Bool) (q : Name)
+  entered_goes : (left : JournalState → StateOf g → ℕ
+      → Type 0) (c : JournalState) (m : StateOf g) (paused : Bool) (q : Name)
       (w : Happening) (r : ℕ) (t : StateOf g) (v : JudgeNotes) (j : Knowledge) (done : List Occurrence) (n : ℕ)
       (label : ℕ → Option Event) → IsCleanly w → EntryStep g left c m paused q w r
       → KnownAfterEntries m v j done n label → KnowsOffers j done q w
@@ -294,7 +297,8 @@ module _ (g : RunInput) where
         no_fault = at.no_fault;
       })
 
-  along_goes : (turn : ℕ) (es : List Occurrence) (c : Course) (s : StateOf g) (r : ℕ) (t : StateOf g) (v : JudgeNotes)
+  along_goes : (turn : ℕ) (es : List Occurrence) (c : JournalState) (s : StateOf g) (r : ℕ) (t : StateOf g)
+      (v : JudgeNotes)
       (j : Knowledge) (done : List Occurrence) (n : ℕ) (label : ℕ → Option Event) → Along g turn c s es r t → IsClean es
       → KnownAfterEntries s v j done n label → KnownFrom j done es → OrderedSchedule s v r t
   along_goes turn [] c s r t v j done n label a clean at k =
@@ -333,7 +337,7 @@ module _ (g : RunInput) where
       → IsAlong g turn es n t → IsClean es → IsDone g t ⊎ IsIdle g t → AreOrdered es
       → (qs : List Name) (u : StateOf g) → Lawful g (start g) qs u → EndsAlike (system_of g) (start g) n t qs u
   each_ends_alike turn es n t disjoint along clean end ordered qs u other =
-      let go = along_goes turn es no_course (start g) n t no_notes no_knowledge [] 0 (λ i. None) along clean
+      let go = along_goes turn es before_entries (start g) n t no_notes no_knowledge [] 0 (λ i. None) along clean
       (record {
         linked = linked_start;
         sound = sound_opening (superpascal g) (root g) (first_store g);

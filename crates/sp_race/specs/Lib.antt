@@ -1,6 +1,6 @@
 pub mod Notes
-pub mod Noting
-pub mod Ordered
-pub mod Linked
-pub mod Known
-pub mod Tested
+pub mod RunNotes
+pub mod OrderedRuns
+pub mod PastsAndNotes
+pub mod OfferOrder
+pub mod OrderTest

@@ -9,8 +9,8 @@ ghost use Rattle.sp_meaning.specs.Runs.{StateOf, start, system_of, Lawful};
 ghost use Rattle.sp_meaning.specs.Along.{IsAlong, IsClean};
 ghost use Rattle.sp_meaning.specs.Ends.{IsDone, IsIdle};
 ghost use Rattle.sp_meaning.specs.Schedules.{EndsAlike};
-ghost use Rattle.sp_race.specs.Known.{AreKnown};
-ghost use Rattle.sp_race.specs.Tested.{order_test};
+ghost use Rattle.sp_race.specs.OfferOrder.{AreKnown};
+ghost use Rattle.sp_race.specs.OrderTest.{order_test};
 
 /// The theorem on ordered runs. A program keeps the rules of interference; a run of it, of n steps, along a journal
 /// without a fault has come to t, which is done or in a deadlock; and the order condition holds of the journal. Then

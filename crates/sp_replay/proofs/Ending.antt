@@ -9,7 +9,7 @@ use Rattle.sp_code.specs.Control.{Doing, Unborn, Ready, Out, Sending, Receiving,
 use Rattle.sp_code.specs.Control.{Running as Going, IsDone, IsDeadlock, IsFault, IsMemory, is_ready, has_ended}
 use Rattle.sp_code.specs.System.{store_in}
 use Rattle.sp_history.specs.Agreement.{EachNumber, IsOut, phase, phase_in, Running, HasOuts}
-use Rattle.sp_history.specs.Holding.{IsOutputOf}
+use Rattle.sp_history.specs.OutputHolder.{IsOutputOf}
 use Rattle.sp_history.proofs.Holders.{one_holder}
 use Rattle.sp_history.proofs.Outs.{nobody_runs}
 use Rattle.sp_history.proofs.Phases.{live_phase}
@@ -18,13 +18,13 @@ use Rattle.sp_kernel.specs.declared.kernel.Kernel.{Kernel}
 use Rattle.sp_kernel.specs.Kernels.{control_of, system_of, code_run_of}
 use Rattle.sp_kernel.specs.Closes.{HeldHere, KernelEndsAs as KernelEndsSo}
 use Rattle.sp_kernel.specs.Outputs.{output_of_process, or_rest}
-use Rattle.sp_kernel.specs.Keeping.{from_start}
-use Rattle.sp_kernel.proofs.Writing.{or_rest_none}
-use Rattle.sp_runner.proofs.Closing.{ends_at}
-use Rattle.sp_replay.specs.Held.{held_at, output_in, outputs}
-use Rattle.sp_replay.specs.Following.{IsOutOfKernel, HasCome, AreOut}
+use Rattle.sp_kernel.specs.KernelLaws.{from_start}
+use Rattle.sp_kernel.proofs.FoundOutputs.{or_rest_none}
+use Rattle.sp_runner.proofs.RunResults.{ends_at}
+use Rattle.sp_replay.specs.HeldProcesses.{held_at, output_in, outputs}
+use Rattle.sp_replay.specs.FollowInvariant.{IsOutOfKernel, HasCome, AreOut}
 use Rattle.sp_replay.specs.Replays.{GoesOn, ReplayEndsSo}
-use Rattle.sp_replay.proofs.Coming.{is_whole, has_outs}
+use Rattle.sp_replay.proofs.HistorySteps.{is_whole, has_outs}
 
 -- ---- how the control stands
 

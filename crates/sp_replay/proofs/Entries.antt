@@ -13,10 +13,10 @@ use Rattle.sp_history.specs.Agreement.{Among, phase, phase_in, Running}
 use Rattle.sp_machine.specs.declared.state.State.{State as Proc}
 use Rattle.sp_kernel.specs.declared.kernel.Kernel.{Kernel}
 use Rattle.sp_kernel.specs.Kernels.{control_of, system_of, code_run_of}
-use Rattle.sp_replay.specs.Following.{IsOutOfKernel, HasCome, AreOut, HoldsAllReady, EventMade, CannotCome}
-use Rattle.sp_replay.specs.declared.followed.Followed.{Followed}
+use Rattle.sp_replay.specs.FollowInvariant.{IsOutOfKernel, HasCome, AreOut, HoldsAllReady, EventMade, CannotCome}
+use Rattle.sp_replay.specs.declared.follow.FollowedRun.{FollowedRun}
 use Rattle.sp_replay.specs.Replays.{IsUnfitAt}
-use Rattle.sp_replay.proofs.Coming.{is_whole}
+use Rattle.sp_replay.proofs.HistorySteps.{is_whole}
 
 -- the last entry of several
 leads_last : {S : Type 0} (stores : Stores S) (g : CodeRun) (s : System S) (es : List Entry) (e : Entry) (t : System S)
@@ -82,7 +82,7 @@ other_event x y e f made n t enters = n
     (event_same plain (code_run_of x) (system_of x) e.process f e.event (system_of y)
     t made.enters enters)
 
-pub compared : (b : Bool) (f : Event) (x : Kernel) (g : Followed) (d : Entry) (e : Event) → HoldsAllReady g
+pub compared : (b : Bool) (f : Event) (x : Kernel) (g : FollowedRun) (d : Entry) (e : Event) → HoldsAllReady g
     → EventMade x d.process e g.kernel → f ≡ e → MatchBool b (f ≡ d.event) (f ≢ d.event)
     → MatchBool b (HoldsAllReady g × EventMade x d.process d.event g.kernel) (CannotCome x d)
 compared true f x g d e s m is c = (s, subst (λ v. EventMade x d.process v g.kernel) (sym is ∙ c) m)

@@ -1,10 +1,10 @@
 mod OutOfKernel
-mod Living
-mod Giving
-mod Coming
+mod LiveRoots
+mod OutProcesses
+mod HistorySteps
 mod Entries
 mod Ending
-mod Holding
+mod HeldLists
 mod TellingLaws
-mod Showing
+mod LastTurns
 mod TooLarge

@@ -4,9 +4,9 @@ use Rattle.sp_journal.specs.declared.entry.Way.TheVariants as way
 use Rattle.sp_journal.specs.declared.entry.Event.{Event}
 use Rattle.sp_journal.specs.declared.entry.Event.TheVariants as event
 use Rattle.sp_code.specs.Control.{Control, Sending, Receiving, Ended, does, comes_back}
-use Rattle.sp_history.proofs.Unchanged.{offers_faulted, reports_faulted}
-use Rattle.sp_kernel.proofs.Closing.{IsByNoEvent}
-use Rattle.sp_replay.specs.Following.{IsOutOfKernel}
+use Rattle.sp_history.proofs.EventFrames.{offers_faulted, reports_faulted}
+use Rattle.sp_kernel.proofs.RunEnds.{IsByNoEvent}
+use Rattle.sp_replay.specs.FollowInvariant.{IsOutOfKernel}
 
 -- who is away after an event was so before it
 pub away_by_none : IsByNoEvent IsOutOfKernel

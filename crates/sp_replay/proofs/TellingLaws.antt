@@ -12,8 +12,8 @@ use Rattle.sp_code.specs.PlainStore.{plain}
 use Rattle.sp_code.specs.Sound.{run_of}
 use Rattle.sp_code.specs.System.{System, IsSystem, opening_system}
 use Rattle.sp_code.specs.Turns.{IsTurn}
-use Rattle.sp_lines.specs.declared.told.Told.{Told}
-use Rattle.sp_lines.specs.Telling.{told_of, EntryTells, EntriesTell, IsTold}
+use Rattle.sp_lines.specs.declared.entry_place.Told.{Told}
+use Rattle.sp_lines.specs.EntryPlaces.{told_of, EntryTells, EntriesTell, DescribesEntries}
 use Rattle.sp_lines.proofs.Tellings.{of_turn}
 use Rattle.sp_machine.specs.declared.state.State.{State as Proc}
 use Rattle.sp_machine.specs.declared.state.Stop.{Stop}
@@ -22,12 +22,12 @@ use Rattle.sp_machine.specs.Procs.{config_of, turn_by, IsTurnOf}
 use Rattle.sp_kernel.specs.declared.handed.Handed.{Handed}
 use Rattle.sp_kernel.specs.declared.kernel.Kernel.{Kernel}
 use Rattle.sp_kernel.specs.Kernels.{system_of, code_run_of}
-use Rattle.sp_replay.specs.declared.followed.Followed.{Followed}
+use Rattle.sp_replay.specs.declared.follow.FollowedRun.{FollowedRun}
 use Rattle.sp_replay.specs.declared.replayer.Replayed.{Replayed}
-use Rattle.sp_replay.specs.Following.{HasCome, IsOutAs, RunsOn, WasTurned, HoldsAllReady, EventMade, CannotCome}
+use Rattle.sp_replay.specs.FollowInvariant.{HasCome, IsOutAs, RunsOn, WasTurned, HoldsAllReady, EventMade, CannotCome}
 use Rattle.sp_replay.specs.Tellings.{ToldMade}
-use Rattle.sp_replay.specs.Tracing.{IsAt, TracedTo}
-use Rattle.sp_replay.proofs.Coming.{is_system}
+use Rattle.sp_replay.specs.TraceAnswers.{IsAt, TracedTo}
+use Rattle.sp_replay.proofs.HistorySteps.{is_system}
 use Rattle.sp_replay.proofs.Entries.{at_or, one_more}
 
 is_turn : (p : Proc) (code : Parts) (lim : Limits) (q : Proc) (s : Stop) → IsTurnOf p code lim q s
@@ -54,7 +54,7 @@ module _ (x : Kernel) (code : Parts) (lim : Limits) (runs : RunsOn x code lim) (
         (turn_by h.stop h.proc) here);
   }
 
-  pub told_if_same : (b : Bool) (w : Told) (g : Followed) → w ≡ told_of (system_of x) (turn_by h.stop h.proc)
+  pub told_if_same : (b : Bool) (w : Told) (g : FollowedRun) → w ≡ told_of (system_of x) (turn_by h.stop h.proc)
       → MatchBool b (HoldsAllReady g × EventMade x e.process e.event g.kernel) (CannotCome x e)
       → MatchOption (if b then Some w else None) (CannotCome x e)
       (λ v. HoldsAllReady g × ToldMade x e v g.kernel)
@@ -71,21 +71,21 @@ snoc g (d ∷ es) [] s t u e w h k = absurd h
 snoc g (d ∷ es) (x ∷ ws) s t u e w h k = (h.0, h.1, snoc g es ws h.0 t u e w h.2 k)
 
 pub told_more : (g : CodeRun) (x y : Kernel) (e : Entry) (w : Told) (ws : List Told) → code_run_of x ≡ g
-    → ToldMade x e w y → IsTold g x.journal.entries ws (system_of x)
-    → IsTold g y.journal.entries (ws ++ w ∷ []) (system_of y)
+    → ToldMade x e w y → DescribesEntries g x.journal.entries ws (system_of x)
+    → DescribesEntries g y.journal.entries (ws ++ w ∷ []) (system_of y)
 told_more g x y e w ws same m told =
-    subst (λ (es : List Entry). IsTold g es (ws ++ w ∷ []) (system_of y)) (sym m.made.entries)
+    subst (λ (es : List Entry). DescribesEntries g es (ws ++ w ∷ []) (system_of y)) (sym m.made.entries)
     (snoc g x.journal.entries ws (opening_system plain g) (system_of x) (system_of y) e w told
     (subst (λ (z : CodeRun). EntryTells z (system_of x) e.process e.event w (system_of y)) same m.tells))
 
 pub told_none : (x : Kernel) → HasCome x → x.journal.entries ≡ [] → (ws : List Told) → ws ≡ []
-    → IsTold (code_run_of x) x.journal.entries ws (system_of x)
+    → DescribesEntries (code_run_of x) x.journal.entries ws (system_of x)
 told_none x come none ws empty =
     let w : system_of x ≡ opening_system plain (code_run_of x) =
     subst (λ (es : List Entry). IsSystem plain (code_run_of x) es (system_of x)) none (is_system x come) in
-    let start : IsTold (code_run_of x) [] [] (system_of x) = w in
-    subst (λ (es : List Entry). IsTold (code_run_of x) es ws (system_of x)) (sym none)
-    (subst (λ (vs : List Told). IsTold (code_run_of x) [] vs (system_of x)) (sym empty) start)
+    let start : DescribesEntries (code_run_of x) [] [] (system_of x) = w in
+    subst (λ (es : List Entry). DescribesEntries (code_run_of x) es ws (system_of x)) (sym none)
+    (subst (λ (vs : List Told). DescribesEntries (code_run_of x) [] vs (system_of x)) (sym empty) start)
 
 pub of_some : {X : Type 0} (o : Option X) (P : Type 0) (Q : X → Type 0) (w : X) → MatchOption o P Q → o ≡ Some w
     → Q w
@@ -104,8 +104,9 @@ entries_more x y w es n d m i l =
     ∙ sym (ap (λ (k : ℕ). take k es) next ∙ one_more es n (get_or es n d) (at_or es n d l))
 
 -- a run that has followed a journal, of which this was told, with its end and output
-pub traced : (g : CodeRun) (es : List Entry) (f : Followed) (ws : List Told) (r : Replayed) → code_run_of f.kernel ≡ g
-    → f.kernel.journal.entries ≡ es → IsTold g f.kernel.journal.entries ws (system_of f.kernel)
+pub traced : (g : CodeRun) (es : List Entry) (f : FollowedRun) (ws : List Told) (r : Replayed)
+    → code_run_of f.kernel ≡ g
+    → f.kernel.journal.entries ≡ es → DescribesEntries g f.kernel.journal.entries ws (system_of f.kernel)
     → IsAt f.kernel.journal.entries (system_of f.kernel) r → HoldsAllReady f
     → TracedTo g es (record { replayed = r; told = ws; state = f })
 traced g es f ws r run entries told there stands =
@@ -114,7 +115,7 @@ traced g es f ws r run entries told there stands =
     (is_system f.kernel stands.follows.come) in
     record {
       along = subst (λ (l : List Entry). IsSystem plain g l (system_of f.kernel)) entries along;
-      told = subst (λ (l : List Entry). IsTold g l ws (system_of f.kernel)) entries told;
+      told = subst (λ (l : List Entry). DescribesEntries g l ws (system_of f.kernel)) entries told;
       replayed = subst (λ (l : List Entry). IsAt l (system_of f.kernel) r) entries there;
       state = stands;
     }

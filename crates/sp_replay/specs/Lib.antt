@@ -1,5 +1,5 @@
-pub mod Held
-pub mod Following
+pub mod HeldProcesses
+pub mod FollowInvariant
 pub mod Replays
 pub mod Tellings
-pub mod Tracing
+pub mod TraceAnswers

@@ -1,11 +1,11 @@
 -- None of this belongs to what the program promises: it is for contracts between crates.
 -- What is told while a journal is followed.
 use Rattle.sp_journal.specs.declared.entry.Entry.{Entry}
-use Rattle.sp_lines.specs.declared.told.Told.{Told}
-use Rattle.sp_lines.specs.Telling.{EntryTells}
+use Rattle.sp_lines.specs.declared.entry_place.Told.{Told}
+use Rattle.sp_lines.specs.EntryPlaces.{EntryTells}
 use Rattle.sp_kernel.specs.declared.kernel.Kernel.{Kernel}
 use Rattle.sp_kernel.specs.Kernels.{system_of, code_run_of}
-use Rattle.sp_replay.specs.Following.{EventMade}
+use Rattle.sp_replay.specs.FollowInvariant.{EventMade}
 
 -- the entry was made, and this is told of it
 pub record ToldMade (x : Kernel) (e : Entry) (w : Told) (y : Kernel) : Type 0 where

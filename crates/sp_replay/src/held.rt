@@ -2,7 +2,7 @@
 
 ghost use Rattle.std.specs.Prelude.{◌≡◌, ◌==◌, ◌<◌, ℕ, List, Some, None, MatchOption, OnOk, length};
 ghost use Rattle.sp_journal.specs.Maps.{at_key};
-ghost use Rattle.sp_replay.specs.Held.{held_at, outputs};
+ghost use Rattle.sp_replay.specs.HeldProcesses.{held_at, outputs};
 
 use sp_base::{List, Memory};
 use sp_machine::Proc;

@@ -8,24 +8,24 @@
 //! - `lasts`: by what is told, for each process the instruction at which its last turn ended.
 //! - `Replayed`: the end and the output. `Traced`: these, what is told, and the state. `ReplayError`: `Unfit` or
 //!   `Memory`.
-//! - `Followed::seen`: in the state a process that was started and has not ended, and what it does.
+//! - `FollowedRun::seen`: in the state a process that was started and has not ended, and what it does.
 //!
 //! To know:
-//! - `src/replayer.rt` is the call, `src/followed.rt` the run entry by entry, `src/telling.rt` the same with what is
-//!   told of each entry, of which `src/tracing.rt` is the call, `src/held.rt` the processes by their numbers.
-//! - `specs/Replays.antt` says what following a journal answers, `specs/Tracing.antt` what it tells,
-//!   `specs/Following.antt` what holds between two entries, `specs/Held.antt` who is held.
+//! - `src/replayer.rt` is the call, `src/follow.rt` the run entry by entry, `src/telling_entry.rt` the same with what
+//!   is told of each entry, of which `src/trace.rt` is the call, `src/held.rt` the processes by their numbers.
+//! - `specs/Replays.antt` says what following a journal answers, `specs/TraceAnswers.antt` what it tells,
+//!   `specs/FollowInvariant.antt` what holds between two entries, `specs/HeldProcesses.antt` who is held.
 //! - All that are ready are taken out before the next turn, so after a fault all that run are held, and go on to be
 //!   laid down.
 //! - The module is named `replayer`, since no module may have the name of a function of the crate.
 #![tactic(auto)]
 
-mod followed;
+mod follow;
 mod held;
 mod replayer;
-mod telling;
-mod tracing;
+mod telling_entry;
+mod trace;
 
-pub use followed::Followed;
+pub use follow::FollowedRun;
 pub use replayer::{ReplayError, Replayed, replay};
-pub use tracing::{Traced, lasts, replay_told};
+pub use trace::{Traced, lasts, replay_told};

@@ -7,10 +7,10 @@ ghost use Rattle.sp_code.specs.Sound.{IsSound, AreLimits, run_of};
 ghost use Rattle.sp_kernel.specs.Kernels.{code_run_of};
 ghost use Rattle.sp_machine.specs.FirstFrames.{first_fits as fits_first};
 ghost use Rattle.sp_replay.specs.declared.replayer.ReplayError.TheVariants.{Memory as OutOfMemory};
-ghost use Rattle.sp_replay.specs.Following.{HoldsAllReady, RunsOn};
+ghost use Rattle.sp_replay.specs.FollowInvariant.{HoldsAllReady, RunsOn};
 ghost use Rattle.sp_replay.specs.Replays.{Replays};
 
-use crate::followed::Followed;
+use crate::follow::FollowedRun;
 use sp_base::{Limits, Memory, Text};
 use sp_code::Code;
 use sp_journal::{End, Entry, Journal};
@@ -55,7 +55,7 @@ pub(crate) fn begin(
     code: &Arc<Code>,
     input: Arc<Text>,
     limits: &Limits,
-) -> Result<Followed, Memory>
+) -> Result<FollowedRun, Memory>
     requires sound { IsSound code.now.value }
     requires limits { AreLimits limits.now }
     ensures stands { IfOk result (λ f. HoldsAllReady f) }
@@ -65,7 +65,7 @@ pub(crate) fn begin(
 {
     let root = Proc::root(alloc, code, input)?;
     let kernel = Kernel::new(alloc, root, Arc::try_clone(code)?, *limits)?;
-    Followed::start(alloc, kernel)
+    FollowedRun::start(alloc, kernel)
 }
 
 // What is answered where the program's frame is larger than the limit: only F12 of the first process can come.

@@ -10,7 +10,7 @@ use Rattle.sp_journal.specs.Names.{proc_name}
 use Rattle.sp_journal.specs.Queue.{numbers}
 use Rattle.sp_journal.proofs.Facts.{numbers_last}
 use Rattle.sp_report.specs.Conditions.{Conditions}
-use Rattle.sp_report.specs.Waiting.{children_text, has_ended, unended_children}
+use Rattle.sp_report.specs.WaitingText.{children_text, has_ended, unended_children}
 
 module _ (s : Births) (t : Conditions) (first child : ℕ) (some : first ≤ child) where
   left_more : unended_children t first (child + 1 - first) ≡ unended_children t first (child - first)

@@ -3,4 +3,4 @@ mod FitLaws
 mod LineLemmas
 pub mod Orders
 mod Prefixes
-mod Rising
+mod NameOrder

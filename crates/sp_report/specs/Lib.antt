@@ -3,8 +3,8 @@ pub mod Conditions
 pub mod Fits
 pub mod InOrder
 pub mod Nameable
-pub mod Rising
-pub mod Telling
+pub mod GuessedOrder
+pub mod WatcherReports
 pub mod Timeline
 pub mod Tree
-pub mod Waiting
+pub mod WaitingText

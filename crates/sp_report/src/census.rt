@@ -14,7 +14,7 @@ use std::alloc::Global;
 
 /// What is counted.
 #[derive(Clone, Copy, Debug)]
-pub(crate) enum Kind {
+pub(crate) enum EntryKind {
     Forks,
     Opens,
     Sends,
@@ -24,18 +24,18 @@ pub(crate) enum Kind {
     Laid,
 }
 
-impl Kind {
+impl EntryKind {
     fn name(self) -> &'static str
         ensures { result.now ≡ kind_name self }
     {
         match self {
-            Kind::Forks => "forks",
-            Kind::Opens => "opens",
-            Kind::Sends => "sends",
-            Kind::Receives => "receives",
-            Kind::Ends => "ends",
-            Kind::Faults => "faults",
-            Kind::Laid => "laid",
+            EntryKind::Forks => "forks",
+            EntryKind::Opens => "opens",
+            EntryKind::Sends => "sends",
+            EntryKind::Receives => "receives",
+            EntryKind::Ends => "ends",
+            EntryKind::Faults => "faults",
+            EntryKind::Laid => "laid",
         }
     }
 
@@ -43,13 +43,13 @@ impl Kind {
         ensures { result ≡ is_counted self event }
     {
         match (self, event) {
-            (Kind::Forks, Event::Fork(_)) => true,
-            (Kind::Opens, Event::Open) => true,
-            (Kind::Sends, Event::Send(_)) => true,
-            (Kind::Receives, Event::Receive(_)) => true,
-            (Kind::Ends, Event::End) => true,
-            (Kind::Faults, Event::Fault(_)) => true,
-            (Kind::Laid, Event::Laid) => true,
+            (EntryKind::Forks, Event::Fork(_)) => true,
+            (EntryKind::Opens, Event::Open) => true,
+            (EntryKind::Sends, Event::Send(_)) => true,
+            (EntryKind::Receives, Event::Receive(_)) => true,
+            (EntryKind::Ends, Event::End) => true,
+            (EntryKind::Faults, Event::Fault(_)) => true,
+            (EntryKind::Laid, Event::Laid) => true,
             _ => false,
         }
     }
@@ -96,13 +96,13 @@ impl Census {
 fn put_kinds(out: &mut Writer<u8>, entries: &[Entry])
     ensures { Adds out.old out.new (flat_map (count_line entries.now) kinds) }
 {
-    Kind::Forks.put(out, entries);
-    Kind::Opens.put(out, entries);
-    Kind::Sends.put(out, entries);
-    Kind::Receives.put(out, entries);
-    Kind::Ends.put(out, entries);
-    Kind::Faults.put(out, entries);
-    Kind::Laid.put(out, entries);
+    EntryKind::Forks.put(out, entries);
+    EntryKind::Opens.put(out, entries);
+    EntryKind::Sends.put(out, entries);
+    EntryKind::Receives.put(out, entries);
+    EntryKind::Ends.put(out, entries);
+    EntryKind::Faults.put(out, entries);
+    EntryKind::Laid.put(out, entries);
 }
 
 fn census_text(alloc: Global, entries: &[Entry]) -> Result<Vec<u8>, Memory>

@@ -3,7 +3,7 @@
 ghost use Rattle.std.specs.Prelude.{◌≡◌};
 ghost use Rattle.sp_journal.specs.Names.{same_way};
 ghost use Rattle.sp_report.specs.Conditions.{is_fault, is_running, is_timely};
-ghost use Rattle.sp_report.specs.Waiting.{has_ended, is_waiting};
+ghost use Rattle.sp_report.specs.WaitingText.{has_ended, is_waiting};
 
 use sp_journal::{Event, Way};
 

@@ -1,7 +1,7 @@
 //! The watchers of the program in their order.
 
 ghost use Rattle.std.specs.Prelude.{◌≡◌, ◌∷◌, [], IfOk, codes, map};
-ghost use Rattle.sp_report.specs.Telling.{AreFresh};
+ghost use Rattle.sp_report.specs.WatcherReports.{AreFresh};
 
 use crate::watcher::Watcher;
 use std::alloc::{AllocError, Global};

@@ -9,7 +9,7 @@ ghost use Rattle.sp_journal.specs.Births.{Births, births};
 ghost use Rattle.sp_journal.specs.Ledger.{IsLedger};
 ghost use Rattle.sp_journal.specs.Names.{proc_name};
 ghost use Rattle.sp_report.specs.InOrder.{sorted_by_name};
-ghost use Rattle.sp_report.specs.Rising.{AreForked, HasBelow, Rises, names_of};
+ghost use Rattle.sp_report.specs.GuessedOrder.{AreForked, HasBelow, Rises, names_of};
 ghost use Rattle.sp_report.specs.Tree.{forked_processes, tree_line, tree_lines};
 
 use crate::have;
@@ -113,7 +113,7 @@ fn is_placed(order: &List<u32>, places: &List<u32>, process: u32) -> bool
 }
 
 // Whether all from 1 to below so many do.
-#[tactic(auto, using(crate::proofs::Rising::has_none, crate::proofs::Rising::has_fewer))]
+#[tactic(auto, using(crate::proofs::NameOrder::has_none, crate::proofs::NameOrder::has_fewer))]
 fn has_below(order: &List<u32>, places: &List<u32>, count: u64) -> bool
     requires { count ≤ 4294967296 }
     ensures { result ≡ true → HasBelow count order.now }

@@ -2,7 +2,7 @@
 
 ghost use Rattle.std.specs.Prelude.{◌≡◌, ◌++◌, [], All, IfOk, OnOk};
 ghost use Rattle.sp_journal.specs.Births.{IsNameable};
-ghost use Rattle.sp_report.specs.Telling.{AreFresh, is_chosen, reports};
+ghost use Rattle.sp_report.specs.WatcherReports.{AreFresh, is_chosen, reports};
 
 use crate::have;
 use crate::watcher::Watcher;

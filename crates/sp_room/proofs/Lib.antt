@@ -1,6 +1,6 @@
 pub mod Histories
 pub mod Places
 mod RoomKeeps
-mod Serving
+mod ServeLaws
 mod SeatsKeep
 mod Rows

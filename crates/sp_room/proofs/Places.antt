@@ -16,7 +16,7 @@ module _ {O A G N : Type 0} {g : Ghosts O A G N} where
     joined = same.joined
         ∙ is.joined;
     looked = same.looked ∙ is.looked;
-    last = λ z. same.dealt ∙ is.last z;
+    last = λ z. same.seats_made ∙ is.last z;
   }
 
   pub same_again : (t u w : RoomSeat O A G N g) → SamePlace t u → SamePlace u w → SamePlace t w
@@ -24,7 +24,7 @@ module _ {O A G N : Type 0} {g : Ghosts O A G N} where
     table = two.table ∙ one.table;
     opening = two.opening ∙ one.opening;
     number = two.number ∙ one.number;
-    dealt = two.dealt ∙ one.dealt;
+    seats_made = two.seats_made ∙ one.seats_made;
     from = two.from ∙ one.from;
     joined = two.joined ∙ one.joined;
     looked = two.looked ∙ one.looked;

@@ -14,7 +14,7 @@ use Rattle.atomic_table.proofs.Lists.{at_set, set_here, set_else, set_again, exc
 use Rattle.sp_room.specs.declared.view.View.{View}
 use Rattle.sp_room.specs.History.{StartsWith, notes_by, LeadsTo}
 use Rattle.sp_room.specs.RoomRule.{SlotBox, RoomTable, SeatPart, SeatKnows, RoomRule, holder, view_after_note}
-use Rattle.sp_room.specs.RoomRule.{view_after_return, Won, claims_of, in_hand}
+use Rattle.sp_room.specs.RoomRule.{view_after_return, Acquires, claims_of, in_hand}
 use Rattle.sp_room.specs.RoomRule.{Raised, RaisedLast, view_after_last_note, Returned}
 use Rattle.sp_room.proofs.Histories.{at_inside, starts_self, starts_trans, by_mine, by_other, claims_set, claims_has}
 
@@ -37,7 +37,7 @@ module _ {O A G N : Type 0} (opens : O → Type 0) (steps : O → ℕ → A → 
     opened : w.opening ≡ v.opening
     numbered : w.number ≡ v.number
     still : w.spent ≡ false
-    counts : w.dealt ≡ v.dealt
+    counts : w.seats_made ≡ v.seats_made
     starts : w.from ≡ v.from
     joined : w.joined ≡ v.joined
     looked : w.looked ≡ v.looked
@@ -137,12 +137,13 @@ module _ {O A G N : Type 0} (opens : O → Type 0) (steps : O → ℕ → A → 
       (λ k. (sym (set-get_or s.words i 0) k, sym (set_again s.views id v at) k)) r
 
   pub takes_turn : (slots id mine : ℕ) (me : SeatPart O N) → mine ≡ me.0.number + 1 → me.1 ≡ [] → me.0.spent ≡ false
-      → Allows Rule slots id me 0 (λ n. either (eqb n 0) mine n) (Won opens steps author (step slots 0 0 mine none) me)
+      → Allows Rule slots id me 0 (λ n. either (eqb n 0) mine n)
+      (Acquires opens steps author (step slots 0 0 mine none) me)
   takes_turn slots id flag me num bare active s r deep at small =
       exchanged (turn s) 0 flag
       (λ n. (w : V) × (a : Rattle.atomic_table.specs.Table.Act (Option (SlotBox O N)))
       × Rattle.atomic_table.specs.Table.Valid s.homes me.1 a × Rule (stepped s 0 n id me.1 w a)
-      × Won opens steps author (step slots 0 0 flag none) me (turn s)
+      × Acquires opens steps author (step slots 0 0 flag none) me (turn s)
       (w, Rattle.atomic_table.specs.Table.carried_after me.1 a))
       (λ free. let t = r.free free in let d : SlotBox O N = t.0 in let k = r.each id me.0 at active in
       let w : V = holder me.0 d.value.notes.items d.value.reserved in

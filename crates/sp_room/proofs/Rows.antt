@@ -35,7 +35,7 @@ module _ {X Z O N : Type 0} (view : X → View O N) (tab : X → Z) (z : Z) (n :
 
   -- the seat that has taken in all seats from length rest on
   abbrev pub HasTakenIn : List X → View O N → Type 0
-  HasTakenIn rest v = (v.spent ≡ false) × (v.holding ≡ false) × (v.from ≡ length rest) × (v.dealt ≡ n)
+  HasTakenIn rest v = (v.spent ≡ false) × (v.holding ≡ false) × (v.from ≡ length rest) × (v.seats_made ≡ n)
       × ((taken : List X) × (items ≡ rest ++ taken) × (v.joined ++ v.own ∷ [] ≡ map (λ t. (view t).own) taken)
       × (v.looked ++ v.seen ∷ [] ≡ map (λ t. (view t).seen) taken))
 
@@ -77,7 +77,7 @@ module _ {X Z O N : Type 0} (view : X → View O N) (tab : X → Z) (z : Z) (n :
   -- where it has taken in all
   pub at_start : (rest : List X) (v : View O N) → length rest ≡ 0 → 0 < length items → n ≡ length items
       → HasTakenIn rest v
-      → (v.from ≡ 0) × (v.dealt ≢ 0) × HasTakenIn [] v
+      → (v.from ≡ 0) × (v.seats_made ≢ 0) × HasTakenIn [] v
   at_start [] v none several same k = (k.2, (λ z. absurd (omega (arith, z, k.3, several, same))), k)
   at_start (x ∷ xs) v none several same k = absurd (omega (arith, none))
 

@@ -12,7 +12,7 @@ use Rattle.atomic_table.proofs.Lists.{at_set, set_here, set_else, at_longer}
 use Rattle.sp_room.specs.declared.room_slot.RoomSlot.{RoomSlot}
 use Rattle.sp_room.specs.declared.view.View.{View}
 use Rattle.sp_room.specs.History.{StartsWith, notes_by, LeadsTo}
-use Rattle.sp_room.specs.RoomRule.{SlotBox, RoomTable, SeatPart, SeatKnows, RoomRule, first_view, view_after_dealing}
+use Rattle.sp_room.specs.RoomRule.{SlotBox, RoomTable, SeatPart, SeatKnows, RoomRule, first_view, view_after_making}
 use Rattle.sp_room.specs.RoomRule.{newcomer, view_after_joining, spent_view}
 use Rattle.sp_room.specs.RoomRule.{newborn, claims_of, IsNewAt}
 use Rattle.sp_room.proofs.Histories.{at_inside, claims_set, claims_end}
@@ -40,10 +40,10 @@ module _ {O A G N : Type 0} (opens : O → Type 0) (steps : O → ℕ → A → 
   abbrev turn : RoomTable O N → ℕ
   turn s = get_or s.words 0 0
 
-  -- what a seat knows stays, where the seats that were taken in stay so, and it deals with as many seats
+  -- what a seat knows stays, where the seats that were taken in stay so, and it makes_seat with as many seats
   stays : (log : List N) (t : ℕ) (old new : List V) (j : ℕ) (u : V) → SeatKnows author start log t old j u
       → ((k : ℕ) (x : V) → get_elem? old k ≡ some x → x.spent ≡ true → get_elem? new k ≡ some x)
-      → (u.dealt ≢ 0 → (u.dealt ≡ length new) × (j + 1 ≡ length new)) → claims_of new ≤ claims_of old
+      → (u.seats_made ≢ 0 → (u.seats_made ≡ length new) × (j + 1 ≡ length new)) → claims_of new ≤ claims_of old
       → SeatKnows author start log t new j u
   stays log t old new j u k there counts less = record {
     opened = k.opened;
@@ -91,18 +91,18 @@ module _ {O A G N : Type 0} (opens : O → Type 0) (steps : O → ℕ → A → 
         }
     first (suc j) v e on = absurd (some-ne-none v (sym e))
 
-  pub deals : (id : ℕ) (v : V) → v.spent ≡ false → v.dealt ≢ 0 → 0 < v.claims
-      → Splits Rule id v (view_after_dealing v) (newcomer v)
-  deals id v active dealing claim s r at = let k = r.each id v at active in let n : ℕ = length s.views in
-      let old : List V = set s.views id (view_after_dealing v) in let new : List V = old ++ newcomer v ∷ [] in
-      let c = k.counts dealing in let wide : length old ≡ n = length-set s.views id (view_after_dealing v) in
+  pub makes_seat : (id : ℕ) (v : V) → v.spent ≡ false → v.seats_made ≢ 0 → 0 < v.claims
+      → Splits Rule id v (view_after_making v) (newcomer v)
+  makes_seat id v active making claim s r at = let k = r.each id v at active in let n : ℕ = length s.views in
+      let old : List V = set s.views id (view_after_making v) in let new : List V = old ++ newcomer v ∷ [] in
+      let c = k.counts making in let wide : length old ≡ n = length-set s.views id (view_after_making v) in
       let long : length new ≡ length old + 1 = length-append old (newcomer v ∷ []) in
       let inside : id < n = at_inside s.views id v at in
       let less : claims_of new ≤ claims_of s.views =
-      omega (arith, claim, claims_set s.views id v (view_after_dealing v) at, claims_end old (newcomer v)) in
+      omega (arith, claim, claims_set s.views id v (view_after_making v) at, claims_end old (newcomer v)) in
       let there : (j : ℕ) (x : V) → get_elem? s.views j ≡ some x → x.spent ≡ true → get_elem? new j ≡ some x
       = λ j x e gone. at_longer old (newcomer v ∷ []) j x
-      (set_else s.views id j (view_after_dealing v)
+      (set_else s.views id j (view_after_making v)
       (λ same. true≢false (sym gone ∙ (ap (λ (z : V). z.spent)
       (one s.views id x v (ap (get_elem? s.views) (sym same) ∙ e) at) ∙ active))) ∙ e) in record {
         fine = r.fine;
@@ -115,25 +115,25 @@ module _ {O A G N : Type 0} (opens : O → Type 0) (steps : O → ℕ → A → 
         free = λ z. let t = r.free z in (t.0, t.1, t.2, t.3, omega (arith, t.4, less), t.5);
         taken = λ j e. let t = r.taken j e in dite (ℕ_discrete j id)
             (λ same. let is : t.0 ≡ v = one s.views id t.0 v (ap (get_elem? s.views) (sym same) ∙ t.1) at in (
-              view_after_dealing v,
-              at_longer old (newcomer v ∷ []) j (view_after_dealing v)
-                  (ap (get_elem? old) same ∙ set_here s.views id (view_after_dealing v) inside),
+              view_after_making v,
+              at_longer old (newcomer v ∷ []) j (view_after_making v)
+                  (ap (get_elem? old) same ∙ set_here s.views id (view_after_making v) inside),
               ap (λ (z : V). z.holding) (sym is)
                   ∙ t.2,
               active,
             ))
             (λ ne. (
               t.0,
-              at_longer old (newcomer v ∷ []) j t.0 (set_else s.views id j (view_after_dealing v) ne ∙ t.1),
+              at_longer old (newcomer v ∷ []) j t.0 (set_else s.views id j (view_after_making v) ne ∙ t.1),
               t.2,
               t.3,
             ));
         each = λ j u e on. ⊎_elim
             (λ (h : get_elem? old j ≡ some u). ⊎_elim
-            (λ (p : (j ≡ id) × (view_after_dealing v ≡ u)). subst
+            (λ (p : (j ≡ id) × (view_after_making v ≡ u)). subst
             (λ (z : ℕ × V). SeatKnows author start r.log (turn s) new z.0 z.1)
             (λ i. (sym p.0 i, p.1 i))
-            (stays r.log (turn s) s.views new id (view_after_dealing v) record {
+            (stays r.log (turn s) s.views new id (view_after_making v) record {
               opened = k.opened;
               numbered = k.numbered;
               seen = k.seen;
@@ -147,13 +147,13 @@ module _ {O A G N : Type 0} (opens : O → Type 0) (steps : O → ℕ → A → 
             (λ (p : (j ≢ id) × (get_elem? s.views j ≡ some u)). stays r.log (turn s) s.views new j u (r.each j u p.1 on)
             there
             (λ z. let d = (r.each j u p.1 on).counts z in absurd (p.0 (omega (arith, d.1, c.1)))) less)
-            (at_set s.views id j (view_after_dealing v) u h))
-            (λ (h : (j ≡ length old) × (newcomer v ≡ u)). let here : j ≡ v.dealt = h.0 ∙ (wide ∙ sym c.0) in
+            (at_set s.views id j (view_after_making v) u h))
+            (λ (h : (j ≡ length old) × (newcomer v ≡ u)). let here : j ≡ v.seats_made = h.0 ∙ (wide ∙ sym c.0) in
             subst (λ (z : ℕ × V). SeatKnows author start r.log (turn s) new z.0 z.1) (λ i. (sym here i, h.1 i)) record {
               opened = k.opened;
               numbered = refl;
               seen = k.seen;
-              own = r.nobody v.dealt (omega (arith, c.0));
+              own = r.nobody v.seats_made (omega (arith, c.0));
               holds = λ no. absurd (true≢false (sym no));
               counts = λ _. (omega (arith, c.0, wide, long), omega (arith, c.0, wide, long));
               joins = omega arith;
@@ -253,10 +253,10 @@ module _ {O A G N : Type 0} (opens : O → Type 0) (steps : O → ℕ → A → 
 
   -- at the end, where one seat has taken in all others
   pub all_home : (s : RoomTable O N) (r : Rule s) (id : ℕ) (v : V) → get_elem? s.views id ≡ some v → v.spent ≡ false
-      → v.holding ≡ false → v.from ≡ 0 → v.dealt ≢ 0 → turn s ≡ 0
-  all_home s r id v at active idle from deals = dite (ℕ_discrete (turn s) 0) (λ z. z)
+      → v.holding ≡ false → v.from ≡ 0 → v.seats_made ≢ 0 → turn s ≡ 0
+  all_home s r id v at active idle from makes_seat = dite (ℕ_discrete (turn s) 0) (λ z. z)
       (λ held. let j : ℕ = turn s - 1 in let k = r.each id v at active in let t = r.taken j (omega (arith, held)) in
-      let c = k.counts deals in let here : j < length s.views = at_inside s.views j t.0 t.1 in
+      let c = k.counts makes_seat in let here : j < length s.views = at_inside s.views j t.0 t.1 in
       absurd (dite (ℕ_discrete j id)
       (λ same. true≢false (sym t.2 ∙ (ap (λ (z : V). z.holding)
       (one s.views id t.0 v (ap (get_elem? s.views) (sym same) ∙ t.1) at) ∙ idle)))
@@ -267,16 +267,16 @@ module _ {O A G N : Type 0} (opens : O → Type 0) (steps : O → ℕ → A → 
 
   -- what was laid back, and whose notes are whose
   pub settles : (words : List ℕ) (slots : List (Option (SlotBox O N))) (id : ℕ) (v : V) (x : Option (SlotBox O N))
-      → Final (Seen Rule id v) words slots → v.spent ≡ false → v.holding ≡ false → v.from ≡ 0 → v.dealt ≢ 0
+      → Final (Seen Rule id v) words slots → v.spent ≡ false → v.holding ≡ false → v.from ≡ 0 → v.seats_made ≢ 0
       → get_elem? slots 0 ≡ some x → (d : SlotBox O N) × (x ≡ Some d)
       × LeadsTo steps start d.value.notes.items d.value.object
       × ((k : ℕ) (own : List N) → get_elem? (v.joined ++ v.own ∷ []) k ≡ some own
       → notes_by author k d.value.notes.items ≡ own)
       × ((k : ℕ) (l : List N) → get_elem? (v.looked ++ v.seen ∷ []) k ≡ some l → StartsWith d.value.notes.items l)
-  settles words slots id v x final active idle from deals found = let s : RoomTable O N = final.0 in
+  settles words slots id v x final active idle from makes_seat found = let s : RoomTable O N = final.0 in
       let r = final.1.0 in
       let at = final.1.1 in let k = r.each id v at active in
-      let h = r.free (all_home s r id v at active idle from deals) in let d : SlotBox O N = h.0 in (
+      let h = r.free (all_home s r id v at active idle from makes_seat) in let d : SlotBox O N = h.0 in (
         d,
         some-injective x (Some d) (sym found ∙ final.4 0 (Some d) h.1),
         subst (λ l. LeadsTo steps start l d.value.object) (sym h.2) h.3,
@@ -295,29 +295,30 @@ module _ {O A G N : Type 0} (opens : O → Type 0) (steps : O → ℕ → A → 
   -- and nobody else has a note
   pub nobody_else : (words : List ℕ) (slots : List (Option (SlotBox O N))) (id : ℕ) (v : V) (x : Option (SlotBox O N))
       (d : SlotBox O N) → Final (Seen Rule id v) words slots → v.spent ≡ false → v.holding ≡ false → v.from ≡ 0
-      → v.dealt ≢ 0
-      → get_elem? slots 0 ≡ some x → x ≡ Some d → (k : ℕ) → v.dealt ≤ k → notes_by author k d.value.notes.items ≡ []
-  nobody_else words slots id v x d final active idle from deals found is k out = let s : RoomTable O N = final.0 in
-      let r = final.1.0 in let at = final.1.1 in let c = (r.each id v at active).counts deals in
-      let h = r.free (all_home s r id v at active idle from deals) in
+      → v.seats_made ≢ 0
+      → get_elem? slots 0 ≡ some x → x ≡ Some d → (k : ℕ) → v.seats_made ≤ k
+      → notes_by author k d.value.notes.items ≡ []
+  nobody_else words slots id v x d final active idle from makes_seat found is k out = let s : RoomTable O N = final.0 in
+      let r = final.1.0 in let at = final.1.1 in let c = (r.each id v at active).counts makes_seat in
+      let h = r.free (all_home s r id v at active idle from makes_seat) in
       let same : h.0 ≡ d = same_Some h.0 d (sym (some-injective x (Some h.0) (sym found ∙ final.4 0 (Some h.0) h.1))
       ∙ is) in
       ap (λ (e : SlotBox O N). notes_by author k e.value.notes.items) (sym same)
       ∙ (ap (λ l. notes_by author k l) h.2 ∙ r.nobody k (omega (arith, c.0, out)))
 
--- the first of several seats leaves the dealing to the next
+-- the first of several seats leaves the making to the next
 pub deals_on : {O A G N : Type 0} (opens : O → Type 0) (steps : O → ℕ → A → O → G → Option N → Type 0) (author : N → ℕ)
-    (start : O) (id : ℕ) (me : SeatPart O N) (number : ℕ) (dealt : ℕ) (claims : ℕ)
-    → me ≡ (newborn start number dealt claims, []) → 0 < dealt → 0 < claims
-    → Splits (RoomRule opens steps author start) id me.0 (view_after_dealing me.0) (newcomer me.0)
-deals_on opens steps author start id me number dealt claims is several claim =
-    deals opens steps author start id me.0 (ap (λ (m : SeatPart _ _). m.0.spent) is)
-    (λ z. let e : dealt ≡ 0 = ap (λ (m : SeatPart _ _). m.0.dealt) (sym is) ∙ z in absurd (omega arith))
+    (start : O) (id : ℕ) (me : SeatPart O N) (number : ℕ) (seats_made : ℕ) (claims : ℕ)
+    → me ≡ (newborn start number seats_made claims, []) → 0 < seats_made → 0 < claims
+    → Splits (RoomRule opens steps author start) id me.0 (view_after_making me.0) (newcomer me.0)
+deals_on opens steps author start id me number seats_made claims is several claim =
+    makes_seat opens steps author start id me.0 (ap (λ (m : SeatPart _ _). m.0.spent) is)
+    (λ z. let e : seats_made ≡ 0 = ap (λ (m : SeatPart _ _). m.0.seats_made) (sym is) ∙ z in absurd (omega arith))
     (let e : me.0.claims ≡ claims = ap (λ (m : SeatPart _ _). m.0.claims) is in omega arith)
 
--- a seat that was dealt is new
-pub born : {O N : Type 0} (x : O) (n k : ℕ) (v : View O N) → v ≡ newborn x k v.dealt v.claims → 0 < v.claims
-    → (k + 1 ≡ n → v.dealt ≡ n) → IsNewAt n k v
+-- a seat that was seats_made is new
+pub born : {O N : Type 0} (x : O) (n k : ℕ) (v : View O N) → v ≡ newborn x k v.seats_made v.claims → 0 < v.claims
+    → (k + 1 ≡ n → v.seats_made ≡ n) → IsNewAt n k v
 born x n k v is claim last = record {
   stands = record {
     number = λ i. (is i).number;
@@ -361,13 +362,13 @@ pub settled : {O A G N : Type 0} (opens : O → Type 0) (steps : O → ℕ → A
     (d : SlotBox O N)
     → Final (Seen (RoomRule opens steps author start) id v) words slots → v.spent ≡ false → v.holding ≡ false
     → v.from ≡ 0
-    → v.dealt ≢ 0 → get_elem? slots 0 ≡ some x → x ≡ Some d
+    → v.seats_made ≢ 0 → get_elem? slots 0 ≡ some x → x ≡ Some d
     → LeadsTo steps start d.value.notes.items d.value.object
     × ((k : ℕ) (own : List N) → get_elem? (v.joined ++ v.own ∷ []) k ≡ some own
     → notes_by author k d.value.notes.items ≡ own)
     × ((k : ℕ) (l : List N) → get_elem? (v.looked ++ v.seen ∷ []) k ≡ some l → StartsWith d.value.notes.items l)
-settled {O} {A} {G} {N} opens steps author start words slots id v x d final active idle from dealing found is = let t =
-    settles opens steps author start words slots id v x final active idle from dealing found in
+settled {O} {A} {G} {N} opens steps author start words slots id v x d final active idle from making found is = let t =
+    settles opens steps author start words slots id v x final active idle from making found in
     let same : t.0 ≡ d = same_Some t.0 d (sym t.1 ∙ is) in
     subst (λ (e : SlotBox O N). LeadsTo steps start e.value.notes.items e.value.object
     × ((k : ℕ) (own : List N) → get_elem? (v.joined ++ v.own ∷ []) k ≡ some own

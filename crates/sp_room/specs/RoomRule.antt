@@ -41,7 +41,7 @@ pub record SeatKnows {O N : Type 0} (author : N → ℕ) (opening : O) (log : Li
   pub seen : StartsWith log v.seen
   pub own : notes_by author j log ≡ v.own
   pub holds : v.holding ≡ true → (turn ≡ j + 1) × (v.seen ≡ log) × (claims_of views ≤ v.reserve)
-  pub counts : v.dealt ≢ 0 → (v.dealt ≡ length views) × (j + 1 ≡ length views)
+  pub counts : v.seats_made ≢ 0 → (v.seats_made ≡ length views) × (j + 1 ≡ length views)
   pub joins : v.from + length v.joined ≡ j
   pub taken_in : (i : ℕ) (own : List N) → get_elem? v.joined i ≡ some own
       → (notes_by author (v.from + i) log ≡ own) × (w : View O N) × (get_elem? views (v.from + i) ≡ some w)
@@ -80,21 +80,21 @@ module _ {O N : Type 0} where
     reserve = 0;
     holding = false;
     spent = false;
-    dealt = 1;
+    seats_made = 1;
     from = 0;
     joined = [];
     looked = [];
   }
 
   -- a seat leaves the dealing to the next
-  abbrev pub view_after_dealing : View O N → View O N
-  view_after_dealing v = record v { dealt = 0; claims = 1 }
+  abbrev pub view_after_making : View O N → View O N
+  view_after_making v = record v { seats_made = 0; claims = 1 }
 
   -- the next seat, which deals on
   abbrev pub newcomer : View O N → View O N
   newcomer v = record {
     opening = v.opening;
-    number = v.dealt;
+    number = v.seats_made;
     seen = v.seen;
     own = [];
     turns = 0;
@@ -102,8 +102,8 @@ module _ {O N : Type 0} where
     reserve = 0;
     holding = false;
     spent = false;
-    dealt = v.dealt + 1;
-    from = v.dealt;
+    seats_made = v.seats_made + 1;
+    from = v.seats_made;
     joined = [];
     looked = [];
   }
@@ -124,7 +124,7 @@ module _ {O N : Type 0} where
     reserve = 0;
     holding = false;
     spent = true;
-    dealt = 0;
+    seats_made = 0;
     from = 0;
     joined = [];
     looked = [];
@@ -160,10 +160,10 @@ module _ {O N : Type 0} where
       × (v.claims ≤ d.value.reserved) × (length d.value.notes.items + d.value.reserved ≤ d.value.notes.cap)
 
   -- the turn was taken where it was free
-  abbrev pub Won : {A G : Type 0} → (O → Type 0) → (O → ℕ → A → O → G → Option N → Type 0) → (N → ℕ) → RoomStep O N
+  abbrev pub Acquires : {A G : Type 0} → (O → Type 0) → (O → ℕ → A → O → G → Option N → Type 0) → (N → ℕ) → RoomStep O N
       → SeatPart O N
       → ℕ → SeatPart O N → Type 0
-  Won opens steps author st m r m' = (r ≢ 0 → m' ≡ m)
+  Acquires opens steps author st m r m' = (r ≢ 0 → m' ≡ m)
       × (r ≡ 0 → (d : SlotBox O N) × (m' ≡ (holder m.0 d.value.notes.items d.value.reserved, (0, Some d) ∷ []))
       × HoldsSlot opens steps author m.0 d)
 
@@ -193,9 +193,9 @@ module _ {O N : Type 0} where
   abbrev pub IsIdleSeat : SeatPart O N → Type 0
   IsIdleSeat m = (m.1 ≡ []) × (m.0.spent ≡ false) × (m.0.holding ≡ false)
 
-  -- the seat k of a room opened with x, which has done nothing; dealt as in a view
+  -- the seat k of a room opened with x, which has done nothing; seats_made as in a view
   abbrev pub newborn : O → ℕ → ℕ → ℕ → View O N
-  newborn x k dealt claims = record {
+  newborn x k seats_made claims = record {
     opening = Some x;
     number = k;
     seen = [];
@@ -205,7 +205,7 @@ module _ {O N : Type 0} where
     reserve = 0;
     holding = false;
     spent = false;
-    dealt = dealt;
+    seats_made = seats_made;
     from = k;
     joined = [];
     looked = [];
@@ -217,7 +217,7 @@ module _ {O N : Type 0} where
     pub from : v.from ≡ k
     pub joined : v.joined ≡ []
     pub looked : v.looked ≡ []
-    pub last : k + 1 ≡ n → v.dealt ≡ n
+    pub last : k + 1 ≡ n → v.seats_made ≡ n
 
   -- the same, and it has done nothing
   pub record IsNewAt (n k : ℕ) (v : View O N) : Type 0 where

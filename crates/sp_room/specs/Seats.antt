@@ -58,7 +58,7 @@ module _ {O A G N : Type 0} {g : Ghosts O A G N} where
     pub table : seat_table u ≡ seat_table t
     pub opening : (seat_view u).opening ≡ (seat_view t).opening
     pub number : (seat_view u).number ≡ (seat_view t).number
-    pub dealt : (seat_view u).dealt ≡ (seat_view t).dealt
+    pub seats_made : (seat_view u).seats_made ≡ (seat_view t).seats_made
     pub from : (seat_view u).from ≡ (seat_view t).from
     pub joined : (seat_view u).joined ≡ (seat_view t).joined
     pub looked : (seat_view u).looked ≡ (seat_view t).looked

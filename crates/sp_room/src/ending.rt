@@ -39,7 +39,10 @@ pub(crate) fn gather<K: Kept>(room: Room<K>, mut row: Vec<RoomSeat<K>>) -> Box<R
         } = next;
         room.table.shared.join_seat::<TakeIn>(&mut keeper, seat);
     }
-    let Room { table, lobby: _ } = room;
+    let Room {
+        table,
+        wait_counts: _,
+    } = room;
     let held = take_only(table.close_with(keeper));
     let Some(slot) = held else { unreachable!() };
     slot

@@ -26,9 +26,9 @@ pub struct Take<K> {
 }
 
 impl<K: Kept> Play<Option<Box<RoomSlot<K, K::Note>>>, View<K, K::Note>> for Take<K> {
-    ghost use Rattle.sp_room.specs.RoomRule.{Won};
+    ghost use Rattle.sp_room.specs.RoomRule.{Acquires};
 
-    ghost then = { Won K.opens K.steps K.author };
+    ghost then = { Acquires K.opens K.steps K.author };
 }
 
 /// Counts a note.
@@ -59,12 +59,12 @@ impl<O, N> Play<Option<Box<RoomSlot<O, N>>>, View<O, N>> for GiveBack {
 }
 
 /// Makes the next seat.
-pub struct Deal;
+pub struct MakeSeat;
 
-impl<O, N> Split<View<O, N>> for Deal {
-    ghost use Rattle.sp_room.specs.RoomRule.{view_after_dealing, newcomer};
+impl<O, N> Split<View<O, N>> for MakeSeat {
+    ghost use Rattle.sp_room.specs.RoomRule.{view_after_making, newcomer};
 
-    ghost left = { view_after_dealing };
+    ghost left = { view_after_making };
 
     ghost right = { newcomer };
 }

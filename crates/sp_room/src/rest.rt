@@ -1,9 +1,9 @@
-//! What a seat does that found nothing to take: it looks, dozes and rests. No clause speaks of it.
+//! What a seat does that found nothing to take: it looks, sleeps briefly and rests. No clause speaks of it.
 
 use crate::kept::Kept;
-use crate::lobby::pause;
 use crate::seat::Room;
 use crate::turn::count_of;
+use crate::wait_counts::pause;
 use std::sync::Wait;
 use std::thread::yield_now;
 
@@ -14,12 +14,12 @@ const LOOKS: u32 = 8;
 /// that goes from message to message, which so keeps the processes that it wakes itself.
 const PAUSES: u32 = 40;
 
-/// How often a seat dozes before it rests.
-const DOZES: u32 = 100;
+/// How often a seat sleeps briefly before it rests.
+const BRIEF_SLEEPS: u32 = 100;
 
 // What a seat has seen.
 #[derive(Clone, Copy)]
-enum Sight {
+enum LookResult {
     // Something is left to take, and no note came in a while.
     Left,
     // Notes come.
@@ -30,39 +30,39 @@ enum Sight {
 
 // Returns when something is left to take.
 pub(crate) fn rest_in<K: Kept, R: Wait>(rt: &R, room: &Room<K>) {
-    room.lobby.begin();
-    let mut dozes = 0;
+    room.wait_counts.start_looking();
+    let mut sleeps = 0;
     for _ in rt.forever() {
         match look(room) {
-            Sight::Left => break,
-            Sight::Notes if dozes < DOZES => {
-                dozes += 1;
-                room.lobby.doze(rt);
+            LookResult::Left => break,
+            LookResult::Notes if sleeps < BRIEF_SLEEPS => {
+                sleeps += 1;
+                room.wait_counts.sleep_briefly(rt);
             }
             _ => {
-                dozes = 0;
-                room.lobby.rest(rt);
+                sleeps = 0;
+                room.wait_counts.rest(rt);
             }
         }
     }
-    room.lobby.end();
+    room.wait_counts.stop_looking();
 }
 
 // Looks a few times.
-fn look<K: Kept>(room: &Room<K>) -> Sight {
+fn look<K: Kept>(room: &Room<K>) -> LookResult {
     let before = count_of(room);
     for _ in 0..LOOKS {
         let count = count_of(room);
         pause(PAUSES);
-        let left = room.lobby.left();
+        let left = room.wait_counts.left();
         if left == u64::MAX || (left > 0 && count_of(room) == count) {
-            return Sight::Left;
+            return LookResult::Left;
         }
         yield_now();
     }
     if count_of(room) == before {
-        Sight::Nothing
+        LookResult::Nothing
     } else {
-        Sight::Notes
+        LookResult::Notes
     }
 }

@@ -9,13 +9,13 @@ ghost use Rattle.sp_room.specs.History.{StartsWith, notes_by, LeadsTo};
 
 use crate::ending::gather;
 use crate::kept::{Kept, Served};
-use crate::lobby::Lobby;
 use crate::rest::rest_in;
 use crate::room_slot::{RoomSlot, put, put_last};
 use crate::seat::{Room, RoomSeat};
-use crate::seats::deal;
+use crate::seats::make_seats;
 use crate::settled::Settled;
 use crate::turn::{give_back, give_last, give_on, take_turn};
+use crate::wait_counts::WaitCounts;
 use atomic_table::{Refused, Table};
 use sp_base::List;
 use std::alloc::{AllocFailed, Global};
@@ -39,7 +39,7 @@ impl<K: Kept> Room<K> {
         ensures err { IfErr result (λ x. x ≡ object) }
     {
         let about = Snapshot::of(&object);
-        let lobby = Lobby::new(object.left());
+        let wait_counts = WaitCounts::new(object.left());
         let Ok(row) = Vec::with_capacity(alloc, seats as usize) else {
             return Err(object);
         };
@@ -61,8 +61,8 @@ impl<K: Kept> Room<K> {
         slots.push_reserved(Some(slot));
         match Table::new(alloc, &[0, 0], slots, &about) {
             Ok((table, first)) => {
-                let room = Room { table, lobby };
-                let row = deal(&room, first, row, seats);
+                let room = Room { table, wait_counts };
+                let row = make_seats(&room, first, row, seats);
                 Ok((room, List::of(row)))
             }
             Err(refused) => Err(taken_back(refused)),

@@ -4,9 +4,9 @@ ghost use Rattle.sp_room.specs.RoomRule.{IsIdleSeat};
 
 use crate::kept::Kept;
 use crate::law::Law;
-use crate::lobby::Lobby;
 use crate::room_slot::RoomSlot;
 use crate::view::View;
+use crate::wait_counts::WaitCounts;
 use atomic_table::{Seat, Table};
 use std::alloc::Global;
 use std::snapshot::Snapshot;
@@ -24,7 +24,7 @@ pub struct Room<K: Kept> {
         Law<K>,
         Global,
     >,
-    pub(crate) lobby: Lobby,
+    pub(crate) wait_counts: WaitCounts,
     ghost sized: { (table.shared.table_id.words ≡ 2) × (table.shared.table_id.slots ≡ 1) },
 }
 

@@ -7,10 +7,10 @@ ghost use Rattle.sp_room.specs.History.{LeadsTo};
 
 use crate::kept::Kept;
 use crate::law::{GiveBack, Raise, RaiseLast, Take};
-use crate::lobby::{low_bits, pause};
 use crate::room_slot::RoomSlot;
 use crate::seat::Room;
 use crate::view::View;
+use crate::wait_counts::{low_bits, pause};
 use atomic_table::Seat;
 use std::sync::Wait;
 
@@ -37,8 +37,10 @@ pub(crate) fn take_turn<K: Kept, R: Wait>(
     requires room { seat.old.table_id ≡ room.now.table.shared.table_id }
     requires idle { IsIdleSeat seat.old.me × (number ≡ seat.old.me.0.number) }
     ensures same { (seat.new.table_id ≡ seat.old.table_id) × (seat.new.id ≡ seat.old.id) }
-    ensures won { (seat.new.me ≡ (holder seat.old.me.0 result.value.notes.items result.value.reserved, (0, None) ∷ []))
-        × HoldsSlot K.opens K.steps K.author seat.old.me.0 result }
+    ensures acquired { (seat.new.me ≡ (
+      holder seat.old.me.0 result.value.notes.items result.value.reserved,
+      (0, None) ∷ [],
+    )) × HoldsSlot K.opens K.steps K.author seat.old.me.0 result }
 {
     let shared = &room.table.shared;
     let mine = number as u64 + 1;
@@ -51,9 +53,9 @@ pub(crate) fn take_turn<K: Kept, R: Wait>(
             return slot;
         }
         if !comes_free(room) {
-            room.lobby.begin_wait();
+            room.wait_counts.start_waiting();
             shared.park(rt, TURN, low_bits(found));
-            room.lobby.end_wait();
+            room.wait_counts.stop_waiting();
         }
     }
     unreachable!()
@@ -75,7 +77,7 @@ fn comes_free<K: Kept>(room: &Room<K>) -> bool {
 // The turn is free before it looks, and who sleeps is counted before it finds the turn taken: so one of the two sees
 // the other.
 fn wake_next<K: Kept>(room: &Room<K>) {
-    if room.lobby.has_waiting() {
+    if room.wait_counts.has_waiting() {
         room.table.shared.wake_one(TURN);
     }
 }
@@ -127,13 +129,13 @@ pub(crate) fn give_on<K: Kept>(
 {
     let shared = &room.table.shared;
     let count = slot.notes.len() as u64;
-    room.lobby.tell(slot.object.left());
+    room.wait_counts.set_left(slot.object.left());
     let empty = shared.exchange(seat, 0, Some(slot));
     let None = empty else { unreachable!() };
     shared.fetch_add::<Raise>(seat, COUNT, 1);
     shared.store::<GiveBack>(seat, TURN, 0);
     wake_next(room);
-    room.lobby.wake();
+    room.wait_counts.wake_resting();
     count
 }
 
@@ -159,13 +161,13 @@ pub(crate) fn give_last<K: Kept>(
 {
     let shared = &room.table.shared;
     let count = slot.notes.len() as u64;
-    room.lobby.tell(slot.object.left());
+    room.wait_counts.set_left(slot.object.left());
     let empty = shared.exchange(seat, 0, Some(slot));
     let None = empty else { unreachable!() };
     shared.fetch_add::<RaiseLast>(seat, COUNT, 1);
     shared.store::<GiveBack>(seat, TURN, 0);
     wake_next(room);
-    room.lobby.wake();
+    room.wait_counts.wake_resting();
     count
 }
 

@@ -9,7 +9,7 @@ use Rattle.sp_code.specs.Control.{Control, control_at_start, control, after_note
 use Rattle.sp_code.specs.Control.{entries_of}
 use Rattle.sp_code.specs.System.{System, opening_system}
 use Rattle.sp_history.specs.Agreement.{IsOrderly, AgreesWithSystem, Reaches, HasOuts, IsOver}
-use Rattle.sp_history.proofs.Agreeing.{agrees_start, orderly_start}
+use Rattle.sp_history.proofs.ControlAgreement.{agrees_start, orderly_start}
 use Rattle.sp_history.proofs.Legal.{keeps, reaches_keeps, reaches_front, noted_more}
 use Rattle.sp_history.proofs.Outs.{outs_start, outs_by, outs_all, over_by}
 use Rattle.sp_machine.specs.declared.state.State.{State as Proc}
@@ -24,8 +24,8 @@ use Rattle.sp_kernel.specs.declared.ask.Got.TheVariants as got
 use Rattle.sp_kernel.specs.Kernels.{control_of, system_of, code_run_of}
 use Rattle.sp_kernel.specs.Asks.{IsOpening, KernelSteps, GotMatchesNote, is_abandon, refusal}
 use Rattle.sp_kernel.specs.Closes.{RanTo}
-use Rattle.sp_kernel.specs.Keeping.{from_start, control_is, after_log}
-use Rattle.sp_kernel.proofs.Serving.{back_abandons, taken_abandons}
+use Rattle.sp_kernel.specs.KernelLaws.{from_start, control_is, after_log}
+use Rattle.sp_kernel.proofs.NoteSteps.{back_abandons, taken_abandons}
 use Rattle.sp_runner.specs.Works.{LeftAfter}
 
 -- ---- a worker that leaves

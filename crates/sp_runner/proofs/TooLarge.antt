@@ -23,7 +23,7 @@ use Rattle.sp_code.specs.Sound.{run_of}
 use Rattle.sp_code.specs.System.{System, Working, Absent, Laid, IsSystem, IsLegal, EntryLeads, opening_system, store_in}
 use Rattle.sp_code.specs.System.{system_after_turn}
 use Rattle.sp_code.specs.Turns.{Turn, Faulted, Runs, BeginsOrFaults}
-use Rattle.sp_history.specs.Holding.{IsOutputOf}
+use Rattle.sp_history.specs.OutputHolder.{IsOutputOf}
 use Rattle.sp_room.specs.History.{either_list}
 use Rattle.sp_history.specs.WorkerHistory.{OneByOne}
 use Rattle.sp_history.proofs.Holders.{pieces_later}

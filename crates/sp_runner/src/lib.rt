@@ -10,24 +10,26 @@
 //!   a kernel.
 //! - `specs/Runs.antt` says what a run is (`IsRun`), `specs/Ends.antt` how the system of all processes ends, by that
 //!   system alone, `specs/Works.antt` what a worker's loop keeps.
-//! - Each process that a worker hands in is the one that it got by its call before (`OneByOne`): `proofs/Working.antt`
-//!   shows that it may be handed in, `proofs/Handing.antt` that the worker's own notes say so.
-//! - `proofs/Ending.antt`, then `proofs/Closing.antt` and `proofs/Waiting.antt`, lead from the last seats and the
-//!   kernel's end to the end of the system.
+//! - Each process that a worker hands in is the one that it got by its call before (`OneByOne`):
+//!   `proofs/WorkInHand.antt` shows that it may be handed in, `proofs/WorkerCalls.antt` that the worker's own notes
+//!   say so.
+//! - `proofs/Ending.antt`, then `proofs/RunResults.antt` and `proofs/SlotWaiters.antt`, lead from the last seats and
+//!   the kernel's end to the end of the system.
 //! - One seat is enough at the end: what it saw as over stays over, and where no worker gave up nothing is out.
-//! - The types of the kernel and the room that go to another thread are shown so in `sp_kernel/proofs/Crossing.antt`.
+//! - The types of the kernel and the room that go to another thread are shown so in
+//!   `sp_kernel/proofs/ThreadBounds.antt`.
 //!
 //! Lemmas for others, in `proofs`:
-//! - `Working`: what a worker holds may be handed in: who gets work has it out, in the state of the system along
+//! - `WorkInHand`: what a worker holds may be handed in: who gets work has it out, in the state of the system along
 //!   what its seat has seen.
-//! - `Closing`: a run that was closed is one of the definitions: from the kernel's end to that of the system
+//! - `RunResults`: a run that was closed is one of the definitions: from the kernel's end to that of the system
 //!   (`closed_run`).
 //! - `TooLarge`: the run of a program whose frame has more cells than the limit: F12 before its first instruction
 //!   (`one_fault`).
 //!
 //! To change:
-//! - What a worker does: `work` of `src/worker.rt`, its invariant, and `proofs/Working.antt` for what it hands in.
-//! - What is promised of a run: `IsRun`, and `closed_run` of `proofs/Closing.antt`.
+//! - What a worker does: `work` of `src/worker.rt`, its invariant, and `proofs/WorkInHand.antt` for what it hands in.
+//! - What is promised of a run: `IsRun`, and `closed_run` of `proofs/RunResults.antt`.
 #![tactic(auto)]
 
 mod runner;

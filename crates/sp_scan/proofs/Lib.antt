@@ -1,4 +1,4 @@
 pub mod Along
 pub mod Tokens
 pub mod Breaches
-pub mod Scanning
+pub mod TokenPrefixes

@@ -17,7 +17,7 @@
 //! - `Along`: runs of bytes, comments and texts, by loops that go along them.
 //! - `Tokens`: the longest token at a place.
 //! - `Breaches`: the first rule of characters that is broken at a place.
-//! - `Scanning`: the tokens so far, and that no rule is broken before them.
+//! - `TokenPrefixes`: the tokens so far, and that no rule is broken before them.
 //!
 //! To change:
 //! - A word or a sign: the tables of `src/tables.rt`.

@@ -1,9 +1,9 @@
-mod Scoped
-mod Held
+mod ScopeTables
+mod NameOrders
 mod Tables
 mod NameRows
 mod Standards
 mod Heads
-pub mod Found
+pub mod PartBreaches
 pub mod NameLaws
 mod TakenFirst

@@ -28,7 +28,7 @@ use Rattle.sp_tree.specs.PlainSyntax.{Form, Empty, Assign, Call, Sequence, If, W
 use Rattle.sp_tree.specs.PlainSyntax.{Forall, Assume, ElsePart, NoElse, Else, Statements, NoStatement, AndThen, Arm, On}
 use Rattle.sp_tree.specs.PlainSyntax.{Arms, NoArm, Or, Branches, NoBranch, Beside, Part, Const, Kind, Var, Proc, Parts}
 use Rattle.sp_tree.specs.PlainSyntax.{NoPart, Declare, Program}
-use Rattle.sp_tree.proofs.Gathering.{lesser_none, Leads, no_more, follows}
+use Rattle.sp_tree.proofs.BreachLists.{lesser_none, Leads, no_more, follows}
 
 -- what holds of two ways to gather, at nothing, at a site and of two parts, holds of them at each tree
 module _ {M N : Type 0} (none : M) (join : M → M → M) (site : Env → Site → M) (none2 : N) (join2 : N → N → N)

@@ -1,6 +1,6 @@
 -- None of this belongs to what the program promises: it is for contracts between crates.
 -- The first broken rule in each part of a tree, from what was found before it: the walk of sp_tree's NameWalk, with
--- `lesser` at each site. The contracts of all walks of this crate cite these, one for each part.
+-- `earlier_refusal` at each site. The contracts of all walks of this crate cite these, one for each part.
 use Rattle.std.specs.Prelude.{◌≡◌, ℕ, List, [], ◌∷◌, ◌++◌, Option, Bool}
 use Rattle.sp_base.specs.declared.place.Place.{Place}
 use Rattle.sp_tree.specs.declared.syntax.Name.{Name}

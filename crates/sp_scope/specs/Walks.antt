@@ -4,7 +4,7 @@
 use Rattle.std.specs.Prelude.{List, [], ◌∷◌, ◌++◌, Option, Some}
 use Rattle.std.specs.HashMap.{HashMap}
 use Rattle.std.specs.Option.{option_map}
-pub use Rattle.sp_tree.specs.PhaseResults.{WalksTo}
+pub use Rattle.sp_tree.specs.PhaseResults.{PassesTo}
 use Rattle.sp_tree.specs.declared.syntax.Name.{Name}
 use Rattle.sp_tree.specs.declared.syntax.SynFormal.{SynFormal}
 use Rattle.sp_tree.specs.PlainNamed as n
@@ -14,8 +14,8 @@ use Rattle.sp_tree.specs.NamedOf.{expression_of, statement_of, program_of, width
 use Rattle.sp_tree.specs.NamedTree.{Inside, program_block, formals_named, answer_named, numbers, answer_of}
 use Rattle.sp_tree.specs.NamedTree.{standard_constants, standard_kinds, consoles}
 use Rattle.sp_tree.specs.Scopes.{Env, next_block, next_variable}
-use Rattle.sp_scope.specs.declared.walked.BlockParts.{BlockParts}
-use Rattle.sp_scope.specs.declared.walked.Heading.{Heading}
+use Rattle.sp_scope.specs.declared.block_parts.BlockParts.{BlockParts}
+use Rattle.sp_scope.specs.declared.block_parts.Heading.{Heading}
 
 -- the declarations that a table in memory holds
 abbrev pub entries_of : {K V S : Type 0} → HashMap K V S → List (K × V)

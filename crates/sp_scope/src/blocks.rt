@@ -8,10 +8,11 @@ ghost use Rattle.sp_tree.specs.NamedTree.{parts_named, part_named, inside_named,
 ghost use Rattle.sp_tree.specs.NamedOf as named;
 ghost use Rattle.sp_tree.specs.PlainSyntax.{Proc};
 ghost use Rattle.sp_tree.specs.SyntaxOf.{block_of, part_of, parts};
-ghost use Rattle.sp_scope.specs.Walks.{WalksTo, seen_block, declared_by};
+ghost use Rattle.sp_scope.specs.Walks.{PassesTo, seen_block, declared_by};
 ghost use Rattle.sp_scope.specs.Firsts.{parts_first, part_first, block_first, block_local, inner_first, inner_local};
 ghost use Rattle.sp_scope.specs.Firsts.{opened_first, opened_local, opened_named, inner_named};
 
+use crate::block_parts::{BlockParts, Heading, PassResult};
 use crate::have;
 use crate::headings::{declare_title, name_heading, procedure_part};
 use crate::indices::indices;
@@ -19,11 +20,10 @@ use crate::parts::{name_constant, name_type, name_variables};
 use crate::scopes::Scopes;
 use crate::statements::name_boxed_statement;
 use crate::variables::declare_formals;
-use crate::walked::{BlockParts, Heading, Walked};
 use sp_base::{Boxed, Halt, List};
 use sp_tree::{
-    Found, Name, Named, NamedAnswer, NamedBlock, NamedConstant, NamedKind, NamedStmt, SynBlock,
-    SynFormal, SynPart, Variable,
+    FirstRefusal, Name, Named, NamedAnswer, NamedBlock, NamedConstant, NamedKind, NamedStmt,
+    SynBlock, SynFormal, SynPart, Variable,
 };
 use std::alloc::Global;
 
@@ -130,9 +130,9 @@ pub fn name_block(
     b: SynBlock,
     alloc: Global,
     scopes: &mut Scopes,
-    first: Found,
-) -> Result<Walked<BlockParts>, Halt>
-    ensures found { WalksTo seen_block result (inside_named scopes.old.around scopes.old.local (block_of b).parts
+    first: FirstRefusal,
+) -> Result<PassResult<BlockParts>, Halt>
+    ensures found { PassesTo seen_block result (inside_named scopes.old.around scopes.old.local (block_of b).parts
         (block_of b).body)
         (block_first scopes.old.around scopes.old.local (block_of b).parts (block_of b).body first) }
     ensures after { OnOk result (scopes.new ≡ inner_env scopes.old.around
@@ -144,7 +144,7 @@ pub fn name_block(
     let indices = have!(indices(alloc, body.get(), scopes.block()));
     let parts = have!(name_parts(parts, alloc, scopes, first));
     let body = have!(name_boxed_statement(alloc, scopes, body, parts.first));
-    Ok(Walked {
+    Ok(PassResult {
         tree: BlockParts {
             answer,
             body: body.tree,
@@ -161,9 +161,9 @@ fn name_parts(
     ps: List<SynPart>,
     alloc: Global,
     scopes: &mut Scopes,
-    first: Found,
-) -> Result<Walked<Named>, Halt>
-    ensures found { WalksTo named.program_of result
+    first: FirstRefusal,
+) -> Result<PassResult<Named>, Halt>
+    ensures found { PassesTo named.program_of result
         (parts_named scopes.old.around scopes.old.local (parts (map part_of ps)))
         (parts_first scopes.old.around scopes.old.local (parts (map part_of ps)) first) }
     ensures after { OnOk result (scopes.new ≡ inner_env scopes.old.around
@@ -176,7 +176,7 @@ fn name_parts(
         first = t.first;
         out = have!(beside(out, t.tree));
     }
-    Ok(Walked { tree: out, first })
+    Ok(PassResult { tree: out, first })
 }
 
 #[cycle(block)]
@@ -184,9 +184,9 @@ fn name_part(
     p: SynPart,
     alloc: Global,
     scopes: &mut Scopes,
-    first: Found,
-) -> Result<Walked<Named>, Halt>
-    ensures found { WalksTo named.program_of result (part_named scopes.old.around scopes.old.local (part_of p))
+    first: FirstRefusal,
+) -> Result<PassResult<Named>, Halt>
+    ensures found { PassesTo named.program_of result (part_named scopes.old.around scopes.old.local (part_of p))
         (part_first scopes.old.around scopes.old.local (part_of p) first) }
     ensures after { OnOk result (scopes.new ≡ inner_env scopes.old.around (part_local scopes.old.local (part_of p))) }
 {
@@ -219,9 +219,9 @@ fn name_procedure(
     x: &Name,
     fs: &[SynFormal],
     answer: &Option<Name>,
-    first: Found,
-) -> Result<Walked<Named>, Halt>
-    ensures found { WalksTo named.program_of result
+    first: FirstRefusal,
+) -> Result<PassResult<Named>, Halt>
+    ensures found { PassesTo named.program_of result
         (part_named scopes.old.around scopes.old.local
         (Proc x.now fs.now answer.now (block_of b).parts (block_of b).body))
         (part_first scopes.old.around scopes.old.local
@@ -244,9 +244,9 @@ fn name_titled(
     x: &Name,
     fs: &[SynFormal],
     answer: &Option<Name>,
-    first: Found,
-) -> Result<Walked<Named>, Halt>
-    ensures found { WalksTo named.program_of result
+    first: FirstRefusal,
+) -> Result<PassResult<Named>, Halt>
+    ensures found { PassesTo named.program_of result
         (declared_by h x.now answer.now
         (opened_named h.block scopes.old.around (title_local scopes.old.local x.now fs.now answer.now) fs.now answer.now
         (block_of b).parts (block_of b).body))
@@ -261,7 +261,7 @@ fn name_titled(
     have!(declare_title(alloc, scopes, x, fs, answer));
     let inner = have!(name_opened(b, alloc, scopes, h.block, fs, answer, first));
     let tree = have!(procedure_part(alloc, h, x, answer, inner.tree));
-    Ok(Walked {
+    Ok(PassResult {
         tree,
         first: inner.first,
     })
@@ -276,9 +276,9 @@ fn name_opened(
     block: u32,
     fs: &[SynFormal],
     answer: &Option<Name>,
-    first: Found,
-) -> Result<Walked<BlockParts>, Halt>
-    ensures found { WalksTo seen_block result
+    first: FirstRefusal,
+) -> Result<PassResult<BlockParts>, Halt>
+    ensures found { PassesTo seen_block result
         (opened_named block scopes.old.around scopes.old.local fs.now answer.now (block_of b).parts (block_of b).body)
         (opened_first block scopes.old.around scopes.old.local fs.now answer.now (block_of b).parts (block_of b).body
         first) }
@@ -302,9 +302,9 @@ fn name_inner(
     scopes: &mut Scopes,
     fs: &[SynFormal],
     answer: &Option<Name>,
-    first: Found,
-) -> Result<Walked<BlockParts>, Halt>
-    ensures found { WalksTo seen_block result
+    first: FirstRefusal,
+) -> Result<PassResult<BlockParts>, Halt>
+    ensures found { PassesTo seen_block result
         (inner_named scopes.old.around scopes.old.local fs.now answer.now (block_of b).parts (block_of b).body)
         (inner_first scopes.old.around scopes.old.local fs.now answer.now (block_of b).parts (block_of b).body first) }
     ensures after { OnOk result (scopes.new ≡ inner_env scopes.old.around

@@ -64,7 +64,7 @@ pub fn others(flags: &[bool]) -> &[bool]
 }
 
 /// How many arguments there are.
-#[tactic(auto, using(crate::proofs::Scoped::count_is))]
+#[tactic(auto, using(crate::proofs::ScopeTables::count_is))]
 pub fn count(args: &[SynArg]) -> usize
     ensures { result ≡ count (arguments (map argument_of args.now)) }
 {

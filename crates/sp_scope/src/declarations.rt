@@ -9,9 +9,9 @@ ghost use Rattle.sp_tree.specs.NamedTree.{constant_number, kind_number};
 
 use crate::scopes::Scopes;
 use sp_base::{Place, Rule};
-use sp_tree::{Found, Meaning, Name, Sort, breaks, breaks_if, lesser};
+use sp_tree::{FirstRefusal, Meaning, Name, Sort, breaks, breaks_if, earlier_refusal};
 
-fn constant_rule(at: Place, m: Option<&Meaning>) -> Found
+fn constant_rule(at: Place, m: Option<&Meaning>) -> FirstRefusal
     ensures { result ≡ use_rule AsConstant at (option_copied m.entry) }
 {
     match m {
@@ -21,7 +21,7 @@ fn constant_rule(at: Place, m: Option<&Meaning>) -> Found
     }
 }
 
-fn kind_rule(at: Place, m: Option<&Meaning>) -> Found
+fn kind_rule(at: Place, m: Option<&Meaning>) -> FirstRefusal
     ensures { result ≡ use_rule AsKind at (option_copied m.entry) }
 {
     match m {
@@ -32,21 +32,21 @@ fn kind_rule(at: Place, m: Option<&Meaning>) -> Found
 }
 
 /// A constant: N1, N3.
-pub fn check_constant(scopes: &Scopes, x: &Name) -> Found
+pub fn check_constant(scopes: &Scopes, x: &Name) -> FirstRefusal
     ensures { result ≡ broken_rule scopes.now (Uses x.now AsConstant) }
 {
     constant_rule(x.at, scopes.find(&x.text))
 }
 
 /// A type: N1, N3.
-pub fn check_kind(scopes: &Scopes, x: &Name) -> Found
+pub fn check_kind(scopes: &Scopes, x: &Name) -> FirstRefusal
     ensures { result ≡ broken_rule scopes.now (Uses x.now AsKind) }
 {
     kind_rule(x.at, scopes.find(&x.text))
 }
 
 /// A constant in the definition of a type: N1, N3, N4.
-pub fn check_own_constant(scopes: &Scopes, own: &Name, x: &Name) -> Found
+pub fn check_own_constant(scopes: &Scopes, own: &Name, x: &Name) -> FirstRefusal
     ensures { result ≡ broken_rule scopes.now (UsesIn own.now x.now AsConstant) }
 {
     if own.text.bytes() == x.text.bytes() {
@@ -57,7 +57,7 @@ pub fn check_own_constant(scopes: &Scopes, own: &Name, x: &Name) -> Found
 }
 
 /// A type in the definition of a type: N1, N3, N4.
-pub fn check_own_kind(scopes: &Scopes, own: &Name, x: &Name) -> Found
+pub fn check_own_kind(scopes: &Scopes, own: &Name, x: &Name) -> FirstRefusal
     ensures { result ≡ broken_rule scopes.now (UsesIn own.now x.now AsKind) }
 {
     if own.text.bytes() == x.text.bytes() {
@@ -68,10 +68,10 @@ pub fn check_own_kind(scopes: &Scopes, own: &Name, x: &Name) -> Found
 }
 
 /// A declaration in the innermost block: N2, L4.
-pub fn check_declares(scopes: &Scopes, x: &Name, sort: Sort) -> Found
+pub fn check_declares(scopes: &Scopes, x: &Name, sort: Sort) -> FirstRefusal
     ensures { result ≡ broken_rule scopes.now (Declares x.now sort) }
 {
-    lesser(
+    earlier_refusal(
         breaks_if(Rule::N2, x.at, scopes.declares(&x.text)),
         breaks_if(Rule::L4, x.at, scopes.is_full(sort)),
     )

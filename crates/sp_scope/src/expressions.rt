@@ -2,7 +2,7 @@
 
 ghost use Rattle.std.specs.Prelude.{◌≡◌, map, None, Ok};
 ghost use Rattle.std.specs.Option.{option_copied};
-ghost use Rattle.sp_scope.specs.Walks.{WalksTo, width_of};
+ghost use Rattle.sp_scope.specs.Walks.{PassesTo, width_of};
 ghost use Rattle.sp_tree.specs.PhaseResults.{earlier_refusal};
 ghost use Rattle.sp_tree.specs.NameRules.{broken_rule, Operand};
 ghost use Rattle.sp_tree.specs.Scopes.{find};
@@ -20,17 +20,17 @@ ghost use Rattle.std.specs.Prelude.{option_map, Some};
 ghost use Rattle.sp_tree.specs.PlainSyntax.{ExpressionAt, Read, Apply, Unary};
 ghost use Rattle.sp_tree.specs.declared.syntax.Name.{Name};
 
+use crate::block_parts::PassResult;
 use crate::calls::{count, is_whole, next_passing, others, references_of, rest_of};
 use crate::have;
 use crate::rules::{
     bare_rule, function_rule, needs_variable, operand_rule, target_rule, width_rule,
 };
 use crate::scopes::Scopes;
-use crate::walked::Walked;
 use sp_base::{Boxed, Halt, List, Place};
 use sp_tree::{
-    BinaryOp, Found, Meaning, Name, NamedArg, NamedExpr, NamedExprForm, NamedSelector, NamedVar,
-    Passing, SynArg, SynExpr, SynExprForm, SynSelector, SynVar, UnaryOp, lesser,
+    BinaryOp, FirstRefusal, Meaning, Name, NamedArg, NamedExpr, NamedExprForm, NamedSelector,
+    NamedVar, Passing, SynArg, SynExpr, SynExprForm, SynSelector, SynVar, UnaryOp, earlier_refusal,
 };
 use std::alloc::Global;
 
@@ -40,14 +40,14 @@ pub fn name_expression(
     alloc: Global,
     scopes: &Scopes,
     e: SynExpr,
-    first: Found,
-) -> Result<Walked<NamedExpr>, Halt>
-    ensures { WalksTo named.expression_of result (named_expression scopes.now (expression_of e))
+    first: FirstRefusal,
+) -> Result<PassResult<NamedExpr>, Halt>
+    ensures { PassesTo named.expression_of result (named_expression scopes.now (expression_of e))
         (expression_first scopes.now (expression_of e) first) }
 {
     let (at, form) = e.parts();
-    let Walked { tree, first } = have!(name_form(alloc, scopes, form, first));
-    Ok(Walked {
+    let PassResult { tree, first } = have!(name_form(alloc, scopes, form, first));
+    Ok(PassResult {
         tree: NamedExpr { at, form: tree },
         first,
     })
@@ -58,14 +58,14 @@ fn name_boxed(
     alloc: Global,
     scopes: &Scopes,
     e: Boxed<SynExpr>,
-    first: Found,
-) -> Result<Walked<Boxed<NamedExpr>>, Halt>
-    ensures { WalksTo named.expression_of result (named_expression scopes.now (expression_of e))
+    first: FirstRefusal,
+) -> Result<PassResult<Boxed<NamedExpr>>, Halt>
+    ensures { PassesTo named.expression_of result (named_expression scopes.now (expression_of e))
         (expression_first scopes.now (expression_of e) first) }
 {
-    let Walked { tree, first } = have!(name_expression(alloc, scopes, e.into_inner(), first));
+    let PassResult { tree, first } = have!(name_expression(alloc, scopes, e.into_inner(), first));
     let tree = have!(Boxed::new(alloc, tree));
-    Ok(Walked { tree, first })
+    Ok(PassResult { tree, first })
 }
 
 #[cycle(expression)]
@@ -73,17 +73,17 @@ fn name_form(
     alloc: Global,
     scopes: &Scopes,
     form: SynExprForm,
-    first: Found,
-) -> Result<Walked<NamedExprForm>, Halt>
-    ensures { WalksTo named.expression_form_of result (named_form scopes.now (expression_form_of form))
+    first: FirstRefusal,
+) -> Result<PassResult<NamedExprForm>, Halt>
+    ensures { PassesTo named.expression_form_of result (named_form scopes.now (expression_form_of form))
         (form_first scopes.now (expression_form_of form) first) }
 {
     match form {
-        SynExprForm::Number(n) => Ok(Walked {
+        SynExprForm::Number(n) => Ok(PassResult {
             tree: NamedExprForm::Number(n),
             first,
         }),
-        SynExprForm::Quoted(t) => Ok(Walked {
+        SynExprForm::Quoted(t) => Ok(PassResult {
             tree: NamedExprForm::Quoted(t),
             first,
         }),
@@ -103,13 +103,13 @@ fn name_unary(
     scopes: &Scopes,
     a: Boxed<SynExpr>,
     op: UnaryOp,
-    first: Found,
-) -> Result<Walked<NamedExprForm>, Halt>
-    ensures { WalksTo named.expression_form_of result (named_form scopes.now (Unary op (expression_of a)))
+    first: FirstRefusal,
+) -> Result<PassResult<NamedExprForm>, Halt>
+    ensures { PassesTo named.expression_form_of result (named_form scopes.now (Unary op (expression_of a)))
         (form_first scopes.now (Unary op (expression_of a)) first) }
 {
-    let Walked { tree, first } = have!(name_boxed(alloc, scopes, a, first));
-    Ok(Walked {
+    let PassResult { tree, first } = have!(name_boxed(alloc, scopes, a, first));
+    Ok(PassResult {
         tree: NamedExprForm::Unary(op, tree),
         first,
     })
@@ -123,14 +123,14 @@ fn name_right(
     b: Boxed<SynExpr>,
     a: Boxed<NamedExpr>,
     op: BinaryOp,
-    first: Found,
-) -> Result<Walked<NamedExprForm>, Halt>
-    ensures { WalksTo named.expression_form_of result
+    first: FirstRefusal,
+) -> Result<PassResult<NamedExprForm>, Halt>
+    ensures { PassesTo named.expression_form_of result
         (n.Binary op (named.expression_of a) (named_expression scopes.now (expression_of b)))
         (expression_first scopes.now (expression_of b) first) }
 {
-    let Walked { tree, first } = have!(name_boxed(alloc, scopes, b, first));
-    Ok(Walked {
+    let PassResult { tree, first } = have!(name_boxed(alloc, scopes, b, first));
+    Ok(PassResult {
         tree: NamedExprForm::Binary(op, a, tree),
         first,
     })
@@ -141,9 +141,9 @@ fn name_operand(
     alloc: Global,
     scopes: &Scopes,
     v: SynVar,
-    first: Found,
-) -> Result<Walked<NamedExprForm>, Halt>
-    ensures { WalksTo named.expression_form_of result (named_operand scopes.now (variable_of v))
+    first: FirstRefusal,
+) -> Result<PassResult<NamedExprForm>, Halt>
+    ensures { PassesTo named.expression_form_of result (named_operand scopes.now (variable_of v))
         (operand_first scopes.now (variable_of v) first) }
 {
     let SynVar { name, selectors } = v;
@@ -157,13 +157,13 @@ fn operand_name<'s>(
     scopes: &'s Scopes,
     x: &Name,
     whole: bool,
-    first: Found,
-) -> (Option<&'s Meaning>, Found)
+    first: FirstRefusal,
+) -> (Option<&'s Meaning>, FirstRefusal)
     ensures found { option_copied result.0 ≡ find scopes.now x.now.text }
     ensures first { result.1 ≡ earlier_refusal first (broken_rule scopes.now (Operand x.now whole)) }
 {
     let m = scopes.find(&x.text);
-    (m, lesser(first, operand_rule(x.at, whole, m)))
+    (m, earlier_refusal(first, operand_rule(x.at, whole, m)))
 }
 
 #[cycle(expression)]
@@ -173,16 +173,16 @@ fn name_read(
     xs: List<SynSelector>,
     x: &Name,
     m: Option<&Meaning>,
-    first: Found,
-) -> Result<Walked<NamedExprForm>, Halt>
+    first: FirstRefusal,
+) -> Result<PassResult<NamedExprForm>, Halt>
     requires found { option_copied m ≡ find scopes.now x.now.text }
-    ensures { WalksTo named.expression_form_of result
+    ensures { PassesTo named.expression_form_of result
         (operand_named (find scopes.now x.now.text) x.now
         (named.selectors (named_selectors scopes.now (selectors (map selector_of xs)))))
         (selectors_first scopes.now (selectors (map selector_of xs)) first) }
 {
-    let Walked { tree, first } = have!(name_selectors(alloc, scopes, xs, first));
-    Ok(Walked {
+    let PassResult { tree, first } = have!(name_selectors(alloc, scopes, xs, first));
+    Ok(PassResult {
         tree: operand_form(alloc, m, x, tree),
         first,
     })
@@ -234,17 +234,17 @@ fn name_function(
     scopes: &Scopes,
     args: List<SynArg>,
     f: Name,
-    first: Found,
-) -> Result<Walked<NamedExprForm>, Halt>
-    ensures { WalksTo named.expression_form_of result
+    first: FirstRefusal,
+) -> Result<PassResult<NamedExprForm>, Halt>
+    ensures { PassesTo named.expression_form_of result
         (named_form scopes.now (Apply f (arguments (map argument_of args))))
         (form_first scopes.now (Apply f (arguments (map argument_of args))) first) }
 {
     let m = scopes.find(&f.text);
     let broken = function_rule(f.at, count(args.items()), m);
-    let first = lesser(first, broken);
+    let first = earlier_refusal(first, broken);
     let args = have!(name_arguments(alloc, scopes, args, references_of(m), rest_of(m), first));
-    Ok(Walked {
+    Ok(PassResult {
         tree: function_form(m, f.at, args.tree),
         first: args.first,
     })
@@ -269,9 +269,9 @@ pub fn name_arguments(
     xs: List<SynArg>,
     flags: &[bool],
     rest: Passing,
-    first: Found,
-) -> Result<Walked<List<NamedArg>>, Halt>
-    ensures { WalksTo (map named.argument_of) result (named_arguments scopes.now (arguments (map argument_of xs)))
+    first: FirstRefusal,
+) -> Result<PassResult<List<NamedArg>>, Halt>
+    ensures { PassesTo (map named.argument_of) result (named_arguments scopes.now (arguments (map argument_of xs)))
         (arguments_first scopes.now flags.now rest (arguments (map argument_of xs)) first) }
 {
     let mut out = Vec::new(alloc);
@@ -283,7 +283,7 @@ pub fn name_arguments(
         flags = others(flags);
         out.push(y.tree)?;
     }
-    Ok(Walked {
+    Ok(PassResult {
         tree: List::of(out),
         first,
     })
@@ -295,16 +295,16 @@ fn name_argument(
     scopes: &Scopes,
     a: SynArg,
     p: Passing,
-    first: Found,
-) -> Result<Walked<NamedArg>, Halt>
-    ensures { WalksTo named.argument_of result (named_argument scopes.now (argument_of a))
+    first: FirstRefusal,
+) -> Result<PassResult<NamedArg>, Halt>
+    ensures { PassesTo named.argument_of result (named_argument scopes.now (argument_of a))
         (argument_first scopes.now p (argument_of a) first) }
 {
     let SynArg { value, width } = a;
     let at = value.at;
     let width = have!(name_width(alloc, scopes, width, at, p, first));
     let value = have!(name_passed(alloc, scopes, value, p, width.first));
-    Ok(Walked {
+    Ok(PassResult {
         tree: NamedArg {
             value: value.tree,
             width: width.tree,
@@ -320,18 +320,18 @@ fn name_width(
     w: Option<SynExpr>,
     at: Place,
     p: Passing,
-    first: Found,
-) -> Result<Walked<Option<NamedExpr>>, Halt>
-    ensures { WalksTo width_of result
+    first: FirstRefusal,
+) -> Result<PassResult<Option<NamedExpr>>, Halt>
+    ensures { PassesTo width_of result
         (named_width scopes.now (width (option_map expression_of w)))
         (width_first scopes.now p at (width (option_map expression_of w)) first) }
 {
     match w {
-        None => Ok(Walked { tree: None, first }),
+        None => Ok(PassResult { tree: None, first }),
         Some(e) => {
-            let first = lesser(first, width_rule(at, p));
-            let Walked { tree, first } = have!(name_expression(alloc, scopes, e, first));
-            Ok(Walked {
+            let first = earlier_refusal(first, width_rule(at, p));
+            let PassResult { tree, first } = have!(name_expression(alloc, scopes, e, first));
+            Ok(PassResult {
                 tree: Some(tree),
                 first,
             })
@@ -345,14 +345,14 @@ fn name_passed(
     scopes: &Scopes,
     e: SynExpr,
     p: Passing,
-    first: Found,
-) -> Result<Walked<NamedExpr>, Halt>
-    ensures { WalksTo named.expression_of result (named_expression scopes.now (expression_of e))
+    first: FirstRefusal,
+) -> Result<PassResult<NamedExpr>, Halt>
+    ensures { PassesTo named.expression_of result (named_expression scopes.now (expression_of e))
         (passed_first scopes.now p (expression_of e) first) }
 {
     let (at, form) = e.parts();
-    let Walked { tree, first } = have!(name_passed_form(alloc, scopes, form, at, p, first));
-    Ok(Walked {
+    let PassResult { tree, first } = have!(name_passed_form(alloc, scopes, form, at, p, first));
+    Ok(PassResult {
         tree: NamedExpr { at, form: tree },
         first,
     })
@@ -365,19 +365,19 @@ fn name_passed_form(
     form: SynExprForm,
     at: Place,
     p: Passing,
-    first: Found,
-) -> Result<Walked<NamedExprForm>, Halt>
-    ensures { WalksTo named.expression_form_of result (named_form scopes.now (expression_form_of form))
+    first: FirstRefusal,
+) -> Result<PassResult<NamedExprForm>, Halt>
+    ensures { PassesTo named.expression_form_of result (named_form scopes.now (expression_form_of form))
         (passed_first scopes.now p (ExpressionAt at (expression_form_of form)) first) }
 {
-    let bare = lesser(first, bare_rule(at, p));
+    let bare = earlier_refusal(first, bare_rule(at, p));
     match form {
         SynExprForm::Read(v) => name_passed_variable(alloc, scopes, v, at, p, first),
-        SynExprForm::Number(n) => Ok(Walked {
+        SynExprForm::Number(n) => Ok(PassResult {
             tree: NamedExprForm::Number(n),
             first: bare,
         }),
-        SynExprForm::Quoted(t) => Ok(Walked {
+        SynExprForm::Quoted(t) => Ok(PassResult {
             tree: NamedExprForm::Quoted(t),
             first: bare,
         }),
@@ -397,9 +397,9 @@ fn name_passed_variable(
     v: SynVar,
     at: Place,
     p: Passing,
-    first: Found,
-) -> Result<Walked<NamedExprForm>, Halt>
-    ensures { WalksTo named.expression_form_of result (named_operand scopes.now (variable_of v))
+    first: FirstRefusal,
+) -> Result<PassResult<NamedExprForm>, Halt>
+    ensures { PassesTo named.expression_form_of result (named_operand scopes.now (variable_of v))
         (passed_first scopes.now p (ExpressionAt at (Read (variable_of v))) first) }
 {
     let SynVar { name, selectors } = v;
@@ -415,17 +415,17 @@ fn passed_name<'s>(
     at: Place,
     x: &Name,
     whole: bool,
-    first: Found,
-) -> (Option<&'s Meaning>, Found)
+    first: FirstRefusal,
+) -> (Option<&'s Meaning>, FirstRefusal)
     ensures found { option_copied result.0 ≡ find scopes.now x.now.text }
     ensures first { result.1 ≡ passed_name_first scopes.now p at x.now whole first }
 {
     let m = scopes.find(&x.text);
     if needs_variable(p) && at == x.at {
-        (m, lesser(first, target_rule(x.at, m)))
+        (m, earlier_refusal(first, target_rule(x.at, m)))
     } else {
-        let first = lesser(first, bare_rule(at, p));
-        (m, lesser(first, operand_rule(x.at, whole, m)))
+        let first = earlier_refusal(first, bare_rule(at, p));
+        (m, earlier_refusal(first, operand_rule(x.at, whole, m)))
     }
 }
 
@@ -434,20 +434,20 @@ fn name_selector(
     alloc: Global,
     scopes: &Scopes,
     s: SynSelector,
-    first: Found,
-) -> Result<Walked<NamedSelector>, Halt>
-    ensures { WalksTo named.selector_of result (named_selector scopes.now (selector_of s))
+    first: FirstRefusal,
+) -> Result<PassResult<NamedSelector>, Halt>
+    ensures { PassesTo named.selector_of result (named_selector scopes.now (selector_of s))
         (selector_first scopes.now (selector_of s) first) }
 {
     match s {
         SynSelector::Index(e) => {
-            let Walked { tree, first } = have!(name_expression(alloc, scopes, e, first));
-            Ok(Walked {
+            let PassResult { tree, first } = have!(name_expression(alloc, scopes, e, first));
+            Ok(PassResult {
                 tree: NamedSelector::Index(tree),
                 first,
             })
         }
-        SynSelector::Field(name) => Ok(Walked {
+        SynSelector::Field(name) => Ok(PassResult {
             tree: NamedSelector::Field(name.text),
             first,
         }),
@@ -460,9 +460,9 @@ pub fn name_selectors(
     alloc: Global,
     scopes: &Scopes,
     xs: List<SynSelector>,
-    first: Found,
-) -> Result<Walked<List<NamedSelector>>, Halt>
-    ensures { WalksTo (map named.selector_of) result (named_selectors scopes.now (selectors (map selector_of xs)))
+    first: FirstRefusal,
+) -> Result<PassResult<List<NamedSelector>>, Halt>
+    ensures { PassesTo (map named.selector_of) result (named_selectors scopes.now (selectors (map selector_of xs)))
         (selectors_first scopes.now (selectors (map selector_of xs)) first) }
 {
     let mut out = Vec::new(alloc);
@@ -472,7 +472,7 @@ pub fn name_selectors(
         first = y.first;
         out.push(y.tree)?;
     }
-    Ok(Walked {
+    Ok(PassResult {
         tree: List::of(out),
         first,
     })

@@ -6,27 +6,30 @@ ghost use Rattle.sp_tree.specs.Scopes.{inner_env};
 ghost use Rattle.sp_tree.specs.NameWalk.{references, block_meaning, title_local};
 ghost use Rattle.sp_tree.specs.NamedTree.{answer_named, answer_of};
 ghost use Rattle.sp_tree.specs.NamedOf as named;
-ghost use Rattle.sp_scope.specs.Walks.{WalksTo, itself, seen_block, heading_named, declared_by};
+ghost use Rattle.sp_scope.specs.Walks.{PassesTo, itself, seen_block, heading_named, declared_by};
 ghost use Rattle.sp_scope.specs.Flags.{flags, all_flags};
 ghost use Rattle.sp_scope.specs.Firsts.{answer_first, title_first};
 
+use crate::block_parts::{BlockParts, Heading, PassResult};
 use crate::blocks::block_in_front;
 use crate::declarations::{check_declares, check_kind, kind_number};
 use crate::have;
 use crate::numbers::{next_block, next_variable};
 use crate::scopes::Scopes;
 use crate::variables::{name_formals, numbers};
-use crate::walked::{BlockParts, Heading, Walked};
 use sp_base::{Halt, List};
-use sp_tree::{Found, Meaning, Name, Named, NamedAnswer, Role, Sort, SynFormal, Variable, lesser};
+use sp_tree::{
+    FirstRefusal, Meaning, Name, Named, NamedAnswer, Role, Sort, SynFormal, Variable,
+    earlier_refusal,
+};
 use std::alloc::Global;
 
-fn check_answer(scopes: &Scopes, answer: &Option<Name>, first: Found) -> Found
+fn check_answer(scopes: &Scopes, answer: &Option<Name>, first: FirstRefusal) -> FirstRefusal
     ensures { result ≡ answer_first scopes.now answer.now first }
 {
     match answer {
         None => first,
-        Some(t) => lesser(first, check_kind(scopes, t)),
+        Some(t) => earlier_refusal(first, check_kind(scopes, t)),
     }
 }
 
@@ -64,19 +67,19 @@ pub fn name_heading(
     x: &Name,
     fs: &[SynFormal],
     answer: &Option<Name>,
-    first: Found,
-) -> Result<Walked<Heading>, Halt>
-    ensures { WalksTo itself result (heading_named scopes.now x.now fs.now answer.now)
+    first: FirstRefusal,
+) -> Result<PassResult<Heading>, Halt>
+    ensures { PassesTo itself result (heading_named scopes.now x.now fs.now answer.now)
         (title_first scopes.now x.now fs.now answer.now first) }
 {
-    let first = lesser(first, check_declares(scopes, x, Sort::Block));
+    let first = earlier_refusal(first, check_declares(scopes, x, Sort::Block));
     let block = have!(next_block(scopes.counts()));
     let formals = have!(name_formals(alloc, scopes, fs, block, first));
     let first = check_answer(scopes, answer, formals.first);
     let results = have!(name_answer(alloc, scopes, block, x, answer));
     let number = have!(next_variable(scopes.counts()));
     let numbers = have!(numbers(alloc, number, formals.tree.items()));
-    Ok(Walked {
+    Ok(PassResult {
         tree: Heading {
             block,
             parent: scopes.block(),
@@ -109,7 +112,7 @@ fn all_flags(alloc: Global, fs: &[SynFormal]) -> Result<List<bool>, Halt>
 }
 
 /// For each parameter, whether it is a variable parameter.
-#[tactic(auto, using(crate::proofs::Scoped::flags_are))]
+#[tactic(auto, using(crate::proofs::ScopeTables::flags_are))]
 fn references(alloc: Global, fs: &[SynFormal]) -> Result<List<bool>, Halt>
     ensures { Answers result (Ok (references fs.now)) }
 {

@@ -17,8 +17,8 @@ use crate::numbers::{count_of, more};
 use crate::scopes::Scopes;
 use sp_base::{Halt, List, Rule, Text};
 use sp_tree::{
-    Found, Name, NamedConst, NamedConstant, NamedKindForm, NamedValue, SynConst, SynGroup, SynKind,
-    SynValue, breaks_if, lesser,
+    FirstRefusal, Name, NamedConst, NamedConstant, NamedKindForm, NamedValue, SynConst, SynGroup,
+    SynKind, SynValue, breaks_if, earlier_refusal,
 };
 use std::alloc::Global;
 use std::collections::BTreeSet;
@@ -39,15 +39,15 @@ fn check_fields(
     alloc: Global,
     names: &mut BTreeSet<Text>,
     xs: &[Name],
-    first: Found,
-) -> Result<Found, Halt>
+    first: FirstRefusal,
+) -> Result<FirstRefusal, Halt>
     ensures found { Answers result (Ok (fields_held names.old.keys xs.now first)) }
     ensures after { OnOk result (names.new.keys ≡ names_behind names.old.keys xs.now) }
 {
     let mut first = first;
     for x in xs {
         let again = have!(note(alloc, names, &x.text));
-        first = lesser(first, breaks_if(Rule::N2, x.at, again));
+        first = earlier_refusal(first, breaks_if(Rule::N2, x.at, again));
     }
     Ok(first)
 }
@@ -58,38 +58,38 @@ fn check_groups(
     scopes: &Scopes,
     own: &Name,
     gs: &[SynGroup],
-    first: Found,
-) -> Result<Found, Halt>
+    first: FirstRefusal,
+) -> Result<FirstRefusal, Halt>
     ensures { Answers result (Ok (groups_held scopes.now own.now [] gs.now first)) }
 {
     let mut names = BTreeSet::new(alloc);
     let mut first = first;
     for g in gs {
         first = have!(check_fields(alloc, &mut names, g.names.items(), first));
-        first = lesser(first, check_own_kind(scopes, own, &g.kind));
+        first = earlier_refusal(first, check_own_kind(scopes, own, &g.kind));
     }
     Ok(first)
 }
 
 /// The message types of a channel: N1, N3, N4.
-fn check_messages(scopes: &Scopes, own: &Name, ts: &[Name], first: Found) -> Found
+fn check_messages(scopes: &Scopes, own: &Name, ts: &[Name], first: FirstRefusal) -> FirstRefusal
     ensures { result ≡ messages_first scopes.now own.now ts.now first }
 {
     let mut first = first;
     for t in ts {
-        first = lesser(first, check_own_kind(scopes, own, t));
+        first = earlier_refusal(first, check_own_kind(scopes, own, t));
     }
     first
 }
 
-#[tactic(auto, using(crate::proofs::Held::groups_are))]
+#[tactic(auto, using(crate::proofs::NameOrders::groups_are))]
 fn check_record(
     alloc: Global,
     scopes: &Scopes,
     own: &Name,
     gs: &[SynGroup],
-    first: Found,
-) -> Result<Found, Halt>
+    first: FirstRefusal,
+) -> Result<FirstRefusal, Halt>
     ensures { Answers result (Ok (groups_first scopes.now own.now [] gs.now first)) }
 {
     check_groups(alloc, scopes, own, gs, first)
@@ -101,17 +101,17 @@ pub fn check_kind_form(
     scopes: &Scopes,
     own: &Name,
     k: &SynKind,
-    first: Found,
-) -> Result<Found, Halt>
+    first: FirstRefusal,
+) -> Result<FirstRefusal, Halt>
     ensures { Answers result (Ok (kind_first scopes.now own.now k.now first)) }
 {
     match k {
-        SynKind::Alias(t) => Ok(lesser(first, check_own_kind(scopes, own, t))),
+        SynKind::Alias(t) => Ok(earlier_refusal(first, check_own_kind(scopes, own, t))),
         SynKind::Enumeration(_) => Ok(first),
         SynKind::Array(a, b, t) => {
             let first = check_bound(scopes, own, &a.value, first);
             let first = check_bound(scopes, own, &b.value, first);
-            Ok(lesser(first, check_own_kind(scopes, own, t)))
+            Ok(earlier_refusal(first, check_own_kind(scopes, own, t)))
         }
         SynKind::Record(gs) => check_record(alloc, scopes, own, gs.items(), first),
         SynKind::Channel(ts) => Ok(check_messages(scopes, own, ts.items(), first)),

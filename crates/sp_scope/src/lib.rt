@@ -18,7 +18,7 @@
 //! - The hash of the tables has a fixed seed, so names can be made that collide.
 //!
 //! Lemmas for others, in `proofs`:
-//! - `Found`: what the walk finds in a part, from what it finds in its own parts.
+//! - `PartBreaches`: what the walk finds in a part, from what it finds in its own parts.
 //! - `NameLaws`: what the code finds is the first of all broken rules of names of a program.
 //!
 //! To change:
@@ -26,6 +26,7 @@
 //! - What a part declares: `NameWalk` and `NamedTree` of `sp_tree`, then the walk.
 #![tactic(auto)]
 
+mod block_parts;
 mod blocks;
 mod calls;
 mod constants;
@@ -43,6 +44,5 @@ mod scopes;
 mod standard;
 mod statements;
 mod variables;
-mod walked;
 
 pub use program::resolve;

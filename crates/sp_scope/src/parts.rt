@@ -11,9 +11,10 @@ ghost use Rattle.sp_tree.specs.NamedOf as named;
 ghost use Rattle.sp_tree.specs.PlainSyntax.{Const, Kind, Var};
 ghost use Rattle.sp_tree.specs.NameRules.{Declares};
 ghost use Rattle.sp_tree.specs.NameFirst.{at_site};
-ghost use Rattle.sp_scope.specs.Walks.{WalksTo};
+ghost use Rattle.sp_scope.specs.Walks.{PassesTo};
 ghost use Rattle.sp_scope.specs.Firsts.{part_first, enumerated_first, kind_first, kind_constants_first};
 
+use crate::block_parts::PassResult;
 use crate::constants::check_value;
 use crate::declarations::{check_declares, check_kind, kind_number};
 use crate::have;
@@ -21,10 +22,10 @@ use crate::kinds::{check_kind_form, copy_const, name_enumerated, name_kind};
 use crate::numbers::{next_constant, next_kind};
 use crate::scopes::Scopes;
 use crate::variables::{declare_variables, push_variables};
-use crate::walked::Walked;
 use sp_base::{Halt, List};
 use sp_tree::{
-    Found, Meaning, Name, Named, NamedConstant, NamedKind, Role, Sort, SynConst, SynKind, lesser,
+    FirstRefusal, Meaning, Name, Named, NamedConstant, NamedKind, Role, Sort, SynConst, SynKind,
+    earlier_refusal,
 };
 use std::alloc::Global;
 
@@ -68,18 +69,18 @@ pub fn name_constant(
     scopes: &mut Scopes,
     x: &Name,
     c: &SynConst,
-    first: Found,
-) -> Result<Walked<Named>, Halt>
-    ensures found { WalksTo named.program_of result (constant_part (inner_env scopes.old.around scopes.old.local) c.now)
-        (part_first scopes.old.around scopes.old.local (Const x.now c.now) first) }
+    first: FirstRefusal,
+) -> Result<PassResult<Named>, Halt>
+    ensures found { PassesTo named.program_of result (constant_part (inner_env scopes.old.around
+        scopes.old.local) c.now) (part_first scopes.old.around scopes.old.local (Const x.now c.now) first) }
     ensures after { OnOk result (scopes.new ≡ inner_env scopes.old.around
         (part_local scopes.old.local (Const x.now c.now))) }
 {
-    let first = lesser(first, check_declares(scopes, x, Sort::Constant));
+    let first = earlier_refusal(first, check_declares(scopes, x, Sort::Constant));
     let first = check_value(scopes, &c.value, first);
     let tree = have!(constant_part(alloc, scopes, c));
     have!(declare_constant(alloc, scopes, x));
-    Ok(Walked { tree, first })
+    Ok(PassResult { tree, first })
 }
 
 fn kind_part(alloc: Global, scopes: &Scopes, x: &Name, k: &SynKind) -> Result<Named, Halt>
@@ -102,14 +103,14 @@ fn declare_constants(
     alloc: Global,
     scopes: &mut Scopes,
     xs: &[Name],
-    first: Found,
-) -> Result<Found, Halt>
+    first: FirstRefusal,
+) -> Result<FirstRefusal, Halt>
     ensures found { Answers result (Ok (enumerated_first scopes.old.around scopes.old.local xs.now first)) }
     ensures after { OnOk result (scopes.new ≡ inner_env scopes.old.around (constants_local scopes.old.local xs.now)) }
 {
     let mut first = first;
     for x in xs {
-        first = lesser(first, check_declares(scopes, x, Sort::Constant));
+        first = earlier_refusal(first, check_declares(scopes, x, Sort::Constant));
         have!(declare_constant(alloc, scopes, x));
     }
     Ok(first)
@@ -120,8 +121,8 @@ fn declare_enumerated(
     alloc: Global,
     scopes: &mut Scopes,
     k: &SynKind,
-    first: Found,
-) -> Result<Found, Halt>
+    first: FirstRefusal,
+) -> Result<FirstRefusal, Halt>
     ensures found { Answers result (Ok (kind_constants_first scopes.old.around scopes.old.local k.now first)) }
     ensures after { OnOk result (scopes.new ≡ inner_env scopes.old.around (kind_local scopes.old.local k.now)) }
 {
@@ -137,9 +138,9 @@ pub fn name_type(
     scopes: &mut Scopes,
     x: &Name,
     k: &SynKind,
-    first: Found,
-) -> Result<Walked<Named>, Halt>
-    ensures found { WalksTo named.program_of result
+    first: FirstRefusal,
+) -> Result<PassResult<Named>, Halt>
+    ensures found { PassesTo named.program_of result
         (kind_part (inner_env scopes.old.around scopes.old.local) x.now k.now)
         (part_first scopes.old.around scopes.old.local (Kind x.now k.now) first) }
     ensures after { OnOk result (scopes.new ≡ inner_env scopes.old.around
@@ -147,7 +148,7 @@ pub fn name_type(
 {
     let t = have!(name_definition(alloc, scopes, x, k, first));
     let first = have!(declare_kind(alloc, scopes, x, k, t.first));
-    Ok(Walked {
+    Ok(PassResult {
         tree: t.tree,
         first,
     })
@@ -159,15 +160,15 @@ fn name_definition(
     scopes: &Scopes,
     x: &Name,
     k: &SynKind,
-    first: Found,
-) -> Result<Walked<Named>, Halt>
-    ensures { WalksTo named.program_of result (kind_part scopes.now x.now k.now)
+    first: FirstRefusal,
+) -> Result<PassResult<Named>, Halt>
+    ensures { PassesTo named.program_of result (kind_part scopes.now x.now k.now)
         (kind_first scopes.now x.now k.now (at_site scopes.now (Declares x.now sort.Kind) first)) }
 {
-    let first = lesser(first, check_declares(scopes, x, Sort::Kind));
+    let first = earlier_refusal(first, check_declares(scopes, x, Sort::Kind));
     let first = have!(check_kind_form(alloc, scopes, x, k, first));
     let tree = have!(kind_part(alloc, scopes, x, k));
-    Ok(Walked { tree, first })
+    Ok(PassResult { tree, first })
 }
 
 /// Declares a type, and the constants of an enumeration behind it.
@@ -176,8 +177,8 @@ fn declare_kind(
     scopes: &mut Scopes,
     x: &Name,
     k: &SynKind,
-    first: Found,
-) -> Result<Found, Halt>
+    first: FirstRefusal,
+) -> Result<FirstRefusal, Halt>
     ensures found { Answers result (Ok (kind_constants_first scopes.old.around (type_local scopes.old.local x.now) k.now
         first)) }
     ensures after { OnOk result (scopes.new ≡ inner_env scopes.old.around
@@ -207,16 +208,16 @@ pub fn name_variables(
     scopes: &mut Scopes,
     xs: &[Name],
     t: &Name,
-    first: Found,
-) -> Result<Walked<Named>, Halt>
-    ensures found { WalksTo named.program_of result
+    first: FirstRefusal,
+) -> Result<PassResult<Named>, Halt>
+    ensures found { PassesTo named.program_of result
         (variables_part (inner_env scopes.old.around scopes.old.local) xs.now t.now)
         (part_first scopes.old.around scopes.old.local (Var xs.now t.now) first) }
     ensures after { OnOk result (scopes.new ≡ inner_env scopes.old.around
         (part_local scopes.old.local (Var xs.now t.now))) }
 {
-    let first = lesser(first, check_kind(scopes, t));
+    let first = earlier_refusal(first, check_kind(scopes, t));
     let tree = have!(variables_part(alloc, scopes, xs, t));
     let first = have!(declare_variables(alloc, scopes, xs, Role::Local, first));
-    Ok(Walked { tree, first })
+    Ok(PassResult { tree, first })
 }

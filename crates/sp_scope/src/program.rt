@@ -12,21 +12,21 @@ ghost use Rattle.sp_tree.specs.SyntaxOf as plain;
 ghost use Rattle.sp_tree.specs.declared.checked.Role.TheVariants as role;
 ghost use Rattle.sp_scope.specs.Files.{files_flagged};
 ghost use Rattle.sp_scope.specs.Firsts.{files_first, block_first};
-ghost use Rattle.sp_scope.specs.Walks.{WalksTo, seen_block, standard_tables, own_tables};
+ghost use Rattle.sp_scope.specs.Walks.{PassesTo, seen_block, standard_tables, own_tables};
 
+use crate::block_parts::{BlockParts, PassResult};
 use crate::blocks::{beside, block_in_front, name_block};
 use crate::have;
 use crate::scopes::Scopes;
-use crate::walked::{BlockParts, Walked};
 use sp_base::{Boxed, Halt, List, MAXINT, Place, Rule, Text};
 use sp_tree::{
-    Found, Name, Named, NamedConst, NamedConstant, NamedKind, NamedKindForm, NamedValue, Role,
-    SynBlock, Syntax, Variable, breaks, breaks_if, lesser,
+    FirstRefusal, Name, Named, NamedConst, NamedConstant, NamedKind, NamedKindForm, NamedValue,
+    Role, SynBlock, Syntax, Variable, breaks, breaks_if, earlier_refusal,
 };
 use std::alloc::Global;
 
 /// The names in the program's heading, with two marks for those that stood before: N1, N2.
-fn check_flagged(xs: &[Name], first: Found) -> Found
+fn check_flagged(xs: &[Name], first: FirstRefusal) -> FirstRefusal
     ensures { result ≡ files_flagged false false xs.now first }
 {
     let mut first = first;
@@ -34,19 +34,19 @@ fn check_flagged(xs: &[Name], first: Found) -> Found
     let mut output = false;
     for x in xs {
         if x.text.bytes() == "input".as_bytes() {
-            first = lesser(first, breaks_if(Rule::N2, x.at, input));
+            first = earlier_refusal(first, breaks_if(Rule::N2, x.at, input));
             input = true;
         } else if x.text.bytes() == "output".as_bytes() {
-            first = lesser(first, breaks_if(Rule::N2, x.at, output));
+            first = earlier_refusal(first, breaks_if(Rule::N2, x.at, output));
             output = true;
         } else {
-            first = lesser(first, breaks(Rule::N1, x.at));
+            first = earlier_refusal(first, breaks(Rule::N1, x.at));
         }
     }
     first
 }
 
-fn check_files(xs: &[Name], first: Found) -> Found
+fn check_files(xs: &[Name], first: FirstRefusal) -> FirstRefusal
     ensures { result ≡ files_first [] xs.now first }
 {
     check_flagged(xs, first)
@@ -160,8 +160,12 @@ fn program_tables(alloc: Global, x: &Name, b: BlockParts) -> Result<Named, Halt>
 }
 
 /// The block of a program, with the standard names around it.
-fn name_program(alloc: Global, block: SynBlock, first: Found) -> Result<Walked<BlockParts>, Halt>
-    ensures { WalksTo seen_block result (inside_named (standard_scope ∷ []) empty_local (block_of block).parts
+fn name_program(
+    alloc: Global,
+    block: SynBlock,
+    first: FirstRefusal,
+) -> Result<PassResult<BlockParts>, Halt>
+    ensures { PassesTo seen_block result (inside_named (standard_scope ∷ []) empty_local (block_of block).parts
         (block_of block).body)
         (block_first (standard_scope ∷ []) empty_local (block_of block).parts (block_of block).body first) }
 {

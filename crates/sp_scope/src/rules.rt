@@ -8,7 +8,8 @@ ghost use Rattle.sp_tree.specs.NameRules.{loop_rule, width_rule, bare_rule, need
 
 use sp_base::{Place, Rule};
 use sp_tree::{
-    Found, Meaning, Passing, Role, StandardFn, StandardProcedure, breaks, breaks_if, lesser,
+    FirstRefusal, Meaning, Passing, Role, StandardFn, StandardProcedure, breaks, breaks_if,
+    earlier_refusal,
 };
 
 fn function_takes(f: StandardFn, count: usize) -> bool
@@ -31,7 +32,7 @@ fn procedure_takes(p: StandardProcedure, count: usize) -> bool
 }
 
 /// A call of a name in an expression, with so many arguments: N1, N3, N6.
-pub fn function_rule(at: Place, count: usize, m: Option<&Meaning>) -> Found
+pub fn function_rule(at: Place, count: usize, m: Option<&Meaning>) -> FirstRefusal
     ensures { result ≡ function_rule at count (option_copied m.entry) }
 {
     match m {
@@ -46,7 +47,7 @@ pub fn function_rule(at: Place, count: usize, m: Option<&Meaning>) -> Found
     }
 }
 
-fn alone_rule(at: Place, m: Option<&Meaning>) -> Found
+fn alone_rule(at: Place, m: Option<&Meaning>) -> FirstRefusal
     ensures { result ≡ alone_rule at (option_copied m.entry) }
 {
     match m {
@@ -56,7 +57,7 @@ fn alone_rule(at: Place, m: Option<&Meaning>) -> Found
     }
 }
 
-fn selects_rule(at: Place, m: Option<&Meaning>) -> Found
+fn selects_rule(at: Place, m: Option<&Meaning>) -> FirstRefusal
     ensures { result ≡ selects_rule at (option_copied m.entry) }
 {
     match m {
@@ -67,7 +68,7 @@ fn selects_rule(at: Place, m: Option<&Meaning>) -> Found
 }
 
 /// A name in an expression, without selectors or with them: N1, N3, N6.
-pub fn operand_rule(at: Place, whole: bool, m: Option<&Meaning>) -> Found
+pub fn operand_rule(at: Place, whole: bool, m: Option<&Meaning>) -> FirstRefusal
     ensures { result ≡ operand_rule at whole (option_copied m.entry) }
 {
     if whole {
@@ -77,7 +78,7 @@ pub fn operand_rule(at: Place, whole: bool, m: Option<&Meaning>) -> Found
     }
 }
 
-fn variable_rule(at: Place, role: Role) -> Found
+fn variable_rule(at: Place, role: Role) -> FirstRefusal
     ensures { result ≡ variable_rule at role }
 {
     match role {
@@ -87,7 +88,7 @@ fn variable_rule(at: Place, role: Role) -> Found
 }
 
 /// A name as a target: N1, N3, N7.
-pub fn target_rule(at: Place, m: Option<&Meaning>) -> Found
+pub fn target_rule(at: Place, m: Option<&Meaning>) -> FirstRefusal
     ensures { result ≡ target_rule at (option_copied m.entry) }
 {
     match m {
@@ -101,7 +102,7 @@ pub fn target_rule(at: Place, m: Option<&Meaning>) -> Found
 }
 
 /// The left side of an assignment in a block: N1, N3, N7.
-pub fn assign_rule(block: u32, at: Place, whole: bool, m: Option<&Meaning>) -> Found
+pub fn assign_rule(block: u32, at: Place, whole: bool, m: Option<&Meaning>) -> FirstRefusal
     ensures { result ≡ assign_rule block at whole (option_copied m.entry) }
 {
     if whole {
@@ -127,17 +128,17 @@ fn is_local(block: u32, m: Option<&Meaning>) -> bool
 }
 
 /// The variable of a `for` in a block: N1, N3, N7, N8.
-pub fn loop_rule(block: u32, at: Place, m: Option<&Meaning>) -> Found
+pub fn loop_rule(block: u32, at: Place, m: Option<&Meaning>) -> FirstRefusal
     ensures { result ≡ loop_rule block at (option_copied m.entry) }
 {
-    lesser(
+    earlier_refusal(
         target_rule(at, m),
         breaks_if(Rule::N8, at, !is_local(block, m)),
     )
 }
 
 /// A call as a statement, with so many arguments: N1, N3, N6.
-pub fn procedure_rule(at: Place, count: usize, m: Option<&Meaning>) -> Found
+pub fn procedure_rule(at: Place, count: usize, m: Option<&Meaning>) -> FirstRefusal
     ensures { result ≡ procedure_rule at count (option_copied m.entry) }
 {
     match m {
@@ -153,7 +154,7 @@ pub fn procedure_rule(at: Place, count: usize, m: Option<&Meaning>) -> Found
 }
 
 /// A width on an argument: N5.
-pub fn width_rule(at: Place, p: Passing) -> Found
+pub fn width_rule(at: Place, p: Passing) -> FirstRefusal
     ensures { result ≡ width_rule at p }
 {
     match p {
@@ -163,7 +164,7 @@ pub fn width_rule(at: Place, p: Passing) -> Found
 }
 
 /// An argument that is not written as a variable: N5.
-pub fn bare_rule(at: Place, p: Passing) -> Found
+pub fn bare_rule(at: Place, p: Passing) -> FirstRefusal
     ensures { result ≡ bare_rule at p }
 {
     match p {

@@ -65,7 +65,7 @@ fn find_in<'a>(bs: &'a [IndexMap<Text, Meaning>], name: &Text) -> Option<&'a Mea
 }
 
 /// Declares a name in a block.
-#[tactic(auto, using(crate::proofs::Scoped::put_is))]
+#[tactic(auto, using(crate::proofs::ScopeTables::put_is))]
 pub fn put(b: &mut IndexMap<Text, Meaning>, name: Text, m: Meaning) -> Result<(), Halt>
     ensures memory { Answers result (Ok tt) }
     ensures after { OnOk result (b.new.entries ≡ put b.old.entries name m) }

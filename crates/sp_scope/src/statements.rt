@@ -2,7 +2,7 @@
 
 ghost use Rattle.std.specs.Prelude.{◌≡◌, map, None, Ok, OnOk, Some};
 ghost use Rattle.std.specs.Option.{option_copied};
-ghost use Rattle.sp_scope.specs.Walks.{WalksTo};
+ghost use Rattle.sp_scope.specs.Walks.{PassesTo};
 ghost use Rattle.sp_tree.specs.Scopes.{find, inner_env, local_of_outer, next_variable};
 ghost use Rattle.sp_tree.specs.NameWalk.{statement_local, form_local, statements_local, arms_local};
 ghost use Rattle.sp_tree.specs.NameWalk.{arm_local, branches_local, index_local, local_of_index, blocks_around};
@@ -19,6 +19,7 @@ ghost use Rattle.sp_scope.specs.Firsts.{expression_first, assigned_first, call_f
 ghost use Rattle.sp_scope.specs.Firsts.{statement_form_first, statements_first, arms_first, arm_first};
 ghost use Rattle.sp_scope.specs.Firsts.{branches_first, indexed_first, element_first};
 
+use crate::block_parts::PassResult;
 use crate::calls::{count, is_whole, references_of, rest_of};
 use crate::constants::name_constants;
 use crate::declarations::check_declares;
@@ -28,11 +29,11 @@ use crate::numbers::next_variable;
 use crate::rules::{assign_rule, loop_rule, procedure_rule};
 use crate::scopes::Scopes;
 use crate::variables::declare_variable;
-use crate::walked::Walked;
 use sp_base::{Boxed, Halt, List};
 use sp_tree::{
-    Found, Meaning, Name, NamedArg, NamedArm, NamedBranch, NamedExpr, NamedForm, NamedStmt,
-    NamedVar, Role, Sort, SynArg, SynArm, SynBranch, SynExpr, SynForm, SynStmt, SynVar, lesser,
+    FirstRefusal, Meaning, Name, NamedArg, NamedArm, NamedBranch, NamedExpr, NamedForm, NamedStmt,
+    NamedVar, Role, Sort, SynArg, SynArm, SynBranch, SynExpr, SynForm, SynStmt, SynVar,
+    earlier_refusal,
 };
 use std::alloc::Global;
 
@@ -51,9 +52,9 @@ fn name_assigned(
     alloc: Global,
     scopes: &Scopes,
     v: SynVar,
-    first: Found,
-) -> Result<Walked<NamedVar>, Halt>
-    ensures { WalksTo named.variable_of result (named_target scopes.now (variable_of v))
+    first: FirstRefusal,
+) -> Result<PassResult<NamedVar>, Halt>
+    ensures { PassesTo named.variable_of result (named_target scopes.now (variable_of v))
         (assigned_first scopes.now (variable_of v) first) }
 {
     let SynVar { name, selectors } = v;
@@ -61,8 +62,8 @@ fn name_assigned(
     let whole = is_whole(selectors.items());
     let broken = assign_rule(scopes.block(), name.at, whole, m);
     let variable = assigned_number(scopes.answer(), m);
-    let selectors = have!(name_selectors(alloc, scopes, selectors, lesser(first, broken)));
-    Ok(Walked {
+    let selectors = have!(name_selectors(alloc, scopes, selectors, earlier_refusal(first, broken)));
+    Ok(PassResult {
         tree: NamedVar {
             variable,
             at: name.at,
@@ -77,15 +78,15 @@ fn name_assignment(
     scopes: &Scopes,
     v: SynVar,
     e: SynExpr,
-    first: Found,
-) -> Result<Walked<NamedForm>, Halt>
-    ensures { WalksTo named.statement_form_of result
+    first: FirstRefusal,
+) -> Result<PassResult<NamedForm>, Halt>
+    ensures { PassesTo named.statement_form_of result
         (n.Assign (named_target scopes.now (variable_of v)) (named_expression scopes.now (expression_of e)))
         (expression_first scopes.now (expression_of e) (assigned_first scopes.now (variable_of v) first)) }
 {
     let v = have!(name_assigned(alloc, scopes, v, first));
     let e = have!(name_expression(alloc, scopes, e, v.first));
-    Ok(Walked {
+    Ok(PassResult {
         tree: NamedForm::Assign(v.tree, e.tree),
         first: e.first,
     })
@@ -107,17 +108,17 @@ fn name_call(
     scopes: &Scopes,
     f: Name,
     args: List<SynArg>,
-    first: Found,
-) -> Result<Walked<NamedForm>, Halt>
-    ensures { WalksTo named.statement_form_of result
+    first: FirstRefusal,
+) -> Result<PassResult<NamedForm>, Halt>
+    ensures { PassesTo named.statement_form_of result
         (procedure_named (find scopes.now f.text) (named.arguments (named_arguments scopes.now (arguments_of args))))
         (call_first scopes.now f (arguments_of args) first) }
 {
     let m = scopes.find(&f.text);
     let broken = procedure_rule(f.at, count(args.items()), m);
-    let first = lesser(first, broken);
+    let first = earlier_refusal(first, broken);
     let args = have!(name_arguments(alloc, scopes, args, references_of(m), rest_of(m), first));
-    Ok(Walked {
+    Ok(PassResult {
         tree: procedure_form(m, args.tree),
         first: args.first,
     })
@@ -129,17 +130,17 @@ fn name_statement(
     alloc: Global,
     scopes: &mut Scopes,
     s: SynStmt,
-    first: Found,
-) -> Result<Walked<NamedStmt>, Halt>
-    ensures found { WalksTo named.statement_of result
+    first: FirstRefusal,
+) -> Result<PassResult<NamedStmt>, Halt>
+    ensures found { PassesTo named.statement_of result
         (named_statement scopes.old.around scopes.old.local (statement_of s))
         (statement_first scopes.old.around scopes.old.local (statement_of s) first) }
     ensures after { OnOk result (scopes.new ≡ inner_env scopes.old.around
         (statement_local scopes.old.local (statement_of s))) }
 {
     let SynStmt { at, form } = s;
-    let Walked { tree, first } = have!(name_statement_form(alloc, scopes, form, first));
-    Ok(Walked {
+    let PassResult { tree, first } = have!(name_statement_form(alloc, scopes, form, first));
+    Ok(PassResult {
         tree: NamedStmt { at, form: tree },
         first,
     })
@@ -150,17 +151,17 @@ pub fn name_boxed_statement(
     alloc: Global,
     scopes: &mut Scopes,
     s: Boxed<SynStmt>,
-    first: Found,
-) -> Result<Walked<Boxed<NamedStmt>>, Halt>
-    ensures found { WalksTo named.statement_of result
+    first: FirstRefusal,
+) -> Result<PassResult<Boxed<NamedStmt>>, Halt>
+    ensures found { PassesTo named.statement_of result
         (named_statement scopes.old.around scopes.old.local (statement_of s))
         (statement_first scopes.old.around scopes.old.local (statement_of s) first) }
     ensures after { OnOk result (scopes.new ≡ inner_env scopes.old.around
         (statement_local scopes.old.local (statement_of s))) }
 {
-    let Walked { tree, first } = have!(name_statement(alloc, scopes, s.into_inner(), first));
+    let PassResult { tree, first } = have!(name_statement(alloc, scopes, s.into_inner(), first));
     let tree = have!(Boxed::new(alloc, tree));
-    Ok(Walked { tree, first })
+    Ok(PassResult { tree, first })
 }
 
 #[cycle(statement)]
@@ -168,16 +169,16 @@ fn name_statement_form(
     alloc: Global,
     scopes: &mut Scopes,
     form: SynForm,
-    first: Found,
-) -> Result<Walked<NamedForm>, Halt>
-    ensures found { WalksTo named.statement_form_of result
+    first: FirstRefusal,
+) -> Result<PassResult<NamedForm>, Halt>
+    ensures found { PassesTo named.statement_form_of result
         (named_statement_form scopes.old.around scopes.old.local (statement_form_of form))
         (statement_form_first scopes.old.around scopes.old.local (statement_form_of form) first) }
     ensures after { OnOk result (scopes.new ≡ inner_env scopes.old.around
         (form_local scopes.old.local (statement_form_of form))) }
 {
     match form {
-        SynForm::Empty => Ok(Walked {
+        SynForm::Empty => Ok(PassResult {
             tree: NamedForm::Empty,
             first,
         }),
@@ -185,7 +186,7 @@ fn name_statement_form(
         SynForm::Call(f, args) => name_call(alloc, scopes, f, args, first),
         SynForm::Sequence(ss) => {
             let ss = have!(name_statements(alloc, scopes, ss, first));
-            Ok(Walked {
+            Ok(PassResult {
                 tree: NamedForm::Sequence(ss.tree),
                 first: ss.first,
             })
@@ -194,7 +195,7 @@ fn name_statement_form(
             let e = have!(name_expression(alloc, scopes, e, first));
             let a = have!(name_boxed_statement(alloc, scopes, a, e.first));
             match b {
-                None => Ok(Walked {
+                None => Ok(PassResult {
                     tree: NamedForm::If(e.tree, a.tree, None),
                     first: a.first,
                 }),
@@ -204,7 +205,7 @@ fn name_statement_form(
         SynForm::While(e, a) => {
             let e = have!(name_expression(alloc, scopes, e, first));
             let a = have!(name_boxed_statement(alloc, scopes, a, e.first));
-            Ok(Walked {
+            Ok(PassResult {
                 tree: NamedForm::While(e.tree, a.tree),
                 first: a.first,
             })
@@ -213,7 +214,7 @@ fn name_statement_form(
         SynForm::Case(e, arms) => {
             let e = have!(name_expression(alloc, scopes, e, first));
             let arms = have!(name_arms(alloc, scopes, arms, e.first));
-            Ok(Walked {
+            Ok(PassResult {
                 tree: NamedForm::Case(e.tree, arms.tree),
                 first: arms.first,
             })
@@ -227,7 +228,7 @@ fn name_statement_form(
         } => name_for(alloc, scopes, body, name, from, down, to, first),
         SynForm::Parallel(bs) => {
             let bs = have!(name_branches(alloc, scopes, bs, first));
-            Ok(Walked {
+            Ok(PassResult {
                 tree: NamedForm::Parallel(bs.tree),
                 first: bs.first,
             })
@@ -240,7 +241,7 @@ fn name_statement_form(
         } => name_forall(alloc, scopes, body, name, from, to, first),
         SynForm::Assume(e) => {
             let e = have!(name_expression(alloc, scopes, e, first));
-            Ok(Walked {
+            Ok(PassResult {
                 tree: NamedForm::Assume(e.tree),
                 first: e.first,
             })
@@ -256,9 +257,9 @@ fn name_else(
     b: Boxed<SynStmt>,
     e: NamedExpr,
     a: Boxed<NamedStmt>,
-    first: Found,
-) -> Result<Walked<NamedForm>, Halt>
-    ensures found { WalksTo named.statement_form_of result
+    first: FirstRefusal,
+) -> Result<PassResult<NamedForm>, Halt>
+    ensures found { PassesTo named.statement_form_of result
         (n.If (named.expression_of e) (named.statement_of a)
         (n.Else (named_statement scopes.old.around scopes.old.local (statement_of b))))
         (statement_first scopes.old.around scopes.old.local (statement_of b) first) }
@@ -266,7 +267,7 @@ fn name_else(
         (statement_local scopes.old.local (statement_of b))) }
 {
     let b = have!(name_boxed_statement(alloc, scopes, b, first));
-    Ok(Walked {
+    Ok(PassResult {
         tree: else_form(e, a, b.tree),
         first: b.first,
     })
@@ -291,9 +292,9 @@ fn name_repeat(
     scopes: &mut Scopes,
     ss: List<SynStmt>,
     e: SynExpr,
-    first: Found,
-) -> Result<Walked<NamedForm>, Halt>
-    ensures found { WalksTo named.statement_form_of result
+    first: FirstRefusal,
+) -> Result<PassResult<NamedForm>, Halt>
+    ensures found { PassesTo named.statement_form_of result
         (named_statement_form scopes.old.around scopes.old.local (Repeat (statements_of ss) (expression_of e)))
         (statement_form_first scopes.old.around scopes.old.local (Repeat (statements_of ss) (expression_of e)) first) }
     ensures after { OnOk result (scopes.new ≡ inner_env scopes.old.around
@@ -301,7 +302,7 @@ fn name_repeat(
 {
     let ss = have!(name_statements(alloc, scopes, ss, first));
     let e = have!(name_expression(alloc, scopes, e, ss.first));
-    Ok(Walked {
+    Ok(PassResult {
         tree: repeat_form(ss.tree, e.tree),
         first: e.first,
     })
@@ -316,9 +317,9 @@ fn name_for(
     from: SynExpr,
     down: bool,
     to: SynExpr,
-    first: Found,
-) -> Result<Walked<NamedForm>, Halt>
-    ensures found { WalksTo named.statement_form_of result
+    first: FirstRefusal,
+) -> Result<PassResult<NamedForm>, Halt>
+    ensures found { PassesTo named.statement_form_of result
         (named_statement_form scopes.old.around scopes.old.local
         (For name (expression_of from) down (expression_of to) (statement_of body)))
         (statement_form_first scopes.old.around scopes.old.local
@@ -329,10 +330,10 @@ fn name_for(
     let m = scopes.find(&name.text);
     let broken = loop_rule(scopes.block(), name.at, m);
     let variable = variable_number(m);
-    let from = have!(name_expression(alloc, scopes, from, lesser(first, broken)));
+    let from = have!(name_expression(alloc, scopes, from, earlier_refusal(first, broken)));
     let to = have!(name_expression(alloc, scopes, to, from.first));
     let body = have!(name_boxed_statement(alloc, scopes, body, to.first));
-    Ok(Walked {
+    Ok(PassResult {
         tree: NamedForm::For {
             variable,
             at: name.at,
@@ -353,9 +354,9 @@ fn name_forall(
     name: Name,
     from: SynExpr,
     to: SynExpr,
-    first: Found,
-) -> Result<Walked<NamedForm>, Halt>
-    ensures found { WalksTo named.statement_form_of result
+    first: FirstRefusal,
+) -> Result<PassResult<NamedForm>, Halt>
+    ensures found { PassesTo named.statement_form_of result
         (named_statement_form scopes.old.around scopes.old.local
         (Forall name (expression_of from) (expression_of to) (statement_of body)))
         (statement_form_first scopes.old.around scopes.old.local
@@ -368,7 +369,7 @@ fn name_forall(
     let from = have!(name_expression(alloc, scopes, from, first));
     let to = have!(name_expression(alloc, scopes, to, from.first));
     let body = have!(name_element(alloc, scopes, body, &name, to.first));
-    Ok(Walked {
+    Ok(PassResult {
         tree: NamedForm::Forall {
             index,
             from: from.tree,
@@ -386,9 +387,9 @@ fn name_element(
     scopes: &mut Scopes,
     body: Boxed<SynStmt>,
     x: &Name,
-    first: Found,
-) -> Result<Walked<Boxed<NamedStmt>>, Halt>
-    ensures found { WalksTo named.statement_of result
+    first: FirstRefusal,
+) -> Result<PassResult<Boxed<NamedStmt>>, Halt>
+    ensures found { PassesTo named.statement_of result
         (named_statement (blocks_around scopes.old.around scopes.old.local) (local_of_index scopes.old.local x.now)
         (statement_of body))
         (element_first scopes.old.around scopes.old.local x.now (statement_of body) first) }
@@ -410,15 +411,15 @@ fn name_indexed(
     scopes: &mut Scopes,
     body: Boxed<SynStmt>,
     x: &Name,
-    first: Found,
-) -> Result<Walked<Boxed<NamedStmt>>, Halt>
-    ensures found { WalksTo named.statement_of result
+    first: FirstRefusal,
+) -> Result<PassResult<Boxed<NamedStmt>>, Halt>
+    ensures found { PassesTo named.statement_of result
         (named_statement scopes.old.around (index_local scopes.old.local x.now) (statement_of body))
         (indexed_first scopes.old.around scopes.old.local x.now (statement_of body) first) }
     ensures after { OnOk result (scopes.new ≡ inner_env scopes.old.around
         (statement_local (index_local scopes.old.local x.now) (statement_of body))) }
 {
-    let first = lesser(first, check_declares(scopes, x, Sort::Variable));
+    let first = earlier_refusal(first, check_declares(scopes, x, Sort::Variable));
     have!(declare_variable(alloc, scopes, x, Role::Index));
     name_boxed_statement(alloc, scopes, body, first)
 }
@@ -428,9 +429,9 @@ fn name_statements(
     alloc: Global,
     scopes: &mut Scopes,
     ss: List<SynStmt>,
-    first: Found,
-) -> Result<Walked<List<NamedStmt>>, Halt>
-    ensures found { WalksTo (map named.statement_of) result
+    first: FirstRefusal,
+) -> Result<PassResult<List<NamedStmt>>, Halt>
+    ensures found { PassesTo (map named.statement_of) result
         (named_statements scopes.old.around scopes.old.local (statements (map statement_of ss)))
         (statements_first scopes.old.around scopes.old.local (statements (map statement_of ss)) first) }
     ensures after { OnOk result (scopes.new ≡ inner_env scopes.old.around
@@ -443,7 +444,7 @@ fn name_statements(
         first = t.first;
         out.push(t.tree)?;
     }
-    Ok(Walked {
+    Ok(PassResult {
         tree: List::of(out),
         first,
     })
@@ -454,9 +455,9 @@ fn name_arm(
     alloc: Global,
     scopes: &mut Scopes,
     a: SynArm,
-    first: Found,
-) -> Result<Walked<NamedArm>, Halt>
-    ensures found { WalksTo named.arm_of result (named_arm scopes.old.around scopes.old.local (arm_of a))
+    first: FirstRefusal,
+) -> Result<PassResult<NamedArm>, Halt>
+    ensures found { PassesTo named.arm_of result (named_arm scopes.old.around scopes.old.local (arm_of a))
         (arm_first scopes.old.around scopes.old.local (arm_of a) first) }
     ensures after { OnOk result (scopes.new ≡ inner_env scopes.old.around (arm_local scopes.old.local (arm_of a))) }
 {
@@ -466,7 +467,7 @@ fn name_arm(
         return Err(Halt::Memory);
     };
     let body = have!(name_statement(alloc, scopes, body, constants.first));
-    Ok(Walked {
+    Ok(PassResult {
         tree: NamedArm {
             constants: constants.tree,
             body: body.tree,
@@ -480,9 +481,9 @@ fn name_arms(
     alloc: Global,
     scopes: &mut Scopes,
     choices: List<SynArm>,
-    first: Found,
-) -> Result<Walked<List<NamedArm>>, Halt>
-    ensures found { WalksTo (map named.arm_of) result
+    first: FirstRefusal,
+) -> Result<PassResult<List<NamedArm>>, Halt>
+    ensures found { PassesTo (map named.arm_of) result
         (named_arms scopes.old.around scopes.old.local (arms (map arm_of choices)))
         (arms_first scopes.old.around scopes.old.local (arms (map arm_of choices)) first) }
     ensures after { OnOk result (scopes.new ≡ inner_env scopes.old.around
@@ -495,7 +496,7 @@ fn name_arms(
         first = t.first;
         out.push(t.tree)?;
     }
-    Ok(Walked {
+    Ok(PassResult {
         tree: List::of(out),
         first,
     })
@@ -506,9 +507,9 @@ fn name_branch(
     alloc: Global,
     scopes: &mut Scopes,
     b: SynBranch,
-    first: Found,
-) -> Result<Walked<NamedBranch>, Halt>
-    ensures found { WalksTo named.branch_of result
+    first: FirstRefusal,
+) -> Result<PassResult<NamedBranch>, Halt>
+    ensures found { PassesTo named.branch_of result
         (named.statements (named_statements scopes.old.around scopes.old.local (branch_of b)))
         (statements_first scopes.old.around scopes.old.local (branch_of b) first) }
     ensures after { OnOk result (scopes.new ≡ inner_env scopes.old.around
@@ -516,7 +517,7 @@ fn name_branch(
 {
     let SynBranch { statements } = b;
     let ss = have!(name_statements(alloc, scopes, statements, first));
-    Ok(Walked {
+    Ok(PassResult {
         tree: NamedBranch {
             statements: ss.tree,
         },
@@ -529,9 +530,9 @@ fn name_branches(
     alloc: Global,
     scopes: &mut Scopes,
     bs: List<SynBranch>,
-    first: Found,
-) -> Result<Walked<List<NamedBranch>>, Halt>
-    ensures found { WalksTo (map named.branch_of) result
+    first: FirstRefusal,
+) -> Result<PassResult<List<NamedBranch>>, Halt>
+    ensures found { PassesTo (map named.branch_of) result
         (named_branches scopes.old.around scopes.old.local (branches (map branch_of bs)))
         (branches_first scopes.old.around scopes.old.local (branches (map branch_of bs)) first) }
     ensures after { OnOk result (scopes.new ≡ inner_env scopes.old.around
@@ -544,7 +545,7 @@ fn name_branches(
         first = t.first;
         out.push(t.tree)?;
     }
-    Ok(Walked {
+    Ok(PassResult {
         tree: List::of(out),
         first,
     })

@@ -6,16 +6,16 @@ ghost use Rattle.sp_tree.specs.Scopes.{inner_env, with_declaration, variable};
 ghost use Rattle.sp_tree.specs.declared.meaning.Sort.TheVariants as sort;
 ghost use Rattle.sp_tree.specs.NameWalk.{names_local, formals_local, role_of};
 ghost use Rattle.sp_tree.specs.NamedTree.{variables_named, formals_named, numbers};
-ghost use Rattle.sp_scope.specs.Walks.{WalksTo, itself};
+ghost use Rattle.sp_scope.specs.Walks.{PassesTo, itself};
 ghost use Rattle.sp_scope.specs.Firsts.{names_first, formals_first, heading_first};
 
+use crate::block_parts::PassResult;
 use crate::declarations::{check_declares, check_kind, kind_number};
 use crate::have;
 use crate::numbers::{more, next_variable};
 use crate::scopes::Scopes;
-use crate::walked::Walked;
 use sp_base::{Halt, List};
-use sp_tree::{Found, Meaning, Name, Role, Sort, SynFormal, Variable, lesser};
+use sp_tree::{FirstRefusal, Meaning, Name, Role, Sort, SynFormal, Variable, earlier_refusal};
 use std::alloc::Global;
 
 /// Declares a variable of a role in the innermost block.
@@ -49,14 +49,14 @@ pub fn declare_variables(
     scopes: &mut Scopes,
     xs: &[Name],
     role: Role,
-    first: Found,
-) -> Result<Found, Halt>
+    first: FirstRefusal,
+) -> Result<FirstRefusal, Halt>
     ensures found { Answers result (Ok (names_first scopes.old.around role scopes.old.local xs.now first)) }
     ensures after { OnOk result (scopes.new ≡ inner_env scopes.old.around (names_local role scopes.old.local xs.now)) }
 {
     let mut first = first;
     for x in xs {
-        first = lesser(first, check_declares(scopes, x, Sort::Variable));
+        first = earlier_refusal(first, check_declares(scopes, x, Sort::Variable));
         have!(declare_variable(alloc, scopes, x, role));
     }
     Ok(first)
@@ -77,8 +77,8 @@ pub fn declare_formals(
     alloc: Global,
     scopes: &mut Scopes,
     fs: &[SynFormal],
-    first: Found,
-) -> Result<Found, Halt>
+    first: FirstRefusal,
+) -> Result<FirstRefusal, Halt>
     ensures found { Answers result (Ok (formals_first scopes.old.around scopes.old.local fs.now first)) }
     ensures after { OnOk result (scopes.new ≡ inner_env scopes.old.around (formals_local scopes.old.local fs.now)) }
 {
@@ -126,14 +126,14 @@ pub fn name_formals(
     scopes: &Scopes,
     fs: &[SynFormal],
     block: u32,
-    first: Found,
-) -> Result<Walked<List<Variable>>, Halt>
-    ensures { WalksTo itself result (formals_named scopes.now block fs.now) (heading_first scopes.now fs.now first) }
+    first: FirstRefusal,
+) -> Result<PassResult<List<Variable>>, Halt>
+    ensures { PassesTo itself result (formals_named scopes.now block fs.now) (heading_first scopes.now fs.now first) }
 {
     let mut out = Vec::new(alloc);
     let mut first = first;
     for f in fs {
-        first = lesser(first, check_kind(scopes, &f.kind));
+        first = earlier_refusal(first, check_kind(scopes, &f.kind));
         let kind = kind_number(scopes.find(&f.kind.text));
         have!(push_variables(
             alloc,
@@ -144,7 +144,7 @@ pub fn name_formals(
             kind,
         ));
     }
-    Ok(Walked {
+    Ok(PassResult {
         tree: List::of(out),
         first,
     })

@@ -1,5 +1,5 @@
 mod Joins
 mod Members
 mod OneText
-mod Ordering
-mod Walked
+mod LineOrders
+mod StatementLines

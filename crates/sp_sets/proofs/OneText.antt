@@ -26,7 +26,7 @@ use Rattle.sp_sets.specs.SetsText.{IsBoth, IsLineAt, IsOfBlock, IsSetsText, IsVa
 use Rattle.sp_sets.specs.SetsText.{name_text}
 use Rattle.sp_sets.proofs.Joins.{joined_once}
 use Rattle.sp_sets.proofs.Members.{same_members}
-use Rattle.sp_sets.proofs.Ordering.{line_total, one_order, same_line, same_variable, variable_total}
+use Rattle.sp_sets.proofs.LineOrders.{line_total, one_order, same_line, same_variable, variable_total}
 
 -- ---- the statements of lines stand in the tree
 

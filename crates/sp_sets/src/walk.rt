@@ -81,7 +81,7 @@ fn arms_lines(lines: &mut Writer<SetsLine>, choices: &List<Arm>)
 }
 
 #[cycle(walk)]
-#[tactic(auto, using(crate::proofs::Walked::no_sends, crate::proofs::Walked::no_receives))]
+#[tactic(auto, using(crate::proofs::StatementLines::no_sends, crate::proofs::StatementLines::no_receives))]
 fn form_lines(lines: &mut Writer<SetsLine>, at: Place, form: &Form)
     ensures { Adds lines.old lines.new (form_lines at (statement_form_of form.now)) }
 {

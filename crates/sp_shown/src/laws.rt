@@ -5,7 +5,7 @@ ghost use Rattle.sp_tree.specs.PlainChecked.{Program};
 ghost use Rattle.sp_tree.specs.Plain as plain;
 ghost use Rattle.sp_tree.specs.Bare.{without_places};
 ghost use Rattle.sp_cell.specs.Map.{Plain};
-ghost use Rattle.sp_code.specs.Emitted.{program_code};
+ghost use Rattle.sp_code.specs.TreeCode.{program_code};
 ghost use Rattle.sp_code.specs.Machine.{Config};
 ghost use Rattle.sp_code.specs.Memory.{CodeRun, Memory, memory};
 ghost use Rattle.sp_code.specs.PlainStore.{plain as plain_store};
@@ -13,7 +13,7 @@ ghost use Rattle.sp_code.specs.Turns.{IsSafe, frames_fit};
 ghost use Rattle.sp_lines.specs.AtTurn.{next_of};
 ghost use Rattle.sp_lines.specs.declared.mark.Mark.{Mark};
 ghost use Rattle.sp_lines.specs.Marks.{marks};
-ghost use Rattle.sp_shown.specs.Landing.{landing};
+ghost use Rattle.sp_shown.specs.JumpTargets.{landing};
 
 /// In a run of a program's code, jumps from the next instruction of a process lead to one that has a mark, where no
 /// instruction of its turn lacks what it needs and its variables fit.

@@ -13,7 +13,7 @@
 //! To know:
 //! - No tree behind the grammar has the names of an enumeration's constants, but their number alone. The types are
 //!   numbered in the order in which the text declares them, so its enumerations are those of the types, in order.
-//! - `specs/Constants.antt` and `specs/Landing.antt` say what the calls give. The only error is want of memory.
+//! - `specs/Constants.antt` and `specs/JumpTargets.antt` say what the calls give. The only error is want of memory.
 #![tactic(auto)]
 
 mod enumerations;

@@ -17,7 +17,7 @@ ghost use Rattle.sp_cell.specs.Map.{IsOutput, output_spot, output_of, with_more_
 ghost use Rattle.sp_cell.specs.Fork.{map_after_joins};
 ghost use Rattle.sp_cell.specs.Fork.{children_so_far};
 ghost use Rattle.sp_cell.specs.Spots.{IsDistinct, In, NotIn, AllHeld, AllPieces, AllAway};
-ghost use Rattle.sp_cell.specs.Held.{KeepsPartition, RejoinsPartition};
+ghost use Rattle.sp_cell.specs.Holders.{KeepsPartition, RejoinsPartition};
 ghost use Rattle.sp_store.specs.Layout.{IsLent, FramesBelow};
 
 use crate::entry::Entry;

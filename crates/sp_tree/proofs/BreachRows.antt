@@ -19,7 +19,7 @@ use Rattle.sp_tree.specs.Bare.{without_places, bare_block}
 use Rattle.sp_tree.specs.Sets.{IsBelow, IsFree}
 use Rattle.sp_tree.specs.Sites.{SplitsAt, SpreadsAt, LoopsAt, CallsAt, StopsAt}
 use Rattle.sp_tree.specs.Interferes.{Interferes}
-use Rattle.sp_tree.proofs.Certified.{Claim}
+use Rattle.sp_tree.proofs.SetCertificates.{Claim}
 use Rattle.sp_tree.proofs.Unbroken.{BreaksNone, breaks_none}
 
 abbrev place : ℕ → Place

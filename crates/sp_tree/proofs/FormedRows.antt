@@ -9,7 +9,7 @@ use Rattle.sp_tree.specs.Cells.{variables_of}
 use Rattle.sp_tree.specs.Plain.{Typed, Number, Read, Entire, Whole, Program, Variable, Block, Stmt, Assign, Parallel}
 use Rattle.sp_tree.specs.Plain.{WriteValue, No, And}
 use Rattle.sp_tree.specs.Uses.{Use, ParallelOf, In_stmt}
-use Rattle.sp_tree.specs.Formed.{is_parameter, is_answer, numbers_with_role, as_list, IsFormedUse, IsFormed}
+use Rattle.sp_tree.specs.TreeShape.{is_parameter, is_answer, numbers_with_role, as_list, IsFormedUse, IsFormed}
 
 abbrev declared : ℕ → Role → Variable
 declared b r = record { kind = 0; block = b; role = r }

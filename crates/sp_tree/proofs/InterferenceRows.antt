@@ -9,7 +9,7 @@ use Rattle.sp_tree.specs.Plain.{Expr, Typed, Number, Read, Binary, Apply, Var, E
 use Rattle.sp_tree.specs.Plain.{ByReference, Actuals, Nothing, Pass, Program, Variable, Block, Stmt, Assign, Call}
 use Rattle.sp_tree.specs.Plain.{Sequence, IfElse, Parallel, Forall, WriteValue, Open, Send, Receive, No, And}
 use Rattle.sp_tree.specs.Interference.{KeepsI1, KeepsI2, KeepsI4, IsFreeOfInterference}
-use Rattle.sp_tree.proofs.Certified.{Claim, certified}
+use Rattle.sp_tree.proofs.SetCertificates.{Claim, certified}
 
 abbrev num : ℕ → Expr
 num n = Typed 0 (Number (pos n))

@@ -1,14 +1,14 @@
 pub mod Earlier
-pub mod Gathering
+pub mod BreachLists
 pub mod Members
 pub mod UsesOf
-pub mod Certified
+pub mod SetCertificates
 pub mod Closure
 mod InterferenceRows
 pub mod SingleStatements
-mod Sited
+mod UseSites
 pub mod NoBreach
-pub mod Reached
+pub mod CallClosure
 pub mod Unbroken
 mod BreachRows
 mod FormedRows

@@ -13,7 +13,7 @@ use Rattle.sp_tree.specs.Interference.{refs, IsMember, AllDifferent, KeepsI1, Ke
 use Rattle.sp_tree.specs.Sites.{Site, SplitsAt, SpreadsAt, LoopsAt, CallsAt, StopsAt, statement_sites}
 use Rattle.sp_tree.specs.Interferes.{IsSite, place_of, ClashesIn, SplitBreaks, Repeats, CallRepeats, PassesImplicit}
 use Rattle.sp_tree.specs.Interferes.{Interferes}
-use Rattle.sp_tree.proofs.Sited.{KeepsSite, AllKeep, statement_kept}
+use Rattle.sp_tree.proofs.UseSites.{KeepsSite, AllKeep, statement_kept}
 
 module _ (g : Program) where
   -- what is reached from a list of statements is reached from one of them

@@ -21,9 +21,10 @@ use Rattle.sp_tree.specs.Sites.{Site, SplitsAt, SpreadsAt, LoopsAt, CallsAt, Sto
 use Rattle.sp_tree.specs.Interferes.{IsSite, ClashesIn, SplitBreaks, Repeats, CallRepeats, PassesImplicit, SiteBreaks}
 use Rattle.sp_tree.specs.Interferes.{SiteStops, Interferes}
 use Rattle.sp_tree.proofs.UsesOf.{Among, stmt_uses, stmt_among}
-use Rattle.sp_tree.proofs.Certified.{Claim, has, each, each_has, all_uses, use_passes, member_has, T, S, aims_of, keeps}
-use Rattle.sp_tree.proofs.Certified.{bodies, reached_target, reached_seen, target_has, use_kept}
-use Rattle.sp_tree.proofs.Reached.{IsClosedUnderCalls, complete}
+use Rattle.sp_tree.proofs.SetCertificates.{Claim, has, each, each_has, all_uses, use_passes, member_has, T, S}
+use Rattle.sp_tree.proofs.SetCertificates.{aims_of, keeps}
+use Rattle.sp_tree.proofs.SetCertificates.{bodies, reached_target, reached_seen, target_has, use_kept}
+use Rattle.sp_tree.proofs.CallClosure.{IsClosedUnderCalls, complete}
 use Rattle.sp_tree.proofs.NoBreach.{block_at}
 
 abbrev pub is_reference : Role → Bool

@@ -3,7 +3,7 @@ pub mod PlainChecked
 pub mod CheckedOf
 pub mod Bare
 pub mod PlainOf
-pub mod Formed
+pub mod TreeShape
 pub mod Around
 pub mod PlainSyntax
 pub mod SyntaxOf

@@ -1,7 +1,7 @@
 -- All of this belongs to what the program promises (docs/promise.txt).
 -- All that stands in a program for the rules of names, with the declarations visible there. `join` puts together what
--- is found at the sites: lists give all broken rules, `lesser` the first. The contracts of `sp_scope` follow its
--- parts.
+-- is found at the sites: lists give all broken rules, `earlier_refusal` the first. The contracts of `sp_scope` follow
+-- its parts.
 use Rattle.std.specs.Prelude.{ℕ, suc, ◌+◌, ◌&&◌, List, [], ◌∷◌, ◌++◌, map, Bool, true, false, if◌then◌else◌, Option}
 use Rattle.std.specs.Prelude.{Some, None}
 use Rattle.sp_base.specs.declared.place.Place.{Place}

@@ -8,7 +8,7 @@ use Rattle.sp_base.specs.declared.rule.Rule.{Rule}
 use Rattle.sp_base.specs.declared.halt.Refusal.{Refusal}
 use Rattle.sp_base.specs.declared.halt.Halt.{Halt}
 use Rattle.sp_base.specs.declared.halt.Halt.TheVariants as halt
-use Rattle.sp_tree.specs.declared.found.Walked.{Walked}
+use Rattle.sp_tree.specs.declared.breach_order.PassResult.{PassResult}
 use Rattle.sp_tree.specs.First.{refusal_before}
 
 -- a broken rule with its place, or none
@@ -58,9 +58,9 @@ AnswersAs view (Err (halt.Refused r)) d = d ≡ Err r
 AnswersAs view (Err halt.Memory) d = Unit {0}
 
 -- a part in memory as the plain tree that it stands for, with the first broken rule
-abbrev pub walk_result : {A B : Type 0} → (A → B) → Walked A → B × FirstRefusal
-walk_result view w = (view w.tree, w.first)
+abbrev pub pass_result : {A B : Type 0} → (A → B) → PassResult A → B × FirstRefusal
+pass_result view w = (view w.tree, w.first)
 
 -- This tree and this first broken rule up to its end, or memory was refused.
-abbrev pub WalksTo : {A B : Type 0} → (A → B) → Result (Walked A) Halt → B → FirstRefusal → Type 0
-WalksTo view result tree first = AnswersAs (walk_result view) result (Ok (tree, first))
+abbrev pub PassesTo : {A B : Type 0} → (A → B) → Result (PassResult A) Halt → B → FirstRefusal → Type 0
+PassesTo view result tree first = AnswersAs (pass_result view) result (Ok (tree, first))

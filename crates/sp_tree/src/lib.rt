@@ -12,9 +12,8 @@
 //!   whole. A type with a `drop` of its own is taken apart in its own methods alone.
 //! - `row`, `before`: the row of a rule in the rule table, and which of two refusals is reported: the earlier one, or
 //!   at one place that of the earlier row.
-//! - `PhaseResults` (a refusal or none): `lesser` is the first of two, `breaks` and `refusal_if` make one. `Walked`: a
-//!   part
-//!   of a tree with the first rule broken up to its end.
+//! - `PhaseResults` (a refusal or none): `earlier_refusal` is the first of two, `breaks` and `refusal_if` make one.
+//!   `PassResult`: a part of a tree with the first rule broken up to its end.
 //! - `lower`: the lower case of a letter, any other byte itself.
 //! - `MAX_TEXT`, `MAX_NAME`, `MAX_NESTING`: how many bytes a text and a name may have, how deep parts may lie.
 //!
@@ -50,18 +49,18 @@
 //!
 //! Lemmas for others, in `proofs`:
 //! - `Earlier`: places of a text, one before another.
-//! - `Gathering`: what a walk gathers in a list leads to the same first broken rule as the walk that keeps the
+//! - `BreachLists`: what a walk gathers in a list leads to the same first broken rule as the walk that keeps the
 //!   first alone.
 //! - `Members`: members of lists of numbers: of a list of two parts, and at a place.
 //! - `UsesOf`: the uses in a statement as a list.
-//! - `Certified`: the rules of interference by a test: sets that are closed under calls are given, and hold all
+//! - `SetCertificates`: the rules of interference by a test: sets that are closed under calls are given, and hold all
 //!   that paths reach.
 //! - `Closure`: what is reached by paths of calls is what stands here, and what is reached from a block that is
 //!   called here.
 //! - `SingleStatements`: the single statements of a `send` or `receive` of several, without their numbers and
 //!   places.
 //! - `NoBreach`: a tree that breaks no rule of interference keeps them at every use in it.
-//! - `Reached`: what paths of calls reach from a block's statement part: any claims that are closed under calls
+//! - `CallClosure`: what paths of calls reach from a block's statement part: any claims that are closed under calls
 //!   hold all of it.
 //! - `Unbroken`: that a tree breaks no rule of interference, by a test over claims of what its blocks reach.
 //! - `Tables`: tables of types, each result by those before it (`table`): which result stands where, and how many
@@ -74,8 +73,8 @@
 //! - A rule of names: `specs/NameRules.antt`.
 #![tactic(auto)]
 
+mod breach_order;
 mod checked;
-mod found;
 mod letter;
 mod meaning;
 mod named;
@@ -86,10 +85,10 @@ mod syntax;
 mod token;
 pub mod word;
 
+pub use breach_order::{FirstRefusal, PassResult, before, breaks, breaks_if, earlier_refusal, row};
 pub use checked::{
     Actual, Arm, Block, Checked, Expr, ExprForm, Form, KindOf, Role, Selector, Stmt, Var, Variable,
 };
-pub use found::{Found, Walked, before, breaks, breaks_if, lesser, row};
 pub use letter::lower;
 pub use meaning::{Counts, Meaning, Passing, Sort, StandardProcedure};
 pub use named::{

@@ -26,7 +26,7 @@ use Rattle.sp_types.specs.declared.tables.Ordinal.{Ordinal}
 use Rattle.sp_types.specs.Tables.{Env, const_value, with_next_number, with_index_type, numbers_of, constants_of, env_of}
 use Rattle.sp_types.specs.Kinds.{expression_kind}
 use Rattle.sp_tree.specs.Cells.{sizes}
-use Rattle.sp_tree.proofs.Gathering.{lesser_none, Leads, no_more, follows}
+use Rattle.sp_tree.proofs.BreachLists.{lesser_none, Leads, no_more, follows}
 use Rattle.sp_types.specs.TypeWalk as w
 use Rattle.sp_types.specs.TypeFirst.{at_node, types_broken, types_first}
 

@@ -4,14 +4,14 @@ mod TreeRows
 mod TextRows
 pub mod Laws
 mod Steps
-mod Wanting
+mod ExpectedTypes
 mod Counts
-mod Numbering
+mod NextNumbers
 pub mod StatementNumbers
-mod Capping
-mod Declared
+mod CellCaps
+mod DeclarationRules
 mod KeptKinds
-mod ProgramTyped
-mod Seeing
-mod Noting
-mod EachReceived
+mod TypePhase
+mod ConstantSets
+mod FieldTables
+mod SeveralOnChannel

@@ -32,7 +32,7 @@ use Rattle.sp_types.specs.CheckedTree.{checked_statement, checked_statement_form
 use Rattle.sp_types.specs.CheckedTree.{checked_arms, checked_branches, checked_blocks, program_checked}
 use Rattle.sp_types.specs.StatementNumbers.{statement_numbers, form_numbers, other_numbers, statements_numbers}
 use Rattle.sp_types.specs.StatementNumbers.{arms_numbers, blocks_numbers, body_places, DiffersFrom, AllDiffer}
-use Rattle.sp_types.proofs.Numbering.{statement_next}
+use Rattle.sp_types.proofs.NextNumbers.{statement_next}
 
 -- ---- one number after the other
 

@@ -1,6 +1,6 @@
 -- None of this belongs to what the program promises: it is for contracts between crates.
 -- The first broken rule of types at declarations and blocks, from what was found before it: the walk of TypeWalk.antt
--- with `lesser` at each node. The contracts of `declarations`, `blocks` and `program` cite it.
+-- with `earlier_refusal` at each node. The contracts of `declarations`, `blocks` and `program` cite it.
 use Rattle.std.specs.Prelude.{ℕ, List, Option}
 use Rattle.sp_base.specs.declared.place.Place.{Place}
 use Rattle.sp_tree.specs.declared.checked.Variable as checked

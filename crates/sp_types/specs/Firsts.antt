@@ -1,6 +1,6 @@
 -- None of this belongs to what the program promises: it is for contracts between crates.
 -- The first broken rule of types in each part of a tree, from what was found before it: the walk of TypeWalk.antt with
--- `lesser` at each node. The contracts of all walks of this crate cite these, one for each part.
+-- `earlier_refusal` at each node. The contracts of all walks of this crate cite these, one for each part.
 use Rattle.std.specs.Prelude.{ℕ, List, Option}
 use Rattle.sp_base.specs.declared.place.Place.{Place}
 use Rattle.sp_tree.specs.declared.operators.StandardFn.{StandardFn}

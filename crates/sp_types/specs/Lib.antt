@@ -7,9 +7,9 @@ pub mod CheckedTree
 pub mod StatementNumbers
 pub mod TypeFirst
 pub mod Firsts
-pub mod Wanted
+pub mod Expectations
 pub mod Types
-pub mod Capped
+pub mod CellCaps
 pub mod DeclarationFirsts
 pub mod AfterTables
 pub mod Seen

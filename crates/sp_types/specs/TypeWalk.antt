@@ -1,6 +1,6 @@
 -- All of this belongs to what the program promises (docs/promise.txt).
 -- All that stands in a program for the rules of types. `join` puts together what is found at the nodes: lists give all
--- broken rules, `lesser` the first. The contracts of this crate follow its parts.
+-- broken rules, `earlier_refusal` the first. The contracts of this crate follow its parts.
 use Rattle.std.specs.Prelude.{ℕ, zero, suc, ◌+◌, nat_eq, nat_lt, ◌&&◌, ◌||◌, List, [], ◌∷◌, ◌++◌, Bool, false}
 use Rattle.std.specs.Prelude.{if◌then◌else◌, Option, Some, None, slice_get}
 use Rattle.sp_base.specs.declared.place.Place.{Place}

@@ -3,9 +3,9 @@
 -- contracts of all walks of this crate cite it.
 use Rattle.std.specs.Prelude.{ℕ, Option, Result, Ok}
 use Rattle.sp_base.specs.declared.halt.Halt.{Halt}
-pub use Rattle.sp_tree.specs.PhaseResults.{WalksTo}
+pub use Rattle.sp_tree.specs.PhaseResults.{PassesTo}
 use Rattle.sp_tree.specs.PhaseResults.{FirstRefusal, AnswersAs}
-use Rattle.sp_types.specs.declared.typed.Typed.{Typed}
+use Rattle.sp_types.specs.declared.pass_results.Typed.{Typed}
 
 -- a part in memory as the plain tree that it stands for, with its type and the first broken rule
 abbrev pub typed_as : {A B : Type 0} → (A → B) → Typed A → B × Option ℕ × FirstRefusal

@@ -5,8 +5,8 @@ ghost use Rattle.sp_tree.specs.PhaseResults.{Answers};
 ghost use Rattle.sp_tree.specs.NamedOf.{block_of};
 ghost use Rattle.sp_types.specs.TypeWalk.{bodies, is_earlier, count_before};
 
-use crate::counting::{statement_counted, sum};
 use crate::have;
+use crate::statement_counts::{statement_counted, sum};
 use sp_base::{Halt, List, Place};
 use sp_tree::NamedBlock;
 use std::alloc::Global;

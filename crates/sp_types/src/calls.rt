@@ -2,7 +2,7 @@
 
 ghost use Rattle.std.specs.Prelude.{◌≡◌, map, Ok, option_map};
 ghost use Rattle.sp_tree.specs.NamedOf.{expression_of, argument_of, arguments, width};
-ghost use Rattle.sp_types.specs.Types.{WalksTo};
+ghost use Rattle.sp_types.specs.Types.{PassesTo};
 ghost use Rattle.sp_tree.specs.CheckedOf as checked;
 ghost use Rattle.sp_tree.specs.PlainChecked as c;
 ghost use Rattle.sp_types.specs.Kinds.{expression_kind};
@@ -14,17 +14,17 @@ ghost use Rattle.sp_types.specs.Firsts.{expression_first, read_first, written_fi
 ghost use Rattle.sp_types.specs.Firsts.{channel_first, each_first};
 ghost use Rattle.sp_types.specs.CheckedTree.{checked_expression, target, argument_variable, checked_width};
 ghost use Rattle.sp_types.specs.CheckedTree.{write_text_form, write_value_form, write_form};
-ghost use Rattle.sp_types.specs.Wanted.{part_form, part_forms, part_first};
+ghost use Rattle.sp_types.specs.Expectations.{part_form, part_forms, part_first};
 
 use crate::checks::{type_wanted, type_width};
 use crate::expressions::place_of;
 use crate::have;
+use crate::pass_results::PassResult;
 use crate::rules::Wanted;
 use crate::tables::Tables;
-use crate::typed::Walked;
 use crate::values::char_of;
 use sp_base::{Halt, List, Place, Text};
-use sp_tree::{Expr, ExprForm, Form, Found, NamedArg, NamedExpr, NamedExprForm, Var};
+use sp_tree::{Expr, ExprForm, FirstRefusal, Form, NamedArg, NamedExpr, NamedExprForm, Var};
 use std::alloc::Global;
 
 /// The variable that an argument is.
@@ -52,25 +52,35 @@ fn no_variable(alloc: Global, at: Place) -> Var
     }
 }
 
-fn type_read(alloc: Global, t: &Tables, a: NamedArg, first: Found) -> Result<Walked<Form>, Halt>
-    ensures { WalksTo checked.statement_form_of result (c.ReadValue (argument_variable t.now (argument_of a)))
+fn type_read(
+    alloc: Global,
+    t: &Tables,
+    a: NamedArg,
+    first: FirstRefusal,
+) -> Result<PassResult<Form>, Halt>
+    ensures { PassesTo checked.statement_form_of result (c.ReadValue (argument_variable t.now (argument_of a)))
         (read_first t.now (argument_of a) first) }
 {
     let NamedArg { value, width: _ } = a;
     let e = have!(type_wanted(alloc, t, value, Wanted::Read, first));
-    Ok(Walked {
+    Ok(PassResult {
         first: e.first,
         tree: Form::ReadValue(target(alloc, e.tree)),
     })
 }
 
-fn type_open(alloc: Global, t: &Tables, a: NamedArg, first: Found) -> Result<Walked<Form>, Halt>
-    ensures { WalksTo checked.statement_form_of result (c.Open (argument_variable t.now (argument_of a)))
+fn type_open(
+    alloc: Global,
+    t: &Tables,
+    a: NamedArg,
+    first: FirstRefusal,
+) -> Result<PassResult<Form>, Halt>
+    ensures { PassesTo checked.statement_form_of result (c.Open (argument_variable t.now (argument_of a)))
         (channel_first t.now (argument_of a) first) }
 {
     let NamedArg { value, width: _ } = a;
     let e = have!(type_wanted(alloc, t, value, Wanted::Channel, first));
-    Ok(Walked {
+    Ok(PassResult {
         first: e.first,
         tree: Form::Open(target(alloc, e.tree)),
     })
@@ -81,16 +91,16 @@ fn type_width_of(
     t: &Tables,
     w: Option<NamedExpr>,
     at: Place,
-    first: Found,
-) -> Result<Walked<Option<Expr>>, Halt>
-    ensures { WalksTo checked.width_of result (checked_width t.now (width (option_map expression_of w)))
+    first: FirstRefusal,
+) -> Result<PassResult<Option<Expr>>, Halt>
+    ensures { PassesTo checked.width_of result (checked_width t.now (width (option_map expression_of w)))
         (width_first t.now at (width (option_map expression_of w)) first) }
 {
     match w {
-        None => Ok(Walked { tree: None, first }),
+        None => Ok(PassResult { tree: None, first }),
         Some(e) => {
             let e = have!(type_width(alloc, t, e, at, first));
-            Ok(Walked {
+            Ok(PassResult {
                 first: e.first,
                 tree: Some(e.tree),
             })
@@ -119,15 +129,15 @@ fn written_value(
     t: &Tables,
     e: NamedExpr,
     w: Option<Expr>,
-    first: Found,
-) -> Result<Walked<Form>, Halt>
-    ensures { WalksTo checked.statement_form_of result
+    first: FirstRefusal,
+) -> Result<PassResult<Form>, Halt>
+    ensures { PassesTo checked.statement_form_of result
         (c.WriteValue (checked_expression t.now (expression_of e)) (checked.width_of w))
         (at_node (write_rule (place (expression_of e)) (expression_kind t.now (expression_of e)))
         (expression_first t.now (expression_of e) first)) }
 {
     let e = have!(type_wanted(alloc, t, e, Wanted::Written, first));
-    Ok(Walked {
+    Ok(PassResult {
         first: e.first,
         tree: Form::WriteValue(e.tree, w),
     })
@@ -138,14 +148,14 @@ fn type_written(
     t: &Tables,
     e: NamedExpr,
     w: Option<Expr>,
-    first: Found,
-) -> Result<Walked<Form>, Halt>
-    ensures { WalksTo checked.statement_form_of result (write_value_form t.now (expression_of e) (checked.width_of w))
+    first: FirstRefusal,
+) -> Result<PassResult<Form>, Halt>
+    ensures { PassesTo checked.statement_form_of result (write_value_form t.now (expression_of e) (checked.width_of w))
         (written_first t.now (expression_of e) first) }
 {
     let (at, form) = e.parts();
     match form {
-        NamedExprForm::Quoted(text) => Ok(Walked {
+        NamedExprForm::Quoted(text) => Ok(PassResult {
             tree: written_text(at, text, w),
             first,
         }),
@@ -204,8 +214,13 @@ fn type_written(
     }
 }
 
-fn type_write(alloc: Global, t: &Tables, a: NamedArg, first: Found) -> Result<Walked<Form>, Halt>
-    ensures { WalksTo checked.statement_form_of result (write_form t.now (argument_of a))
+fn type_write(
+    alloc: Global,
+    t: &Tables,
+    a: NamedArg,
+    first: FirstRefusal,
+) -> Result<PassResult<Form>, Halt>
+    ensures { PassesTo checked.statement_form_of result (write_form t.now (argument_of a))
         (write_first t.now (argument_of a) first) }
 {
     let NamedArg { value, width } = a;
@@ -227,9 +242,9 @@ fn type_part(
     t: &Tables,
     part: Part,
     a: NamedArg,
-    first: Found,
-) -> Result<Walked<Form>, Halt>
-    ensures { WalksTo checked.statement_form_of result (part_form t.now part (argument_of a))
+    first: FirstRefusal,
+) -> Result<PassResult<Form>, Halt>
+    ensures { PassesTo checked.statement_form_of result (part_form t.now part (argument_of a))
         (part_first t.now part (argument_of a) first) }
 {
     match part {
@@ -245,9 +260,9 @@ pub fn type_parts(
     t: &Tables,
     part: Part,
     xs: List<NamedArg>,
-    first: Found,
-) -> Result<Walked<List<Form>>, Halt>
-    ensures { WalksTo (map checked.statement_form_of) result (part_forms t.now part (arguments (map argument_of xs)))
+    first: FirstRefusal,
+) -> Result<PassResult<List<Form>>, Halt>
+    ensures { PassesTo (map checked.statement_form_of) result (part_forms t.now part (arguments (map argument_of xs)))
         (each_first t.now (part_first t.now part) (arguments (map argument_of xs)) first) }
 {
     let mut out = Vec::new(alloc);
@@ -257,7 +272,7 @@ pub fn type_parts(
         first = y.first;
         out.push(y.tree)?;
     }
-    Ok(Walked {
+    Ok(PassResult {
         tree: List::of(out),
         first,
     })

@@ -9,15 +9,15 @@ ghost use Rattle.sp_types.specs.TypeFirst.{at_node};
 ghost use Rattle.sp_types.specs.TypeRules.{width_rule};
 ghost use Rattle.sp_types.specs.CheckedTree.{checked_expression};
 ghost use Rattle.sp_types.specs.TypeWalk.{place};
-ghost use Rattle.sp_types.specs.Wanted.{wanted_rule};
+ghost use Rattle.sp_types.specs.Expectations.{wanted_rule};
 
 use crate::expressions::{place_of, type_expression};
 use crate::have;
+use crate::pass_results::Typed;
 use crate::rules::{Wanted, wanted_rule, width_rule};
 use crate::tables::Tables;
-use crate::typed::Typed;
 use sp_base::{Halt, Place};
-use sp_tree::{Expr, Found, NamedExpr, lesser};
+use sp_tree::{Expr, FirstRefusal, NamedExpr, earlier_refusal};
 use std::alloc::Global;
 
 /// An expression that has to be what its place asks for.
@@ -26,7 +26,7 @@ pub fn type_wanted(
     t: &Tables,
     e: NamedExpr,
     wanted: Wanted,
-    first: Found,
+    first: FirstRefusal,
 ) -> Result<Typed<Expr>, Halt>
     ensures { ChecksTo checked.expression_of result (checked_expression t.now (expression_of e))
         (expression_kind t.now (expression_of e))
@@ -36,7 +36,7 @@ pub fn type_wanted(
     let at = place_of(&e);
     let e = have!(type_expression(alloc, t, e, first));
     Ok(Typed {
-        first: lesser(e.first, wanted_rule(t, wanted, at, e.kind)),
+        first: earlier_refusal(e.first, wanted_rule(t, wanted, at, e.kind)),
         kind: e.kind,
         tree: e.tree,
     })
@@ -48,7 +48,7 @@ pub fn type_width(
     t: &Tables,
     e: NamedExpr,
     at: Place,
-    first: Found,
+    first: FirstRefusal,
 ) -> Result<Typed<Expr>, Halt>
     ensures { ChecksTo checked.expression_of result (checked_expression t.now (expression_of e))
         (expression_kind t.now (expression_of e))
@@ -57,7 +57,7 @@ pub fn type_width(
 {
     let e = have!(type_expression(alloc, t, e, first));
     Ok(Typed {
-        first: lesser(e.first, width_rule(at, e.kind)),
+        first: earlier_refusal(e.first, width_rule(at, e.kind)),
         kind: e.kind,
         tree: e.tree,
     })

@@ -11,15 +11,15 @@ ghost use Rattle.sp_types.specs.CheckedTree.{constant_numbers};
 use crate::have;
 use crate::rules::choice_rule;
 use crate::seen::Seen;
+use crate::signed_constants::{const_rule, const_value};
 use crate::tables::{Ordinal, Tables, ordinal_kind};
 use crate::values::number_or;
-use crate::written::{const_rule, const_value};
 use sp_base::{Halt, List, Place, Rule};
-use sp_tree::{Found, NamedArm, NamedConst, breaks_if, lesser};
+use sp_tree::{FirstRefusal, NamedArm, NamedConst, breaks_if, earlier_refusal};
 use std::alloc::Global;
 
 /// Y12 at a constant of a `case` statement, behind others.
-fn repeat_rule(at: Place, before: &Seen, o: Option<Ordinal>) -> Found
+fn repeat_rule(at: Place, before: &Seen, o: Option<Ordinal>) -> FirstRefusal
     ensures { result ≡ repeat_rule at before.now o }
 {
     match o {
@@ -44,16 +44,16 @@ fn check_choice(
     k: Option<u32>,
     before: &Seen,
     c: &NamedConst,
-    first: Found,
-) -> Result<Found, Halt>
+    first: FirstRefusal,
+) -> Result<FirstRefusal, Halt>
     ensures { Answers result (Ok (choice_first t.now k before.now c.now first)) }
 {
     let known = t.constants.items();
     let long = have!(const_rule(known, c));
     let o = have!(const_value(known, c));
     let other = choice_rule(c.at, k, ordinal_kind(o));
-    let first = lesser(lesser(first, long), other);
-    Ok(lesser(first, repeat_rule(c.at, before, o)))
+    let first = earlier_refusal(earlier_refusal(first, long), other);
+    Ok(earlier_refusal(first, repeat_rule(c.at, before, o)))
 }
 
 /// The constants of one choice, behind those of others.
@@ -62,8 +62,8 @@ fn check_constants(
     k: Option<u32>,
     before: Seen,
     cs: &[NamedConst],
-    first: Found,
-) -> Result<(Seen, Found), Halt>
+    first: FirstRefusal,
+) -> Result<(Seen, FirstRefusal), Halt>
     ensures { Answers result (Ok (with_constants t.now cs.now before, choices_first t.now k before cs.now first)) }
 {
     let mut before = before;
@@ -82,8 +82,8 @@ pub fn check_choices(
     t: &Tables,
     k: Option<u32>,
     xs: &[NamedArm],
-    first: Found,
-) -> Result<Found, Halt>
+    first: FirstRefusal,
+) -> Result<FirstRefusal, Halt>
     ensures { Answers result (Ok (lists_first t.now k [] (constant_lists (arms (map arm_of xs.now))) first)) }
 {
     let mut before = Seen::new(alloc);

@@ -6,8 +6,8 @@ ghost use Rattle.sp_types.specs.Tables.{constant_by, constants_from};
 
 use crate::have;
 use crate::numbers::type_number;
+use crate::signed_constants::const_value;
 use crate::tables::Ordinal;
-use crate::written::const_value;
 use sp_base::{Halt, List};
 use sp_tree::NamedConstant;
 use std::alloc::Global;

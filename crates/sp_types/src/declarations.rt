@@ -9,12 +9,13 @@ ghost use Rattle.sp_types.specs.DeclarationFirsts.{constants_first, bounds_first
 
 use crate::have;
 use crate::kinds::are_wrong;
+use crate::signed_constants::{const_rule, const_value};
 use crate::sizes::frame_cells;
 use crate::tables::Ordinal;
-use crate::written::{const_rule, const_value};
 use sp_base::{Halt, List, Place, Rule};
 use sp_tree::{
-    Found, NamedConst, NamedConstant, NamedKind, NamedKindForm, Variable, breaks_if, lesser,
+    FirstRefusal, NamedConst, NamedConstant, NamedKind, NamedKindForm, Variable, breaks_if,
+    earlier_refusal,
 };
 use std::alloc::Global;
 
@@ -22,14 +23,22 @@ use std::alloc::Global;
 const MOST_CELLS: u32 = 1_048_576;
 
 /// Y14 at a constant, behind what was found before.
-fn check_written(known: &[Option<Ordinal>], c: &NamedConst, first: Found) -> Result<Found, Halt>
+fn check_written(
+    known: &[Option<Ordinal>],
+    c: &NamedConst,
+    first: FirstRefusal,
+) -> Result<FirstRefusal, Halt>
     ensures { Answers result (Ok (earlier_refusal first (const_rule known.now c.now))) }
 {
     let broken = have!(const_rule(known, c));
-    Ok(lesser(first, broken))
+    Ok(earlier_refusal(first, broken))
 }
 
-fn check_constant(known: &[Option<Ordinal>], c: &NamedConstant, first: Found) -> Result<Found, Halt>
+fn check_constant(
+    known: &[Option<Ordinal>],
+    c: &NamedConstant,
+    first: FirstRefusal,
+) -> Result<FirstRefusal, Halt>
     ensures { Answers result (Ok (constants_first known.now (c.now ∷ []) first)) }
 {
     match c {
@@ -39,12 +48,12 @@ fn check_constant(known: &[Option<Ordinal>], c: &NamedConstant, first: Found) ->
 }
 
 /// The declared constants: Y14.
-#[tactic(auto, using(crate::proofs::Declared::constants_on))]
+#[tactic(auto, using(crate::proofs::DeclarationRules::constants_on))]
 pub fn check_constants(
     known: &[Option<Ordinal>],
     constants: &[NamedConstant],
-    first: Found,
-) -> Result<Found, Halt>
+    first: FirstRefusal,
+) -> Result<FirstRefusal, Halt>
     ensures { Answers result (Ok (constants_first known.now constants.now first)) }
 {
     let mut first = first;
@@ -55,7 +64,11 @@ pub fn check_constants(
 }
 
 /// Y13 at the second of two bounds.
-fn bounds_rule(known: &[Option<Ordinal>], a: &NamedConst, b: &NamedConst) -> Result<Found, Halt>
+fn bounds_rule(
+    known: &[Option<Ordinal>],
+    a: &NamedConst,
+    b: &NamedConst,
+) -> Result<FirstRefusal, Halt>
     ensures { Answers result (Ok (bounds_rule b.now.at (const_value known.now a.now) (const_value known.now b.now))) }
 {
     let low = have!(const_value(known, a));
@@ -67,8 +80,8 @@ fn check_array(
     known: &[Option<Ordinal>],
     a: &NamedConst,
     b: &NamedConst,
-    first: Found,
-) -> Result<Found, Halt>
+    first: FirstRefusal,
+) -> Result<FirstRefusal, Halt>
     ensures { Answers result (Ok (earlier_refusal (earlier_refusal (earlier_refusal first (const_rule known.now a.now))
         (const_rule known.now b.now))
         (bounds_rule b.now.at (const_value known.now a.now) (const_value known.now b.now)))) }
@@ -76,14 +89,14 @@ fn check_array(
     let first = have!(check_written(known, a, first));
     let first = have!(check_written(known, b, first));
     let broken = have!(bounds_rule(known, a, b));
-    Ok(lesser(first, broken))
+    Ok(earlier_refusal(first, broken))
 }
 
 fn check_bounds(
     known: &[Option<Ordinal>],
     form: &NamedKindForm,
-    first: Found,
-) -> Result<Found, Halt>
+    first: FirstRefusal,
+) -> Result<FirstRefusal, Halt>
     ensures { Answers result (Ok (bounds_first known.now form.now first)) }
 {
     match form {
@@ -96,8 +109,8 @@ fn check_bounds(
 pub fn check_kinds(
     known: &[Option<Ordinal>],
     kinds: &[NamedKind],
-    first: Found,
-) -> Result<Found, Halt>
+    first: FirstRefusal,
+) -> Result<FirstRefusal, Halt>
     ensures { Answers result (Ok (kinds_first known.now kinds.now first)) }
 {
     let mut first = first;
@@ -132,23 +145,23 @@ pub fn places_of(alloc: Global, kinds: &[NamedKind]) -> Result<List<Place>, Halt
     Ok(List::of(out))
 }
 
-fn cells_rule(at: Place, cells: u32) -> Found
+fn cells_rule(at: Place, cells: u32) -> FirstRefusal
     ensures { result ≡ cells_rule at cells }
 {
     breaks_if(Rule::L3, at, MOST_CELLS < cells)
 }
 
-fn check_cells_at(at: Place, cells: &[u32], i: usize, first: Found) -> Found
+fn check_cells_at(at: Place, cells: &[u32], i: usize, first: FirstRefusal) -> FirstRefusal
     ensures { result ≡ cells_first (at ∷ []) (drop i cells.now) first }
 {
     match cells.get(i) {
         None => first,
-        Some(n) => lesser(first, cells_rule(at, *n)),
+        Some(n) => earlier_refusal(first, cells_rule(at, *n)),
     }
 }
 
 /// The cells of types, whose names stand at these places: L3.
-pub fn check_cells(places: &[Place], cells: &[u32], first: Found) -> Found
+pub fn check_cells(places: &[Place], cells: &[u32], first: FirstRefusal) -> FirstRefusal
     ensures { result ≡ cells_first places.now cells.now first }
 {
     let mut first = first;
@@ -159,14 +172,14 @@ pub fn check_cells(places: &[Place], cells: &[u32], first: Found) -> Found
 }
 
 /// The cells of a block's frame: L6.
-#[tactic(auto, using(crate::proofs::Capping::frame_rule_same))]
+#[tactic(auto, using(crate::proofs::CellCaps::frame_rule_same))]
 pub fn check_frame(
     at: Place,
     numbers: &[u32],
     cells: &[u32],
     block: u32,
     variables: &[Variable],
-) -> Found
+) -> FirstRefusal
     ensures { result ≡ frame_rule at (frame_cells numbers.now cells.now block variables.now) }
 {
     let cells = frame_cells(numbers, cells, block, variables);

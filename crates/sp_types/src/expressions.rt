@@ -4,7 +4,7 @@ ghost use Rattle.std.specs.Prelude.{◌≡◌, map, None, Some, Ok};
 ghost use Rattle.sp_tree.specs.NamedOf.{expression_of, expression_form_of, variable_of, selector_of, argument_of};
 ghost use Rattle.sp_tree.specs.NamedOf.{arguments, selectors};
 ghost use Rattle.sp_tree.specs.PlainNamed.{Unary, Binary, Quoted, Standard};
-ghost use Rattle.sp_types.specs.Types.{ChecksTo, WalksTo};
+ghost use Rattle.sp_types.specs.Types.{ChecksTo, PassesTo};
 ghost use Rattle.sp_tree.specs.CheckedOf as checked;
 ghost use Rattle.sp_tree.specs.PlainChecked as c;
 ghost use Rattle.sp_types.specs.Kinds.{expression_kind, form_kind, selected, selected_kind, selection, parameter_kind};
@@ -19,17 +19,17 @@ ghost use Rattle.sp_types.specs.CheckedTree.{checked_argument, variable_actual, 
 ghost use Rattle.sp_types.specs.TypeWalk.{is_variable, place, formal, formals_behind, formal_role};
 
 use crate::have;
+use crate::pass_results::{PassResult, Typed};
 use crate::rules::{
     actual_rule, binary_gives, element, index_rule, left_rule, right_rule, standard_gives,
     standard_rule, text_rule, unary_rule, unary_takes,
 };
 use crate::tables::{Tables, ordinal_kind};
-use crate::typed::{Typed, Walked};
 use crate::values::{char_of, field, field_rule, integer, number_or, numbered_field, or_zero};
 use sp_base::{Boxed, Halt, List, Place, Text};
 use sp_tree::{
-    Actual, BinaryOp, Expr, ExprForm, Found, NamedArg, NamedExpr, NamedExprForm, NamedSelector,
-    NamedVar, Role, Selector, StandardFn, UnaryOp, Var, lesser,
+    Actual, BinaryOp, Expr, ExprForm, FirstRefusal, NamedArg, NamedExpr, NamedExprForm,
+    NamedSelector, NamedVar, Role, Selector, StandardFn, UnaryOp, Var, earlier_refusal,
 };
 use std::alloc::Global;
 
@@ -39,7 +39,7 @@ pub fn type_expression(
     alloc: Global,
     t: &Tables,
     e: NamedExpr,
-    first: Found,
+    first: FirstRefusal,
 ) -> Result<Typed<Expr>, Halt>
     ensures { ChecksTo checked.expression_of result (checked_expression t.now (expression_of e))
         (expression_kind t.now (expression_of e)) (expression_first t.now (expression_of e) first) }
@@ -62,7 +62,7 @@ fn type_boxed(
     alloc: Global,
     t: &Tables,
     e: Boxed<NamedExpr>,
-    first: Found,
+    first: FirstRefusal,
 ) -> Result<Typed<Boxed<Expr>>, Halt>
     ensures { ChecksTo checked.expression_of result (checked_expression t.now (expression_of e))
         (expression_kind t.now (expression_of e)) (expression_first t.now (expression_of e) first) }
@@ -78,7 +78,7 @@ fn type_form(
     t: &Tables,
     form: NamedExprForm,
     at: Place,
-    first: Found,
+    first: FirstRefusal,
 ) -> Result<Typed<ExprForm>, Halt>
     ensures { ChecksTo checked.expression_form_of result (checked_form t.now (expression_form_of form))
         (form_kind t.now (expression_form_of form)) (form_first t.now at (expression_form_of form) first) }
@@ -107,7 +107,8 @@ fn type_form(
             })
         }
         NamedExprForm::Call(f, name, args) => {
-            let Walked { tree, first } = have!(type_actuals(alloc, t, args, t.formals(f), first));
+            let formals = t.formals(f);
+            let PassResult { tree, first } = have!(type_actuals(alloc, t, args, formals, first));
             Ok(Typed {
                 tree: ExprForm::Call(f, name, tree),
                 kind: t.answer_kind(f),
@@ -148,7 +149,12 @@ pub fn place_of(e: &NamedExpr) -> Place
     e.at
 }
 
-fn type_text(t: &Tables, text: &Text, at: Place, first: Found) -> Result<Typed<ExprForm>, Halt>
+fn type_text(
+    t: &Tables,
+    text: &Text,
+    at: Place,
+    first: FirstRefusal,
+) -> Result<Typed<ExprForm>, Halt>
     ensures { ChecksTo checked.expression_form_of result (checked_form t.now (Quoted text.now))
         (form_kind t.now (Quoted text.now))
         (form_first t.now at (Quoted text.now) first) }
@@ -157,7 +163,7 @@ fn type_text(t: &Tables, text: &Text, at: Place, first: Found) -> Result<Typed<E
     Ok(Typed {
         tree: ExprForm::Number(number_or(0, o)),
         kind: ordinal_kind(o),
-        first: lesser(first, text_rule(at, text)),
+        first: earlier_refusal(first, text_rule(at, text)),
     })
 }
 
@@ -167,7 +173,7 @@ fn type_unary(
     t: &Tables,
     a: Boxed<NamedExpr>,
     op: UnaryOp,
-    first: Found,
+    first: FirstRefusal,
 ) -> Result<Typed<ExprForm>, Halt>
     ensures { ChecksTo checked.expression_form_of result (c.Unary op (checked_expression t.now (expression_of a)))
         (Some (unary_takes op)) (at_node (unary_rule op (place (expression_of a))
@@ -177,7 +183,7 @@ fn type_unary(
     let at = place_of(a.get());
     let e = have!(type_boxed(alloc, t, a, first));
     Ok(Typed {
-        first: lesser(e.first, unary_rule(op, at, e.kind)),
+        first: earlier_refusal(e.first, unary_rule(op, at, e.kind)),
         kind: Some(unary_takes(op)),
         tree: unary(op, e.tree),
     })
@@ -190,7 +196,7 @@ fn type_left(
     t: &Tables,
     a: Boxed<NamedExpr>,
     op: BinaryOp,
-    first: Found,
+    first: FirstRefusal,
 ) -> Result<Typed<Boxed<Expr>>, Halt>
     ensures { ChecksTo checked.expression_of result (checked_expression t.now (expression_of a))
         (expression_kind t.now (expression_of a))
@@ -200,7 +206,7 @@ fn type_left(
     let at = place_of(a.get());
     let e = have!(type_boxed(alloc, t, a, first));
     Ok(Typed {
-        first: lesser(e.first, left_rule(t, op, at, e.kind)),
+        first: earlier_refusal(e.first, left_rule(t, op, at, e.kind)),
         kind: e.kind,
         tree: e.tree,
     })
@@ -215,7 +221,7 @@ fn type_right(
     a: Boxed<Expr>,
     left: Option<u32>,
     op: BinaryOp,
-    first: Found,
+    first: FirstRefusal,
 ) -> Result<Typed<ExprForm>, Halt>
     ensures { ChecksTo checked.expression_form_of result
         (c.Binary op (checked.expression_of a) (checked_expression t.now (expression_of b))) (Some (binary_gives op))
@@ -225,7 +231,7 @@ fn type_right(
     let at = place_of(b.get());
     let e = have!(type_boxed(alloc, t, b, first));
     Ok(Typed {
-        first: lesser(e.first, right_rule(t, op, at, left, e.kind)),
+        first: earlier_refusal(e.first, right_rule(t, op, at, left, e.kind)),
         kind: Some(binary_gives(op)),
         tree: binary(op, a, e.tree),
     })
@@ -237,7 +243,7 @@ pub fn type_variable(
     alloc: Global,
     t: &Tables,
     v: NamedVar,
-    first: Found,
+    first: FirstRefusal,
 ) -> Result<Typed<Var>, Halt>
     ensures { ChecksTo checked.variable_of result (checked_variable t.now (variable_of v))
         (selected t.now (variable_of v))
@@ -268,7 +274,7 @@ fn type_selectors(
     xs: List<NamedSelector>,
     at: Place,
     kind: Option<u32>,
-    first: Found,
+    first: FirstRefusal,
 ) -> Result<Typed<List<Selector>>, Halt>
     ensures { ChecksTo (map checked.selector_of) result (checked_selectors t.now kind (selectors (map selector_of xs)))
         (selected_kind t.now kind (selectors (map selector_of xs)))
@@ -298,7 +304,7 @@ fn type_selector(
     s: NamedSelector,
     at: Place,
     kind: Option<u32>,
-    first: Found,
+    first: FirstRefusal,
 ) -> Result<Typed<Selector>, Halt>
     ensures { ChecksTo checked.selector_of result (checked_selector t.now kind (selector_of s))
         (selection t.now kind (selector_of s))
@@ -309,7 +315,7 @@ fn type_selector(
             let e_at = e.at;
             let e = have!(type_expression(alloc, t, e, first));
             Ok(Typed {
-                first: lesser(e.first, index_rule(t, at, kind, e_at, e.kind)),
+                first: earlier_refusal(e.first, index_rule(t, at, kind, e_at, e.kind)),
                 kind: element(t, kind, e.kind),
                 tree: Selector::Index(e.tree),
             })
@@ -317,7 +323,7 @@ fn type_selector(
         NamedSelector::Field(name) => Ok(Typed {
             tree: Selector::Field(have!(numbered_field(t, kind, &name))),
             kind: field(t, kind, &name),
-            first: lesser(first, field_rule(t, at, kind, &name)),
+            first: earlier_refusal(first, field_rule(t, at, kind, &name)),
         }),
     }
 }
@@ -347,9 +353,9 @@ pub fn type_actuals(
     t: &Tables,
     xs: List<NamedArg>,
     formals: &[u32],
-    first: Found,
-) -> Result<Walked<List<Actual>>, Halt>
-    ensures { WalksTo (map checked.actual_of) result
+    first: FirstRefusal,
+) -> Result<PassResult<List<Actual>>, Halt>
+    ensures { PassesTo (map checked.actual_of) result
         (checked_actuals t.now formals.now (arguments (map argument_of xs)))
         (actuals_first t.now formals.now (arguments (map argument_of xs)) first) }
 {
@@ -362,7 +368,7 @@ pub fn type_actuals(
         formals = others(formals);
         out.push(y.tree)?;
     }
-    Ok(Walked {
+    Ok(PassResult {
         tree: List::of(out),
         first,
     })
@@ -420,9 +426,9 @@ fn type_actual(
     t: &Tables,
     a: NamedArg,
     x: Option<u32>,
-    first: Found,
-) -> Result<Walked<Actual>, Halt>
-    ensures { WalksTo checked.actual_of result (checked_actual t.now (formal_role t.now x) (argument_of a))
+    first: FirstRefusal,
+) -> Result<PassResult<Actual>, Halt>
+    ensures { PassesTo checked.actual_of result (checked_actual t.now (formal_role t.now x) (argument_of a))
         (actual_first t.now x (argument_of a) first) }
 {
     let NamedArg { value, width: _ } = a;
@@ -431,8 +437,8 @@ fn type_actual(
     let role = t.formal_role(x);
     let e = have!(type_expression(alloc, t, value, first));
     let broken = actual_rule(role, at, written, t.formal_kind(x), e.kind);
-    Ok(Walked {
-        first: lesser(e.first, broken),
+    Ok(PassResult {
+        first: earlier_refusal(e.first, broken),
         tree: passed(role, e.tree),
     })
 }
@@ -444,7 +450,7 @@ fn type_standard(
     t: &Tables,
     xs: List<NamedArg>,
     f: StandardFn,
-    first: Found,
+    first: FirstRefusal,
 ) -> Result<Typed<List<Expr>>, Halt>
     ensures { ChecksTo (map checked.expression_of) result (checked_arguments t.now (arguments (map argument_of xs)))
         (parameter_kind t.now None (arguments (map argument_of xs)))
@@ -472,7 +478,7 @@ fn type_parameter(
     t: &Tables,
     a: NamedArg,
     f: StandardFn,
-    first: Found,
+    first: FirstRefusal,
 ) -> Result<Typed<Expr>, Halt>
     ensures { ChecksTo checked.expression_of result (checked_argument t.now (argument_of a))
         (argument_kind t.now (argument_of a))
@@ -488,7 +494,7 @@ fn type_operand(
     t: &Tables,
     e: NamedExpr,
     f: StandardFn,
-    first: Found,
+    first: FirstRefusal,
 ) -> Result<Typed<Expr>, Halt>
     ensures { ChecksTo checked.expression_of result (checked_expression t.now (expression_of e))
         (expression_kind t.now (expression_of e))
@@ -498,7 +504,7 @@ fn type_operand(
     let at = place_of(&e);
     let e = have!(type_expression(alloc, t, e, first));
     Ok(Typed {
-        first: lesser(e.first, standard_rule(t, f, at, e.kind)),
+        first: earlier_refusal(e.first, standard_rule(t, f, at, e.kind)),
         kind: e.kind,
         tree: e.tree,
     })

@@ -7,9 +7,9 @@ ghost use Rattle.sp_types.specs.Tables.{kinds_from};
 
 use crate::have;
 use crate::numbers::type_number;
+use crate::signed_constants::{const_value, has_wrong_sign, is_long, value_by};
 use crate::tables::Ordinal;
 use crate::values::number_or;
-use crate::written::{const_value, has_wrong_sign, is_long, value_by};
 use sp_base::{Halt, List, Text};
 use sp_tree::{KindOf, NamedConst, NamedKind, NamedKindForm};
 use std::alloc::Global;

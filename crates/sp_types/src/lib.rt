@@ -24,11 +24,11 @@
 //! - `src/rules.rt` has the rules in code. `src/expressions.rt` and `statements.rt` are the pass, with `checks.rt` for
 //!   an expression at its place, `calls.rt` and `performs.rt` for calls, `choices.rt` and `seen.rt` for the constants
 //!   of a `case`.
-//! - `src/numbers.rt`, `written.rt`, `constants.rt`, `kinds.rt` and `tabling.rt` make the tables of what is declared,
-//!   with `field_table.rt` for what is looked up in a type; `declarations.rt` has the rules there, with `sizes.rt` for
-//!   cells.
-//! - `src/bodies.rt` and `counting.rt` have the numbers of statements, `blocks.rt` the blocks, `program.rt` the whole
-//!   (`type_check`).
+//! - `src/numbers.rt`, `signed_constants.rt`, `constants.rt`, `kinds.rt` and `program_tables.rt` make the tables of
+//!   what is declared, with `field_table.rt` for what is looked up in a type; `declarations.rt` has the rules there,
+//!   with `sizes.rt` for cells.
+//! - `src/bodies.rt` and `statement_counts.rt` have the numbers of statements, `blocks.rt` the blocks, `program.rt`
+//!   the whole (`type_check`).
 //! - A call of `read`, `write`, `open`, `send` or `receive` that stands for one statement is that statement. One that
 //!   stands for several is a sequence of them at its place, each with a number (in memory `SendEach` and `ReceiveEach`
 //!   for `send` and `receive`).
@@ -50,8 +50,8 @@
 //! - A rule of types: its clause in `specs/TypeRules.antt`, its function in `src/rules.rt`, a row in
 //!   `proofs/Rows.antt`.
 //! - A form of expression: `specs/Kinds.antt`, `TypeWalk`, `CheckedTree`, `proofs/Laws.antt`, `src/expressions.rt`.
-//! - A form of statement: the same files, and `proofs/Numbering.antt`, `proofs/StatementNumbers.antt`,
-//!   `src/statements.rt`, `src/counting.rt`.
+//! - A form of statement: the same files, and `proofs/NextNumbers.antt`, `proofs/StatementNumbers.antt`,
+//!   `src/statements.rt`, `src/statement_counts.rt`.
 #![tactic(auto)]
 
 mod blocks;
@@ -60,24 +60,24 @@ mod calls;
 mod checks;
 mod choices;
 mod constants;
-mod counting;
 mod declarations;
 mod expressions;
 mod field_table;
 mod kinds;
 pub mod law;
 mod numbers;
+mod pass_results;
 mod performs;
 mod program;
+mod program_tables;
 mod rules;
 mod seen;
+mod signed_constants;
 mod sizes;
+mod statement_counts;
 mod statements;
 mod tables;
-mod tabling;
-mod typed;
 mod values;
-mod written;
 
 pub use program::type_check;
 pub use tables::{Ordinal, Signature, Tables};

@@ -4,8 +4,8 @@ ghost use Rattle.std.specs.Prelude.{◌≡◌, [], Ok};
 ghost use Rattle.sp_tree.specs.PhaseResults.{Answers};
 ghost use Rattle.sp_types.specs.Tables.{number_by, next_by, numbers_from, type_number};
 
-use crate::counting::sum;
 use crate::have;
+use crate::statement_counts::sum;
 use sp_base::{Halt, List};
 use sp_tree::{NamedKind, NamedKindForm};
 use std::alloc::Global;

@@ -4,7 +4,7 @@ ghost use Rattle.std.specs.Prelude.{◌≡◌, ◌++◌, ◌∷◌, [], map, Ok,
 ghost use Rattle.std.specs.Vec.Iter.{into_iter_items};
 ghost use Rattle.sp_tree.specs.NamedOf.{variable_of, expression_of, argument_of, arguments};
 ghost use Rattle.sp_tree.specs.PlainNamed.{Assign, Call, Perform};
-ghost use Rattle.sp_types.specs.Types.{ChecksTo, WalksTo};
+ghost use Rattle.sp_types.specs.Types.{ChecksTo, PassesTo};
 ghost use Rattle.sp_tree.specs.CheckedOf as checked;
 ghost use Rattle.sp_types.specs.Firsts.{channel_first, statement_form_first, perform_first, each_first, message_first};
 ghost use Rattle.sp_types.specs.Firsts.{messages_first};
@@ -13,20 +13,22 @@ ghost use Rattle.sp_types.specs.TypeWalk.{form_after};
 ghost use Rattle.sp_types.specs.CheckedTree.{argument_variable, argument_variables, checked_argument};
 ghost use Rattle.sp_types.specs.CheckedTree.{checked_arguments, checked_statement_form, receive_forms, send_forms};
 ghost use Rattle.sp_types.specs.CheckedTree.{singles, numbered_statements, expanded_form};
-ghost use Rattle.sp_types.specs.Wanted.{part_forms, part_first};
+ghost use Rattle.sp_types.specs.Expectations.{part_forms, part_first};
 ghost use Rattle.sp_tree.specs.declared.meaning.StandardProcedure.TheVariants as procedure;
 ghost use Rattle.sp_tree.specs.PhaseResults.{AnswersAs};
 
 use crate::calls::{Part, target, type_parts};
 use crate::checks::type_wanted;
-use crate::counting::{parts_count, sum};
 use crate::expressions::{type_actuals, type_variable};
 use crate::have;
+use crate::pass_results::{PassResult, Typed};
 use crate::rules::Wanted;
+use crate::statement_counts::{parts_count, sum};
 use crate::tables::Tables;
-use crate::typed::{Typed, Walked};
 use sp_base::{Halt, List, Place};
-use sp_tree::{Expr, Form, Found, NamedArg, NamedExpr, NamedVar, StandardProcedure, Stmt, Var};
+use sp_tree::{
+    Expr, FirstRefusal, Form, NamedArg, NamedExpr, NamedVar, StandardProcedure, Stmt, Var,
+};
 use std::alloc::Global;
 use std::vec::IntoIter;
 
@@ -37,15 +39,15 @@ pub fn type_assign(
     v: NamedVar,
     e: NamedExpr,
     at: Place,
-    first: Found,
-) -> Result<Walked<Form>, Halt>
-    ensures { WalksTo checked.statement_form_of result
+    first: FirstRefusal,
+) -> Result<PassResult<Form>, Halt>
+    ensures { PassesTo checked.statement_form_of result
         (checked_statement_form t.now at (Assign (variable_of v) (expression_of e)))
         (statement_form_first t.now (Assign (variable_of v) (expression_of e)) first) }
 {
     let v = have!(type_variable(alloc, t, v, first));
     let e = have!(type_wanted(alloc, t, e, Wanted::Assigned(v.kind), v.first));
-    Ok(Walked {
+    Ok(PassResult {
         first: e.first,
         tree: Form::Assign(v.tree, e.tree),
     })
@@ -58,14 +60,14 @@ pub fn type_call(
     f: u32,
     args: List<NamedArg>,
     at: Place,
-    first: Found,
-) -> Result<Walked<Form>, Halt>
-    ensures { WalksTo checked.statement_form_of result
+    first: FirstRefusal,
+) -> Result<PassResult<Form>, Halt>
+    ensures { PassesTo checked.statement_form_of result
         (checked_statement_form t.now at (Call f (arguments (map argument_of args))))
         (statement_form_first t.now (Call f (arguments (map argument_of args))) first) }
 {
     let args = have!(type_actuals(alloc, t, args, t.formals(f), first));
-    Ok(Walked {
+    Ok(PassResult {
         first: args.first,
         tree: Form::Call(f, args.tree),
     })
@@ -77,14 +79,14 @@ fn type_value(
     t: &Tables,
     a: NamedArg,
     kind: Option<u32>,
-    first: Found,
-) -> Result<Walked<Expr>, Halt>
-    ensures { WalksTo checked.expression_of result (checked_argument t.now (argument_of a))
+    first: FirstRefusal,
+) -> Result<PassResult<Expr>, Halt>
+    ensures { PassesTo checked.expression_of result (checked_argument t.now (argument_of a))
         (message_first t.now kind (argument_of a) first) }
 {
     let NamedArg { value, width: _ } = a;
     let e = have!(type_wanted(alloc, t, value, Wanted::Message(kind), first));
-    Ok(Walked {
+    Ok(PassResult {
         first: e.first,
         tree: e.tree,
     })
@@ -96,14 +98,14 @@ fn type_received(
     t: &Tables,
     a: NamedArg,
     kind: Option<u32>,
-    first: Found,
-) -> Result<Walked<Var>, Halt>
-    ensures { WalksTo checked.variable_of result (argument_variable t.now (argument_of a))
+    first: FirstRefusal,
+) -> Result<PassResult<Var>, Halt>
+    ensures { PassesTo checked.variable_of result (argument_variable t.now (argument_of a))
         (message_first t.now kind (argument_of a) first) }
 {
     let NamedArg { value, width: _ } = a;
     let e = have!(type_wanted(alloc, t, value, Wanted::Message(kind), first));
-    Ok(Walked {
+    Ok(PassResult {
         first: e.first,
         tree: target(alloc, e.tree),
     })
@@ -115,9 +117,9 @@ fn type_values(
     t: &Tables,
     xs: IntoIter<NamedArg>,
     kind: Option<u32>,
-    first: Found,
-) -> Result<Walked<List<Expr>>, Halt>
-    ensures { WalksTo (map checked.expression_of) result
+    first: FirstRefusal,
+) -> Result<PassResult<List<Expr>>, Halt>
+    ensures { PassesTo (map checked.expression_of) result
         (checked_arguments t.now (arguments (map argument_of (into_iter_items xs))))
         (each_first t.now (message_first t.now kind) (arguments (map argument_of (into_iter_items xs))) first) }
 {
@@ -128,7 +130,7 @@ fn type_values(
         first = y.first;
         out.push(y.tree)?;
     }
-    Ok(Walked {
+    Ok(PassResult {
         tree: List::of(out),
         first,
     })
@@ -140,9 +142,9 @@ fn type_variables(
     t: &Tables,
     xs: IntoIter<NamedArg>,
     kind: Option<u32>,
-    first: Found,
-) -> Result<Walked<List<Var>>, Halt>
-    ensures { WalksTo (map checked.variable_of) result
+    first: FirstRefusal,
+) -> Result<PassResult<List<Var>>, Halt>
+    ensures { PassesTo (map checked.variable_of) result
         (argument_variables t.now (arguments (map argument_of (into_iter_items xs))))
         (each_first t.now (message_first t.now kind) (arguments (map argument_of (into_iter_items xs))) first) }
 {
@@ -153,14 +155,19 @@ fn type_variables(
         first = y.first;
         out.push(y.tree)?;
     }
-    Ok(Walked {
+    Ok(PassResult {
         tree: List::of(out),
         first,
     })
 }
 
 /// The channel of `send` or `receive`.
-fn type_channel(alloc: Global, t: &Tables, a: NamedArg, first: Found) -> Result<Typed<Expr>, Halt>
+fn type_channel(
+    alloc: Global,
+    t: &Tables,
+    a: NamedArg,
+    first: FirstRefusal,
+) -> Result<Typed<Expr>, Halt>
     ensures { ChecksTo checked.expression_of result (checked_argument t.now (argument_of a))
         (argument_kind t.now (argument_of a))
         (channel_first t.now (argument_of a) first) }
@@ -170,7 +177,7 @@ fn type_channel(alloc: Global, t: &Tables, a: NamedArg, first: Found) -> Result<
 }
 
 /// Values sent on one channel: one alone is a single statement, of several the channel stands once in memory.
-#[tactic(auto, using(crate::proofs::EachReceived::sends_are))]
+#[tactic(auto, using(crate::proofs::SeveralOnChannel::sends_are))]
 fn sent(n: u32, at: Place, channel: Expr, values: List<Expr>) -> Result<Form, Halt>
     ensures { AnswersAs checked.statement_form_of result
         (Ok (expanded_form n at (send_forms (checked.expression_of channel) (map checked.expression_of values)))) }
@@ -200,7 +207,7 @@ fn sent(n: u32, at: Place, channel: Expr, values: List<Expr>) -> Result<Form, Ha
 }
 
 /// Variables received on one channel: one alone is a single statement, of several the channel stands once in memory.
-#[tactic(auto, using(crate::proofs::EachReceived::receives_are))]
+#[tactic(auto, using(crate::proofs::SeveralOnChannel::receives_are))]
 fn received(n: u32, at: Place, channel: Expr, variables: List<Var>) -> Result<Form, Halt>
     ensures { AnswersAs checked.statement_form_of result
         (Ok (expanded_form n at (receive_forms (checked.expression_of channel) (map checked.variable_of variables)))) }
@@ -235,22 +242,22 @@ fn type_send(
     t: &Tables,
     args: List<NamedArg>,
     at: Place,
-    first: Found,
-) -> Result<Walked<Form>, Halt>
-    ensures { WalksTo checked.statement_form_of result
+    first: FirstRefusal,
+) -> Result<PassResult<Form>, Halt>
+    ensures { PassesTo checked.statement_form_of result
         (expanded_form t.now.next at (singles t.now procedure.Send (arguments (map argument_of args))))
         (messages_first t.now (arguments (map argument_of args)) first) }
 {
     let mut xs = args.into_vec().into_iter();
     match xs.next() {
-        None => Ok(Walked {
+        None => Ok(PassResult {
             tree: Form::Sequence(List::new(alloc)),
             first,
         }),
         Some(a) => {
             let channel = have!(type_channel(alloc, t, a, first));
             let values = have!(type_values(alloc, t, xs, channel.kind, channel.first));
-            Ok(Walked {
+            Ok(PassResult {
                 tree: have!(sent(t.next, at, channel.tree, values.tree)),
                 first: values.first,
             })
@@ -264,22 +271,22 @@ fn type_receive(
     t: &Tables,
     args: List<NamedArg>,
     at: Place,
-    first: Found,
-) -> Result<Walked<Form>, Halt>
-    ensures { WalksTo checked.statement_form_of result
+    first: FirstRefusal,
+) -> Result<PassResult<Form>, Halt>
+    ensures { PassesTo checked.statement_form_of result
         (expanded_form t.now.next at (singles t.now procedure.Receive (arguments (map argument_of args))))
         (messages_first t.now (arguments (map argument_of args)) first) }
 {
     let mut xs = args.into_vec().into_iter();
     match xs.next() {
-        None => Ok(Walked {
+        None => Ok(PassResult {
             tree: Form::Sequence(List::new(alloc)),
             first,
         }),
         Some(a) => {
             let channel = have!(type_channel(alloc, t, a, first));
             let variables = have!(type_variables(alloc, t, xs, channel.kind, channel.first));
-            Ok(Walked {
+            Ok(PassResult {
                 tree: have!(received(t.next, at, channel.tree, variables.tree)),
                 first: variables.first,
             })
@@ -342,14 +349,14 @@ fn type_each(
     part: Part,
     args: List<NamedArg>,
     at: Place,
-    first: Found,
-) -> Result<Walked<Form>, Halt>
-    ensures { WalksTo checked.statement_form_of result
+    first: FirstRefusal,
+) -> Result<PassResult<Form>, Halt>
+    ensures { PassesTo checked.statement_form_of result
         (expanded_form t.now.next at (part_forms t.now part (arguments (map argument_of args))))
         (each_first t.now (part_first t.now part) (arguments (map argument_of args)) first) }
 {
     let forms = have!(type_parts(alloc, t, part, args, first));
-    Ok(Walked {
+    Ok(PassResult {
         tree: have!(expanded(alloc, t.next, at, forms.tree)),
         first: forms.first,
     })
@@ -361,15 +368,15 @@ fn type_readln(
     t: &Tables,
     args: List<NamedArg>,
     at: Place,
-    first: Found,
-) -> Result<Walked<Form>, Halt>
-    ensures { WalksTo checked.statement_form_of result
+    first: FirstRefusal,
+) -> Result<PassResult<Form>, Halt>
+    ensures { PassesTo checked.statement_form_of result
         (expanded_form t.now.next at (singles t.now procedure.Readln (arguments (map argument_of args))))
         (perform_first t.now procedure.Readln (arguments (map argument_of args)) first) }
 {
     let forms = have!(type_parts(alloc, t, Part::Read, args, first));
     let all = have!(behind(forms.tree, Form::ReadLine));
-    Ok(Walked {
+    Ok(PassResult {
         tree: have!(expanded(alloc, t.next, at, all)),
         first: forms.first,
     })
@@ -381,15 +388,15 @@ fn type_writeln(
     t: &Tables,
     args: List<NamedArg>,
     at: Place,
-    first: Found,
-) -> Result<Walked<Form>, Halt>
-    ensures { WalksTo checked.statement_form_of result
+    first: FirstRefusal,
+) -> Result<PassResult<Form>, Halt>
+    ensures { PassesTo checked.statement_form_of result
         (expanded_form t.now.next at (singles t.now procedure.Writeln (arguments (map argument_of args))))
         (perform_first t.now procedure.Writeln (arguments (map argument_of args)) first) }
 {
     let forms = have!(type_parts(alloc, t, Part::Write, args, first));
     let all = have!(behind(forms.tree, Form::WriteLine));
-    Ok(Walked {
+    Ok(PassResult {
         tree: have!(expanded(alloc, t.next, at, all)),
         first: forms.first,
     })
@@ -402,9 +409,9 @@ fn type_call_of_standard(
     p: StandardProcedure,
     args: List<NamedArg>,
     at: Place,
-    first: Found,
-) -> Result<Walked<Form>, Halt>
-    ensures { WalksTo checked.statement_form_of result
+    first: FirstRefusal,
+) -> Result<PassResult<Form>, Halt>
+    ensures { PassesTo checked.statement_form_of result
         (expanded_form t.now.next at (singles t.now p (arguments (map argument_of args))))
         (perform_first t.now p (arguments (map argument_of args)) first) }
 {
@@ -426,9 +433,9 @@ pub fn type_perform(
     p: StandardProcedure,
     args: List<NamedArg>,
     at: Place,
-    first: Found,
-) -> Result<Walked<Form>, Halt>
-    ensures tree { WalksTo checked.statement_form_of result
+    first: FirstRefusal,
+) -> Result<PassResult<Form>, Halt>
+    ensures tree { PassesTo checked.statement_form_of result
         (checked_statement_form t.old at (Perform p (arguments (map argument_of args))))
         (statement_form_first t.old (Perform p (arguments (map argument_of args))) first) }
     ensures after { OnOk result (t.new ≡ form_after t.old (Perform p (arguments (map argument_of args)))) }

@@ -5,7 +5,7 @@ ghost use Rattle.sp_tree.specs.Cells.{sizes};
 ghost use Rattle.sp_tree.specs.PhaseResults.{Answers, AnswersAs};
 ghost use Rattle.sp_tree.specs.NamedOf as plain;
 ghost use Rattle.sp_tree.specs.CheckedOf as checked;
-ghost use Rattle.sp_types.specs.Types.{WalksTo};
+ghost use Rattle.sp_types.specs.Types.{PassesTo};
 ghost use Rattle.sp_types.specs.TypeWalk.{starts_of, blocks_after};
 ghost use Rattle.sp_types.specs.CheckedTree.{checked_blocks, checked_variables};
 ghost use Rattle.sp_types.specs.DeclarationFirsts.{constants_first, kinds_first, blocks_first};
@@ -15,19 +15,19 @@ ghost use Rattle.sp_types.specs.TypeFirst.{types_outcome};
 use crate::blocks::type_blocks;
 use crate::bodies::bodies;
 use crate::constants::constants_of;
-use crate::counting::sum;
 use crate::declarations::{check_cells, check_constants, check_kinds, places_of};
 use crate::have;
 use crate::kinds::kinds_of;
 use crate::numbers::numbers_of;
+use crate::pass_results::PassResult;
+use crate::program_tables::{kinds_in, tables_of};
 use crate::sizes::sizes_of;
+use crate::statement_counts::sum;
 use crate::tables::{Ordinal, Tables};
-use crate::tabling::{kinds_in, tables_of};
-use crate::typed::Walked;
 use crate::values::or_zero;
 use sp_base::{Halt, List, Place};
 use sp_tree::{
-    Block, Checked, Found, KindOf, Named, NamedBlock, NamedConstant, NamedKind, Variable,
+    Block, Checked, FirstRefusal, KindOf, Named, NamedBlock, NamedConstant, NamedKind, Variable,
 };
 use std::alloc::Global;
 
@@ -85,7 +85,7 @@ fn check_declared(
     known: &[Option<Ordinal>],
     constants: &[NamedConstant],
     kinds: &[NamedKind],
-) -> Result<Found, Halt>
+) -> Result<FirstRefusal, Halt>
     ensures { Answers result (Ok (kinds_first known.now kinds.now (constants_first known.now constants.now None))) }
 {
     let first = have!(check_constants(known, constants, None));
@@ -100,9 +100,9 @@ fn type_bodies(
     cells: &[u32],
     variables: &[Variable],
     blocks: List<NamedBlock>,
-    first: Found,
-) -> Result<Walked<List<Block>>, Halt>
-    ensures tree { WalksTo (map checked.block_of) result
+    first: FirstRefusal,
+) -> Result<PassResult<List<Block>>, Halt>
+    ensures tree { PassesTo (map checked.block_of) result
         (checked_blocks t.old (starts_of (map plain.block_of blocks)) (map plain.block_of blocks))
         (blocks_first numbers.now cells.now variables.now 0 t.old (starts_of (map plain.block_of blocks))
         (map plain.block_of blocks) first) }
@@ -154,7 +154,7 @@ fn type_tabled(
     cells: &[u32],
     variables: List<Variable>,
     blocks: List<NamedBlock>,
-    first: Found,
+    first: FirstRefusal,
 ) -> Result<Checked, Halt>
     ensures { AnswersAs checked.program_of result
         (blocks_outcome numbers.now cells.now t variables (map plain.block_of blocks) first) }
@@ -184,7 +184,7 @@ fn type_kinds(
     places: &[Place],
     variables: List<Variable>,
     blocks: List<NamedBlock>,
-    first: Found,
+    first: FirstRefusal,
 ) -> Result<Checked, Halt>
     ensures { AnswersAs checked.program_of result
         (kinds_outcome numbers.now (sizes kinds) places.now

@@ -8,12 +8,14 @@ ghost use Rattle.sp_types.specs.TypeRules.{binary_gives, unary_rule, left_rule, 
 ghost use Rattle.sp_types.specs.TypeRules.{index_rule, messages, choice_rule};
 ghost use Rattle.sp_types.specs.TypeRules.{actual_rule, standard_takes, standard_rule, width_rule, answer_rule};
 ghost use Rattle.sp_types.specs.TypeRules.{text_rule};
-ghost use Rattle.sp_types.specs.Wanted.{wanted_row, refuses, misfits, wanted_rule};
+ghost use Rattle.sp_types.specs.Expectations.{wanted_row, refuses, misfits, wanted_rule};
 ghost use Rattle.sp_types.specs.Kinds.{element_in, element, if_ordinal, standard_gives};
 
 use crate::tables::Tables;
 use sp_base::{Place, Rule, Text};
-use sp_tree::{BinaryOp, Found, KindOf, Role, StandardFn, UnaryOp, breaks, breaks_if, lesser};
+use sp_tree::{
+    BinaryOp, FirstRefusal, KindOf, Role, StandardFn, UnaryOp, breaks, breaks_if, earlier_refusal,
+};
 
 const INTEGER: u32 = 0;
 
@@ -101,7 +103,7 @@ pub fn binary_gives(op: BinaryOp) -> u32
 }
 
 /// Y1 at the operand of a sign or of `not`.
-pub fn unary_rule(op: UnaryOp, at: Place, k: Option<u32>) -> Found
+pub fn unary_rule(op: UnaryOp, at: Place, k: Option<u32>) -> FirstRefusal
     ensures { result ≡ unary_rule op at k }
 {
     match k {
@@ -111,7 +113,7 @@ pub fn unary_rule(op: UnaryOp, at: Place, k: Option<u32>) -> Found
 }
 
 /// Y1 at a left operand.
-pub fn left_rule(t: &Tables, op: BinaryOp, at: Place, k: Option<u32>) -> Found
+pub fn left_rule(t: &Tables, op: BinaryOp, at: Place, k: Option<u32>) -> FirstRefusal
     ensures { result ≡ left_rule t.now op at k }
 {
     match k {
@@ -121,16 +123,22 @@ pub fn left_rule(t: &Tables, op: BinaryOp, at: Place, k: Option<u32>) -> Found
 }
 
 /// Y1 at a right operand.
-pub fn right_rule(t: &Tables, op: BinaryOp, at: Place, left: Option<u32>, k: Option<u32>) -> Found
+pub fn right_rule(
+    t: &Tables,
+    op: BinaryOp,
+    at: Place,
+    left: Option<u32>,
+    k: Option<u32>,
+) -> FirstRefusal
     ensures { result ≡ right_rule t.now op at left k }
 {
-    lesser(
+    earlier_refusal(
         left_rule(t, op, at, k),
         breaks_if(Rule::Y1, at, differ(left, k)),
     )
 }
 
-fn index_kind_rule(at: Place, index_at: Place, i: Option<u32>, k: Option<&KindOf>) -> Found
+fn index_kind_rule(at: Place, index_at: Place, i: Option<u32>, k: Option<&KindOf>) -> FirstRefusal
     ensures { result ≡ index_kind_rule at index_at i (option_copied k.entry) }
 {
     match k {
@@ -144,7 +152,13 @@ fn index_kind_rule(at: Place, index_at: Place, i: Option<u32>, k: Option<&KindOf
 }
 
 /// Y2 at an index, by the type of what it selects in.
-pub fn index_rule(t: &Tables, at: Place, k: Option<u32>, index_at: Place, i: Option<u32>) -> Found
+pub fn index_rule(
+    t: &Tables,
+    at: Place,
+    k: Option<u32>,
+    index_at: Place,
+    i: Option<u32>,
+) -> FirstRefusal
     ensures { result ≡ index_rule t.now at k index_at i }
 {
     match k {
@@ -186,7 +200,7 @@ pub fn actual_rule(
     is_variable: bool,
     formal: Option<u32>,
     k: Option<u32>,
-) -> Found
+) -> FirstRefusal
     ensures { result ≡ actual_rule role at is_variable formal k }
 {
     match role {
@@ -207,7 +221,7 @@ fn standard_takes(t: &Tables, f: StandardFn, k: u32) -> bool
 }
 
 /// Y8 at the parameter of a standard function.
-pub fn standard_rule(t: &Tables, f: StandardFn, at: Place, k: Option<u32>) -> Found
+pub fn standard_rule(t: &Tables, f: StandardFn, at: Place, k: Option<u32>) -> FirstRefusal
     ensures { result ≡ standard_rule t.now f at k }
 {
     match k {
@@ -312,8 +326,8 @@ fn misfits(t: &Tables, wanted: Wanted, k: u32) -> bool
 }
 
 /// The rule at an expression, by what its place asks for.
-#[tactic(auto, using(crate::proofs::Wanting::unknown, crate::proofs::Wanting::known))]
-pub fn wanted_rule(t: &Tables, wanted: Wanted, at: Place, k: Option<u32>) -> Found
+#[tactic(auto, using(crate::proofs::ExpectedTypes::unknown, crate::proofs::ExpectedTypes::known))]
+pub fn wanted_rule(t: &Tables, wanted: Wanted, at: Place, k: Option<u32>) -> FirstRefusal
     ensures { result ≡ wanted_rule t.now wanted at k }
 {
     match k {
@@ -323,7 +337,7 @@ pub fn wanted_rule(t: &Tables, wanted: Wanted, at: Place, k: Option<u32>) -> Fou
 }
 
 /// Y8 at an argument by its width.
-pub fn width_rule(at: Place, k: Option<u32>) -> Found
+pub fn width_rule(at: Place, k: Option<u32>) -> FirstRefusal
     ensures { result ≡ width_rule at k }
 {
     match k {
@@ -333,21 +347,21 @@ pub fn width_rule(at: Place, k: Option<u32>) -> Found
 }
 
 /// Y11 at a constant.
-pub fn choice_rule(at: Place, selector: Option<u32>, k: Option<u32>) -> Found
+pub fn choice_rule(at: Place, selector: Option<u32>, k: Option<u32>) -> FirstRefusal
     ensures { result ≡ choice_rule at selector k }
 {
     breaks_if(Rule::Y11, at, differ(selector, k))
 }
 
 /// Y14 at a text in an expression.
-pub fn text_rule(at: Place, t: &Text) -> Found
+pub fn text_rule(at: Place, t: &Text) -> FirstRefusal
     ensures { result ≡ text_rule at t.now }
 {
     breaks_if(Rule::Y14, at, t.bytes().len() != 1)
 }
 
 /// Y14 at the type of a result.
-pub fn answer_rule(t: &Tables, at: Place, k: Option<u32>) -> Found
+pub fn answer_rule(t: &Tables, at: Place, k: Option<u32>) -> FirstRefusal
     ensures { result ≡ answer_rule t.now at k }
 {
     match k {

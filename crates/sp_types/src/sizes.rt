@@ -1,11 +1,11 @@
-//! The cells of types and frames, counted up to just above the limit (`specs/Capped.antt`).
+//! The cells of types and frames, counted up to just above the limit (`specs/CellCaps.antt`).
 
 ghost use Rattle.std.specs.Prelude.{◌≡◌, ◌+◌, ◌*◌, ◌∷◌, List, [], slice_get, Ok};
 ghost use Rattle.sp_tree.specs.PhaseResults.{Answers};
 ghost use Rattle.sp_tree.specs.Cells.{count, fields_size, first_or, cells_by};
 ghost use Rattle.sp_types.specs.Tables.{type_number};
 ghost use Rattle.sp_types.specs.TypeRules.{frame_cells};
-ghost use Rattle.sp_types.specs.Capped.{capped_count, capped_by, capped_sizes};
+ghost use Rattle.sp_types.specs.CellCaps.{capped_count, capped_by, capped_sizes};
 
 use crate::have;
 use crate::numbers::type_number;
@@ -60,14 +60,14 @@ fn cells_at(sizes: &[u32], k: u32) -> u32
     }
 }
 
-#[tactic(auto, using(crate::proofs::Capping::counted))]
+#[tactic(auto, using(crate::proofs::CellCaps::counted))]
 fn array_cells(low: i64, high: i64, element: u32) -> u32
     ensures { result ≡ capped_count (count low high * element) }
 {
     product(count(low, high), element)
 }
 
-#[tactic(auto, using(crate::proofs::Capping::summed))]
+#[tactic(auto, using(crate::proofs::CellCaps::summed))]
 fn fields_cells(known: &[u32], fields: &[(Text, u32)]) -> u32
     ensures { result ≡ capped_count (fields_size known.now fields.now) }
 {
@@ -132,7 +132,7 @@ fn cells_in(numbers: &[u32], sizes: &[u32], block: u32, x: &Variable) -> u32
 }
 
 /// The cells of one block's variables.
-#[tactic(auto, using(crate::proofs::Capping::summed))]
+#[tactic(auto, using(crate::proofs::CellCaps::summed))]
 pub fn frame_cells(numbers: &[u32], sizes: &[u32], block: u32, variables: &[Variable]) -> u32
     ensures { result ≡ capped_count (frame_cells numbers.now sizes.now block variables.now) }
 {

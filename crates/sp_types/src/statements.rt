@@ -4,7 +4,7 @@ ghost use Rattle.std.specs.Prelude.{◌≡◌, map, Ok, OnOk};
 ghost use Rattle.sp_tree.specs.NamedOf.{expression_of, statement_of, statement_form_of, statements, arms, arm_of};
 ghost use Rattle.sp_tree.specs.NamedOf.{branches, branch_of};
 ghost use Rattle.sp_tree.specs.PlainNamed.{Repeat, Case, For, Forall};
-ghost use Rattle.sp_types.specs.Types.{WalksTo};
+ghost use Rattle.sp_types.specs.Types.{PassesTo};
 ghost use Rattle.sp_tree.specs.CheckedOf as checked;
 ghost use Rattle.sp_tree.specs.PlainChecked as c;
 ghost use Rattle.sp_types.specs.Tables.{with_next_number, with_index_type};
@@ -20,13 +20,14 @@ ghost use Rattle.sp_types.specs.CheckedTree.{first_place, in_sequence};
 use crate::checks::type_wanted;
 use crate::choices::{check_choices, constant_numbers};
 use crate::have;
+use crate::pass_results::PassResult;
 use crate::performs::{type_assign, type_call, type_perform};
 use crate::rules::{Wanted, wanted_rule};
 use crate::tables::Tables;
-use crate::typed::Walked;
 use sp_base::{Boxed, Halt, List, Place};
 use sp_tree::{
-    Arm, Expr, Form, Found, NamedArm, NamedBranch, NamedExpr, NamedForm, NamedStmt, Stmt, lesser,
+    Arm, Expr, FirstRefusal, Form, NamedArm, NamedBranch, NamedExpr, NamedForm, NamedStmt, Stmt,
+    earlier_refusal,
 };
 use std::alloc::Global;
 
@@ -37,9 +38,9 @@ pub fn type_statement(
     s: NamedStmt,
     alloc: Global,
     t: &mut Tables,
-    first: Found,
-) -> Result<Walked<Stmt>, Halt>
-    ensures tree { WalksTo checked.statement_of result (checked_statement t.old (statement_of s))
+    first: FirstRefusal,
+) -> Result<PassResult<Stmt>, Halt>
+    ensures tree { PassesTo checked.statement_of result (checked_statement t.old (statement_of s))
         (statement_first t.old (statement_of s) first) }
     ensures after { OnOk result (t.new ≡ statement_after t.old (statement_of s)) }
 {
@@ -49,8 +50,8 @@ pub fn type_statement(
         drop(form);
         return Err(Halt::Memory);
     };
-    let Walked { tree, first } = have!(type_statement_form(form, alloc, t, at, first));
-    Ok(Walked {
+    let PassResult { tree, first } = have!(type_statement_form(form, alloc, t, at, first));
+    Ok(PassResult {
         tree: Stmt {
             number,
             at,
@@ -65,15 +66,15 @@ fn type_boxed(
     s: Boxed<NamedStmt>,
     alloc: Global,
     t: &mut Tables,
-    first: Found,
-) -> Result<Walked<Boxed<Stmt>>, Halt>
-    ensures tree { WalksTo checked.statement_of result (checked_statement t.old (statement_of s))
+    first: FirstRefusal,
+) -> Result<PassResult<Boxed<Stmt>>, Halt>
+    ensures tree { PassesTo checked.statement_of result (checked_statement t.old (statement_of s))
         (statement_first t.old (statement_of s) first) }
     ensures after { OnOk result (t.new ≡ statement_after t.old (statement_of s)) }
 {
-    let Walked { tree, first } = have!(type_statement(s.into_inner(), alloc, t, first));
+    let PassResult { tree, first } = have!(type_statement(s.into_inner(), alloc, t, first));
     let tree = have!(Boxed::new(alloc, tree));
-    Ok(Walked { tree, first })
+    Ok(PassResult { tree, first })
 }
 
 #[cycle(statement)]
@@ -82,14 +83,14 @@ fn type_statement_form(
     alloc: Global,
     t: &mut Tables,
     at: Place,
-    first: Found,
-) -> Result<Walked<Form>, Halt>
-    ensures tree { WalksTo checked.statement_form_of result (checked_statement_form t.old at (statement_form_of form))
+    first: FirstRefusal,
+) -> Result<PassResult<Form>, Halt>
+    ensures tree { PassesTo checked.statement_form_of result (checked_statement_form t.old at (statement_form_of form))
         (statement_form_first t.old (statement_form_of form) first) }
     ensures after { OnOk result (t.new ≡ form_after t.old (statement_form_of form)) }
 {
     match form {
-        NamedForm::Empty => Ok(Walked {
+        NamedForm::Empty => Ok(PassResult {
             tree: Form::Empty,
             first,
         }),
@@ -97,8 +98,8 @@ fn type_statement_form(
         NamedForm::Call(f, args) => type_call(alloc, t, f, args, at, first),
         NamedForm::Standard(p, args) => type_perform(alloc, t, p, args, at, first),
         NamedForm::Sequence(ss) => {
-            let Walked { tree, first } = have!(type_statements(ss, alloc, t, first));
-            Ok(Walked {
+            let PassResult { tree, first } = have!(type_statements(ss, alloc, t, first));
+            Ok(PassResult {
                 tree: Form::Sequence(tree),
                 first,
             })
@@ -107,7 +108,7 @@ fn type_statement_form(
             let e = have!(type_wanted(alloc, t, e, Wanted::Condition, first));
             let s = have!(type_boxed(s, alloc, t, e.first));
             match o {
-                None => Ok(Walked {
+                None => Ok(PassResult {
                     tree: Form::If(e.tree, s.tree, None),
                     first: s.first,
                 }),
@@ -117,7 +118,7 @@ fn type_statement_form(
         NamedForm::While(e, s) => {
             let e = have!(type_wanted(alloc, t, e, Wanted::Condition, first));
             let s = have!(type_boxed(s, alloc, t, e.first));
-            Ok(Walked {
+            Ok(PassResult {
                 tree: Form::While(e.tree, s.tree),
                 first: s.first,
             })
@@ -133,8 +134,8 @@ fn type_statement_form(
             body,
         } => type_for(body, alloc, t, variable, at, from, down, to, first),
         NamedForm::Parallel(bs) => {
-            let Walked { tree, first } = have!(type_branches(bs, alloc, t, at, first));
-            Ok(Walked {
+            let PassResult { tree, first } = have!(type_branches(bs, alloc, t, at, first));
+            Ok(PassResult {
                 tree: Form::Parallel(tree),
                 first,
             })
@@ -147,7 +148,7 @@ fn type_statement_form(
         } => type_forall(body, alloc, t, index, from, to, first),
         NamedForm::Assume(e) => {
             let e = have!(type_wanted(alloc, t, e, Wanted::Condition, first));
-            Ok(Walked {
+            Ok(PassResult {
                 tree: Form::Assume(e.tree),
                 first: e.first,
             })
@@ -163,9 +164,9 @@ fn type_repeat(
     t: &mut Tables,
     at: Place,
     e: NamedExpr,
-    first: Found,
-) -> Result<Walked<Form>, Halt>
-    ensures tree { WalksTo checked.statement_form_of result
+    first: FirstRefusal,
+) -> Result<PassResult<Form>, Halt>
+    ensures tree { PassesTo checked.statement_form_of result
         (checked_statement_form t.old at (Repeat (statements (map statement_of ss)) (expression_of e)))
         (statement_form_first t.old (Repeat (statements (map statement_of ss)) (expression_of e)) first) }
     ensures after { OnOk result (t.new ≡ statements_after (with_next_number t.old) (statements (map statement_of ss))) }
@@ -173,7 +174,7 @@ fn type_repeat(
     let ss = have!(type_sequence(ss, alloc, t, at, first));
     let s = have!(Boxed::new(alloc, ss.tree));
     let e = have!(type_wanted(alloc, t, e, Wanted::Condition, ss.first));
-    Ok(Walked {
+    Ok(PassResult {
         tree: Form::Repeat(s, e.tree),
         first: e.first,
     })
@@ -186,9 +187,9 @@ fn type_choices(
     alloc: Global,
     t: &mut Tables,
     e: NamedExpr,
-    first: Found,
-) -> Result<Walked<Form>, Halt>
-    ensures tree { WalksTo checked.statement_form_of result
+    first: FirstRefusal,
+) -> Result<PassResult<Form>, Halt>
+    ensures tree { PassesTo checked.statement_form_of result
         (c.Case (checked_expression t.old (expression_of e))
         (checked.arms (checked_arms t.old (arms (map arm_of choices)))))
         (statement_form_first t.old (Case (expression_of e) (arms (map arm_of choices))) first) }
@@ -197,7 +198,7 @@ fn type_choices(
     let e = have!(type_wanted(alloc, t, e, Wanted::Selector, first));
     let first = have!(check_choices(alloc, t, e.kind, choices.items(), e.first));
     let choices = have!(type_arms(choices, alloc, t, first));
-    Ok(Walked {
+    Ok(PassResult {
         first: choices.first,
         tree: Form::Case(e.tree, choices.tree),
     })
@@ -212,9 +213,9 @@ fn type_forall(
     index: u32,
     from: NamedExpr,
     to: NamedExpr,
-    first: Found,
-) -> Result<Walked<Form>, Halt>
-    ensures tree { WalksTo checked.statement_form_of result
+    first: FirstRefusal,
+) -> Result<PassResult<Form>, Halt>
+    ensures tree { PassesTo checked.statement_form_of result
         (c.Forall index (checked_expression t.old (expression_of from)) (checked_expression t.old (expression_of to))
         (checked_statement (with_index_type t.old index (expression_kind t.old (expression_of from)))
         (statement_of body)))
@@ -226,7 +227,7 @@ fn type_forall(
     let to = have!(type_wanted(alloc, t, to, Wanted::Limit(from.kind), from.first));
     t.index(index, from.kind);
     let body = have!(type_boxed(body, alloc, t, to.first));
-    Ok(Walked {
+    Ok(PassResult {
         first: body.first,
         tree: Form::Forall {
             index,
@@ -245,15 +246,15 @@ fn type_else(
     t: &mut Tables,
     e: Expr,
     s: Boxed<Stmt>,
-    first: Found,
-) -> Result<Walked<Form>, Halt>
-    ensures tree { WalksTo checked.statement_form_of result
+    first: FirstRefusal,
+) -> Result<PassResult<Form>, Halt>
+    ensures tree { PassesTo checked.statement_form_of result
         (c.If (checked.expression_of e) (checked.statement_of s) (c.Else (checked_statement t.old (statement_of o))))
         (statement_first t.old (statement_of o) first) }
     ensures after { OnOk result (t.new ≡ statement_after t.old (statement_of o)) }
 {
     let o = have!(type_boxed(o, alloc, t, first));
-    Ok(Walked {
+    Ok(PassResult {
         tree: else_form(e, s, o.tree),
         first: o.first,
     })
@@ -277,9 +278,9 @@ fn type_for(
     from: NamedExpr,
     down: bool,
     to: NamedExpr,
-    first: Found,
-) -> Result<Walked<Form>, Halt>
-    ensures tree { WalksTo checked.statement_form_of result
+    first: FirstRefusal,
+) -> Result<PassResult<Form>, Halt>
+    ensures tree { PassesTo checked.statement_form_of result
         (c.For variable at (checked_expression t.old (expression_of from)) down
         (checked_expression t.old (expression_of to))
         (checked_statement t.old (statement_of body)))
@@ -289,10 +290,16 @@ fn type_for(
 {
     let kind = t.variable_kind(variable);
     let broken = wanted_rule(t, Wanted::Range, at, kind);
-    let from = have!(type_wanted(alloc, t, from, Wanted::Limit(kind), lesser(first, broken)));
+    let from = have!(type_wanted(
+        alloc,
+        t,
+        from,
+        Wanted::Limit(kind),
+        earlier_refusal(first, broken)
+    ));
     let to = have!(type_wanted(alloc, t, to, Wanted::Limit(kind), from.first));
     let body = have!(type_boxed(body, alloc, t, to.first));
-    Ok(Walked {
+    Ok(PassResult {
         first: body.first,
         tree: Form::For {
             variable,
@@ -310,9 +317,9 @@ fn type_statements(
     ss: List<NamedStmt>,
     alloc: Global,
     t: &mut Tables,
-    first: Found,
-) -> Result<Walked<List<Stmt>>, Halt>
-    ensures tree { WalksTo (map checked.statement_of) result
+    first: FirstRefusal,
+) -> Result<PassResult<List<Stmt>>, Halt>
+    ensures tree { PassesTo (map checked.statement_of) result
         (checked_statements t.old (statements (map statement_of ss)))
         (statements_first t.old (statements (map statement_of ss)) first) }
     ensures after { OnOk result (t.new ≡ statements_after t.old (statements (map statement_of ss))) }
@@ -324,7 +331,7 @@ fn type_statements(
         first = y.first;
         out.push(y.tree)?;
     }
-    Ok(Walked {
+    Ok(PassResult {
         tree: List::of(out),
         first,
     })
@@ -347,9 +354,9 @@ fn type_sequence(
     alloc: Global,
     t: &mut Tables,
     at: Place,
-    first: Found,
-) -> Result<Walked<Stmt>, Halt>
-    ensures tree { WalksTo checked.statement_of result
+    first: FirstRefusal,
+) -> Result<PassResult<Stmt>, Halt>
+    ensures tree { PassesTo checked.statement_of result
         (in_sequence t.old.next (first_place at (statements (map statement_of ss)))
         (checked_statements (with_next_number t.old) (statements (map statement_of ss))))
         (statements_first (with_next_number t.old) (statements (map statement_of ss)) first) }
@@ -358,8 +365,8 @@ fn type_sequence(
     let number = t.next;
     let at = first_place(at, ss.items());
     have!(t.count(1));
-    let Walked { tree, first } = have!(type_statements(ss, alloc, t, first));
-    Ok(Walked {
+    let PassResult { tree, first } = have!(type_statements(ss, alloc, t, first));
+    Ok(PassResult {
         tree: Stmt {
             number,
             at,
@@ -375,9 +382,9 @@ fn type_branches(
     alloc: Global,
     t: &mut Tables,
     at: Place,
-    first: Found,
-) -> Result<Walked<List<Stmt>>, Halt>
-    ensures tree { WalksTo (map checked.statement_of) result (checked_branches t.old at (branches (map branch_of bs)))
+    first: FirstRefusal,
+) -> Result<PassResult<List<Stmt>>, Halt>
+    ensures tree { PassesTo (map checked.statement_of) result (checked_branches t.old at (branches (map branch_of bs)))
         (branches_first t.old (branches (map branch_of bs)) first) }
     ensures after { OnOk result (t.new ≡ branches_after t.old (branches (map branch_of bs))) }
 {
@@ -389,7 +396,7 @@ fn type_branches(
         first = y.first;
         out.push(y.tree)?;
     }
-    Ok(Walked {
+    Ok(PassResult {
         tree: List::of(out),
         first,
     })
@@ -400,9 +407,9 @@ fn type_arms(
     xs: List<NamedArm>,
     alloc: Global,
     t: &mut Tables,
-    first: Found,
-) -> Result<Walked<List<Arm>>, Halt>
-    ensures tree { WalksTo (map checked.arm_of) result (checked_arms t.old (arms (map arm_of xs)))
+    first: FirstRefusal,
+) -> Result<PassResult<List<Arm>>, Halt>
+    ensures tree { PassesTo (map checked.arm_of) result (checked_arms t.old (arms (map arm_of xs)))
         (arms_first t.old (arms (map arm_of xs)) first) }
     ensures after { OnOk result (t.new ≡ arms_after t.old (arms (map arm_of xs))) }
 {
@@ -413,15 +420,20 @@ fn type_arms(
         first = y.first;
         out.push(y.tree)?;
     }
-    Ok(Walked {
+    Ok(PassResult {
         tree: List::of(out),
         first,
     })
 }
 
 #[cycle(statement)]
-fn type_arm(a: NamedArm, alloc: Global, t: &mut Tables, first: Found) -> Result<Walked<Arm>, Halt>
-    ensures tree { WalksTo checked.arm_of result (checked_arm t.old (arm_of a)) (arm_first t.old (arm_of a) first) }
+fn type_arm(
+    a: NamedArm,
+    alloc: Global,
+    t: &mut Tables,
+    first: FirstRefusal,
+) -> Result<PassResult<Arm>, Halt>
+    ensures tree { PassesTo checked.arm_of result (checked_arm t.old (arm_of a)) (arm_first t.old (arm_of a) first) }
     ensures after { OnOk result (t.new ≡ arm_after t.old (arm_of a)) }
 {
     let NamedArm { constants, body } = a;
@@ -429,8 +441,8 @@ fn type_arm(a: NamedArm, alloc: Global, t: &mut Tables, first: Found) -> Result<
         drop(body);
         return Err(Halt::Memory);
     };
-    let Walked { tree, first } = have!(type_statement(body, alloc, t, first));
-    Ok(Walked {
+    let PassResult { tree, first } = have!(type_statement(body, alloc, t, first));
+    Ok(PassResult {
         tree: Arm {
             constants,
             body: tree,

@@ -9,7 +9,7 @@ ghost use Rattle.sp_types.specs.CheckedTree.{or_zero, numbered_field};
 
 use crate::tables::{Ordinal, Tables};
 use sp_base::{Halt, Place, Rule, Text};
-use sp_tree::{Found, breaks};
+use sp_tree::{FirstRefusal, breaks};
 
 /// The char that a text of length 1 is.
 pub fn char_of(t: &Text) -> Option<Ordinal>
@@ -88,7 +88,7 @@ pub fn field(t: &Tables, k: Option<u32>, name: &Text) -> Option<u32>
 }
 
 /// Y3 at a field of a variable that has a type so far.
-pub fn field_rule(t: &Tables, at: Place, k: Option<u32>, name: &Text) -> Found
+pub fn field_rule(t: &Tables, at: Place, k: Option<u32>, name: &Text) -> FirstRefusal
     ensures { result ≡ field_rule t.now at k name.now }
 {
     match k {

@@ -24,7 +24,7 @@ fn is_blank(b: u8) -> bool
 }
 
 /// How many blanks stand first.
-#[tactic(auto, using(crate::proofs::Reading::blanks_on, crate::proofs::Reading::blanks_stop, crate::proofs::Reading::blanks_end))]
+#[tactic(auto, using(crate::proofs::ByteRuns::blanks_on, crate::proofs::ByteRuns::blanks_stop, crate::proofs::ByteRuns::blanks_end))]
 fn blanks(bytes: &[u8]) -> usize
     ensures value { result ≡ blanks bytes.now }
     ensures within { result ≤ length bytes.now }
@@ -46,7 +46,7 @@ fn is_digit(b: u8) -> bool
 }
 
 /// How many digits stand first.
-#[tactic(auto, using(crate::proofs::Reading::digits_on, crate::proofs::Reading::digits_stop, crate::proofs::Reading::digits_end))]
+#[tactic(auto, using(crate::proofs::ByteRuns::digits_on, crate::proofs::ByteRuns::digits_stop, crate::proofs::ByteRuns::digits_end))]
 fn digits(bytes: &[u8]) -> usize
     ensures value { result ≡ digits bytes.now }
     ensures within { result ≤ length bytes.now }
@@ -62,7 +62,7 @@ fn digits(bytes: &[u8]) -> usize
 }
 
 /// The number that digits spell, or none where it is above the integers.
-#[tactic(auto, using(crate::proofs::Reading::number_on, crate::proofs::Reading::number_end, crate::proofs::Reading::number_grows))]
+#[tactic(auto, using(crate::proofs::ByteRuns::number_on, crate::proofs::ByteRuns::number_end, crate::proofs::ByteRuns::number_grows))]
 fn number_of(digits: &[u8]) -> Option<u64>
     ensures { MatchOption result (2 ^ 63 ≤ number_from 0 digits.now)
         (λ n. (n < 2 ^ 63) × (n ≡ number_from 0 digits.now)) }
@@ -133,7 +133,7 @@ pub fn char_in(bytes: &[u8]) -> ReadResult
 }
 
 /// How many bytes a line has yet, with its line feed.
-#[tactic(auto, using(crate::proofs::Reading::line_on, crate::proofs::Reading::line_stop, crate::proofs::Reading::line_end))]
+#[tactic(auto, using(crate::proofs::ByteRuns::line_on, crate::proofs::ByteRuns::line_stop, crate::proofs::ByteRuns::line_end))]
 pub fn line_length(bytes: &[u8]) -> usize
     ensures { result ≡ line_length bytes.now }
 {

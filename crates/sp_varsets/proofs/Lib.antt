@@ -1,10 +1,10 @@
 mod Items
 mod SetsFound
-mod Gathering
+mod BlockRows
 mod Paths
-mod Totalling
-pub mod Walking
-mod Reaching
+mod CallSets
+pub mod StatementRecords
+mod CallPaths
 pub mod Words
-pub mod Adding
+pub mod AddedSets
 mod WordChanges

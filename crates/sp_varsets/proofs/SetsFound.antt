@@ -7,7 +7,7 @@ use Rattle.sp_base.proofs.Facts.{length_of_map}
 use Rattle.sp_tree.specs.PlainChecked as p
 use Rattle.sp_tree.specs.Bare.{bare_statement, bare_block, without_places}
 use Rattle.sp_tree.specs.Uses.{Target, Seen, Stop, In_stmt}
-use Rattle.sp_tree.proofs.Reached as r
+use Rattle.sp_tree.proofs.CallClosure as r
 use Rattle.sp_varsets.specs.declared.bodies.Bodies.{Bodies}
 use Rattle.sp_varsets.specs.declared.find.Reach.{Reach}
 use Rattle.sp_varsets.specs.declared.sets.Entry.{Entry}
@@ -25,9 +25,9 @@ use Rattle.sp_varsets.specs.Paths.{member, Closes}
 use Rattle.sp_varsets.specs.Reaches.{Reaches, ArePooled}
 use Rattle.sp_varsets.specs.Records.{pool_has, Records, slot_at, RecordsStatements}
 use Rattle.sp_varsets.specs.Totals.{AreWithin, AreEntries, AreRowEntries}
-use Rattle.sp_varsets.proofs.Gathering.{in_blocks, of_blocks}
-use Rattle.sp_varsets.proofs.Reaching.{closed_is, fits, free_of, free_in, total_is}
-use Rattle.sp_varsets.proofs.Walking.{stands_more}
+use Rattle.sp_varsets.proofs.BlockRows.{in_blocks, of_blocks}
+use Rattle.sp_varsets.proofs.CallPaths.{closed_is, fits, free_of, free_in, total_is}
+use Rattle.sp_varsets.proofs.StatementRecords.{stands_more}
 
 -- the set that an index names
 chosen_is : (pool : List VarSet) (nothing : VarSet) → ((x : ℕ) → has nothing x ≡ false) → (i x : ℕ)

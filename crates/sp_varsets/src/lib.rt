@@ -20,13 +20,13 @@
 //! - `specs/AreSets.antt` says what the sets of a tree are.
 //! - `src/uses.rt` and `walk.rt` gather what stands in each part, `closure.rt` what calls carry, `totals.rt` joins
 //!   both. `pool.rt` keeps equal sets once.
-//! - `proofs/Reaching` leads to paths.
+//! - `proofs/CallPaths` leads to paths.
 //! - `VarSet::words` says how far a set goes, so that a few unions, each over its window of variables, see it whole.
 //!
 //! Lemmas for others, in `proofs`:
-//! - `Walking`: what is recorded of statements, one after another.
+//! - `StatementRecords`: what is recorded of statements, one after another.
 //! - `Words`: bits of words, as the members of a set stand in them.
-//! - `Adding`: what a pass adds to the sets, part by part.
+//! - `AddedSets`: what a pass adds to the sets, part by part.
 //!
 //! To change:
 //! - A form of statement: `src/walk.rt`, `src/simple.rt`.

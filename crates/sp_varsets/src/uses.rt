@@ -50,14 +50,14 @@ impl Uses {
         }
     }
 
-    #[tactic(auto, using(crate::proofs::Adding::target_added))]
+    #[tactic(auto, using(crate::proofs::AddedSets::target_added))]
     pub(crate) fn add_target(&mut self, variable: u32) -> Result<(), Memory>
         ensures { OnOk result (AddsUses self.old self.new (λ u. u ≡ Target variable)) }
     {
         self.targets.insert(variable)
     }
 
-    #[tactic(auto, using(crate::proofs::Adding::seen_added))]
+    #[tactic(auto, using(crate::proofs::AddedSets::seen_added))]
     pub(crate) fn add_seen(&mut self, variable: u32) -> Result<(), Memory>
         ensures { OnOk result (AddsUses self.old self.new (λ u. u ≡ Seen variable)) }
     {
@@ -70,7 +70,7 @@ impl Uses {
         self.calls.insert(block)
     }
 
-    #[tactic(auto, using(crate::proofs::Adding::stopped))]
+    #[tactic(auto, using(crate::proofs::AddedSets::stopped))]
     pub(crate) fn stop(&mut self) -> Result<(), Memory>
         ensures { OnOk result (AddsUses self.old self.new (λ u. u ≡ Stop)) }
     {

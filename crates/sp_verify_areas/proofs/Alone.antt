@@ -16,9 +16,9 @@ use Rattle.sp_code.specs.declared.code.Parts.{Parts}
 use Rattle.sp_code.specs.Machine.{layout_of}
 use Rattle.sp_verify_rules.specs.Areas.{instr_at, child_of}
 use Rattle.sp_verify_areas.specs.LeastPlaces.{IsLeast, Upto, earlier_of}
-use Rattle.sp_verify_rules.specs.Named.{Missing, NoProgram, Sized, Indexed, IsLayout, IsChild, is_some, has_sizes}
-use Rattle.sp_verify_rules.specs.Named.{is_program}
-use Rattle.sp_verify_rules.specs.Named.{names_there}
+use Rattle.sp_verify_rules.specs.NameRules.{Missing, NoProgram, Sized, Indexed, IsLayout, IsChild, is_some, has_sizes}
+use Rattle.sp_verify_rules.specs.NameRules.{is_program}
+use Rattle.sp_verify_rules.specs.NameRules.{names_there}
 use Rattle.sp_verify_areas.specs.Blocks.{IsNumbered, number_of}
 use Rattle.sp_verify_areas.specs.Alone.{BreaksAlone, LayoutFails, ChildFails, ChildrenFail, TableFails, AreFlags}
 use Rattle.sp_verify_areas.specs.Alone.{layout_fails}

@@ -14,7 +14,7 @@ use Rattle.sp_verify_areas.specs.declared.tree.Node.{Node}
 use Rattle.sp_verify_areas.specs.Grown.{PutsNode}
 use Rattle.sp_verify_areas.specs.Around.{PutsChild, IsExtended, PutsChildren}
 use Rattle.sp_verify_areas.specs.Tree.{AreLists, with_list}
-use Rattle.sp_verify_areas.proofs.Growing.{at_last, before_last, put_lists, raised}
+use Rattle.sp_verify_areas.proofs.TreeGrowth.{at_last, before_last, put_lists, raised}
 
 -- the same node again
 pub puts_again : (old : List Node) (number : ℕ) (n : Node) → ((m : Node) → slice_get old number ≡ Some m → n ≡ m)

@@ -3,7 +3,7 @@ use Rattle.std.proofs.Common.{◌≡◌, refl, ap, ◌∙◌, ℕ, zero, suc, �
 use Rattle.std.proofs.Common.{arith}
 use Rattle.std.proofs.lemmas.List.{drop_all}
 use Rattle.sp_code.specs.declared.code.Formal.{Formal}
-use Rattle.sp_verify_rules.specs.Named.{begins_with, formals_cells}
+use Rattle.sp_verify_rules.specs.NameRules.{begins_with, formals_cells}
 
 first_of : (k : ℕ) (fs : List Formal) → k < length fs → (f : Formal) × (gs : List Formal) × (drop k fs ≡ f ∷ gs)
 first_of k [] h = absurd (omega (arith, h))

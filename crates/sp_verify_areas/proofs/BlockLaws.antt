@@ -7,7 +7,7 @@ use Rattle.std.proofs.lemmas.Option.{same_Some}
 use Rattle.sp_code.specs.declared.code.Layout.{Layout}
 use Rattle.sp_code.specs.Machine.{layout_of}
 use Rattle.sp_verify_areas.specs.Blocks.{number_from}
-use Rattle.sp_verify_rules.specs.Named as named
+use Rattle.sp_verify_rules.specs.NameRules as named
 
 -- a block has a place where it has a layout
 pub has_layout : (n : ℕ) (ls : List Layout) (b : ℕ) → is_some (number_from n ls b) ≡ named.is_some (layout_of ls b)

@@ -1,22 +1,22 @@
 pub mod Leasts
 pub mod BlockLaws
 mod Beginnings
-pub mod Failing
+pub mod FirstFailures
 mod Alone
-pub mod Owning
-pub mod Handing
-pub mod Owned
-mod Placing
-mod Declaring
+pub mod OwnerLaws
+pub mod OwnerSteps
+pub mod OwnerClosure
+mod PlaceLaws
+mod DeclarationSteps
 mod NamedTables
-mod Summing
+mod RuleSums
 mod Outward
-mod Rounding
-mod Growing
-mod Leading
-mod Filling
+mod CycleFreedom
+mod TreeGrowth
+mod BlockNodes
+mod NodesForAll
 mod Attachments
-mod Surrounding
-mod Misnaming
-mod Lacking
-mod Knowing
+mod Surroundings
+mod WrongNames
+mod OrphanLayouts
+mod KnownVariables

@@ -9,9 +9,9 @@ use Rattle.sp_base.proofs.Facts.{get_beside_set, get_where_set, item_is_not_none
 use Rattle.sp_code.specs.declared.code.ForkTable.{ForkTable}
 use Rattle.sp_code.specs.declared.code.Parts.{Parts}
 use Rattle.sp_verify_rules.specs.Areas.{Area, on_option, child_of}
-use Rattle.sp_verify_rules.specs.Named.{LiesIn, Names, Unnamed}
-use Rattle.sp_verify_areas.specs.declared.naming.Namer.{Namer}
-use Rattle.sp_verify_areas.specs.declared.naming.Namer.TheVariants as namer
+use Rattle.sp_verify_rules.specs.NameRules.{LiesIn, Names, Unnamed}
+use Rattle.sp_verify_areas.specs.declared.table_names.Namer.{Namer}
+use Rattle.sp_verify_areas.specs.declared.table_names.Namer.TheVariants as namer
 use Rattle.sp_verify_areas.specs.declared.owners.Owner.{Owner}
 use Rattle.sp_verify_areas.specs.declared.owners.Owner.TheVariants as owner
 use Rattle.sp_verify_areas.specs.Alone.{ChildFails}
@@ -20,8 +20,8 @@ use Rattle.sp_verify_areas.specs.Owners.{Owns, AreOwners, is_same}
 use Rattle.sp_verify_areas.specs.Namers.{with_namer, with_namer_of, none_yet, is_lost, NamedBy, AreNamers, IsLost}
 use Rattle.sp_verify_areas.specs.Namers.{LostAt}
 use Rattle.sp_verify_areas.proofs.Leasts.{least_of_same, all}
-use Rattle.sp_verify_areas.proofs.Owning.{same_is}
-use Rattle.sp_verify_areas.proofs.Owned.{named_within, table_of}
+use Rattle.sp_verify_areas.proofs.OwnerLaws.{same_is}
+use Rattle.sp_verify_areas.proofs.OwnerClosure.{named_within, table_of}
 
 module _ (c : Parts) where
   -- ---- one more instruction

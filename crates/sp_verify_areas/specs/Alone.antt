@@ -11,7 +11,7 @@ use Rattle.sp_code.specs.declared.code.ForkTable.{ForkTable}
 use Rattle.sp_code.specs.declared.code.Parts.{Parts}
 use Rattle.sp_verify_rules.specs.Areas.{on_option}
 use Rattle.sp_verify_areas.specs.LeastPlaces.{Upto}
-use Rattle.sp_verify_rules.specs.Named.{Missing, NoProgram, Sized, Indexed, is_some, has_sizes, is_program}
+use Rattle.sp_verify_rules.specs.NameRules.{Missing, NoProgram, Sized, Indexed, is_some, has_sizes, is_program}
 
 -- code names what is not there, or a layout or a table is wrong in itself
 abbrev pub BreaksAlone : Parts → ℕ → Type 0

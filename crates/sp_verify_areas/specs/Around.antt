@@ -10,7 +10,7 @@ use Rattle.sp_code.specs.Machine.{layout_of}
 use Rattle.sp_code.specs.Memory.{Home}
 use Rattle.sp_verify_rules.specs.Areas.{Area, Child, on_option, instr_at, table_named, is_led, with_home, block_homes}
 use Rattle.sp_verify_rules.specs.Areas.{homes}
-use Rattle.sp_verify_rules.specs.Named.{Names, IsChild}
+use Rattle.sp_verify_rules.specs.NameRules.{Names, IsChild}
 use Rattle.sp_verify_areas.specs.declared.owners.Owner.{Owner}
 use Rattle.sp_verify_areas.specs.declared.owners.Owner.TheVariants as owner
 use Rattle.sp_verify_areas.specs.declared.tree.Grown.{Grown}

@@ -2,7 +2,7 @@ pub mod LeastPlaces
 pub mod Blocks
 pub mod Alone
 pub mod Owners
-pub mod Placed
+pub mod Placement
 pub mod Rounds
 pub mod Only
 pub mod Twice
@@ -12,6 +12,6 @@ pub mod Tree
 pub mod Homes
 pub mod Grown
 pub mod Around
-pub mod Misnamed
+pub mod WrongNames
 pub mod OrphanBlock
 pub mod Unknown

@@ -4,9 +4,9 @@ use Rattle.std.specs.Prelude.{◌≡◌, ◌⊎◌, ◌≢◌, ℕ, ◌<◌, Lis
 use Rattle.sp_code.specs.declared.code.ChildTable.{ChildTable}
 use Rattle.sp_code.specs.declared.code.Parts.{Parts}
 use Rattle.sp_verify_rules.specs.Areas.{Area, on_option}
-use Rattle.sp_verify_rules.specs.Named.{LiesIn, Names, IsChild}
-use Rattle.sp_verify_areas.specs.declared.naming.Namer.{Namer}
-use Rattle.sp_verify_areas.specs.declared.naming.Namer.TheVariants as namer
+use Rattle.sp_verify_rules.specs.NameRules.{LiesIn, Names, IsChild}
+use Rattle.sp_verify_areas.specs.declared.table_names.Namer.{Namer}
+use Rattle.sp_verify_areas.specs.declared.table_names.Namer.TheVariants as namer
 use Rattle.sp_verify_areas.specs.declared.owners.Owner.{Owner}
 use Rattle.sp_verify_areas.specs.declared.owners.Owner.TheVariants as owner
 use Rattle.sp_verify_areas.specs.Owners.{is_same}

@@ -7,7 +7,7 @@ use Rattle.sp_code.specs.declared.code.ChildTable.{ChildTable}
 use Rattle.sp_code.specs.declared.code.Parts.{Parts}
 use Rattle.sp_verify_rules.specs.Areas.{Area, instr_at, homes}
 use Rattle.sp_verify_rules.specs.Reach.{IsIn}
-use Rattle.sp_verify_rules.specs.Named.{LiesIn, Names, IsChild, some_has}
+use Rattle.sp_verify_rules.specs.NameRules.{LiesIn, Names, IsChild, some_has}
 
 module _ (c : Parts) where
   -- an instruction lies in the code of this area, and of no other

@@ -11,7 +11,7 @@ use Rattle.sp_verify_areas.specs.declared.owners.Owner.{Owner}
 use Rattle.sp_verify_areas.specs.declared.owners.Owner.TheVariants as owner
 use Rattle.sp_verify_rules.specs.Areas.{Area, Body, Child, on_option, instr_at}
 use Rattle.sp_verify_rules.specs.Reach.{IsIn, nexts}
-use Rattle.sp_verify_rules.specs.Named.{LiesIn, Names, IsChild}
+use Rattle.sp_verify_rules.specs.NameRules.{LiesIn, Names, IsChild}
 
 -- an area by its last step: its block, or the fork and the child
 abbrev pub owner_of : Area → Owner

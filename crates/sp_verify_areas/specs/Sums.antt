@@ -2,11 +2,11 @@
 -- Rule V1 as the passes find it: where an instruction lies in two areas, they look no further.
 use Rattle.std.specs.Prelude.{◌⊎◌, ℕ}
 use Rattle.sp_code.specs.declared.code.Parts.{Parts}
-use Rattle.sp_verify_rules.specs.Named.{OrphanBlock, DeclaredTwice, Unnamed}
+use Rattle.sp_verify_rules.specs.NameRules.{OrphanBlock, DeclaredTwice, Unnamed}
 use Rattle.sp_verify_areas.specs.Alone.{BreaksAlone}
-use Rattle.sp_verify_areas.specs.Misnamed.{MisnamesOnly}
+use Rattle.sp_verify_areas.specs.WrongNames.{MisnamesOnly}
 use Rattle.sp_verify_areas.specs.Only.{UnknownOnly}
-use Rattle.sp_verify_areas.specs.Placed.{IsMisplaced}
+use Rattle.sp_verify_areas.specs.Placement.{IsMisplaced}
 
 -- one of the passes finds something there
 abbrev pub SomePassFinds : Parts → ℕ → Type 0

@@ -4,7 +4,7 @@ use Rattle.std.specs.Prelude.{◌≡◌, ◌⊎◌, ℕ, ◌<◌, Option, Some, 
 use Rattle.std.specs.Ordering.{nat_cmp, is_eq}
 use Rattle.std.specs.BTreeSet.{BTreeSet, contains}
 use Rattle.sp_code.specs.declared.code.Parts.{Parts}
-use Rattle.sp_verify_rules.specs.Named.{Declared, IsBefore, declaration_at}
+use Rattle.sp_verify_rules.specs.NameRules.{Declared, IsBefore, declaration_at}
 use Rattle.sp_verify_areas.specs.LeastPlaces.{IsLeast, earlier_of}
 
 module _ (c : Parts) where

@@ -8,7 +8,7 @@ use Rattle.sp_code.specs.declared.code.Parts.{Parts}
 use Rattle.sp_code.specs.Memory.{Home}
 use Rattle.sp_verify_rules.specs.Areas.{Area, homes}
 use Rattle.sp_verify_rules.specs.Reach.{IsIn}
-use Rattle.sp_verify_rules.specs.Named.{Names, IsChild, some_has}
+use Rattle.sp_verify_rules.specs.NameRules.{Names, IsChild, some_has}
 use Rattle.sp_verify_areas.specs.Only.{LiesOnlyIn}
 
 -- a variable other than the input and the output is in none of these homes

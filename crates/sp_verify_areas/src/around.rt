@@ -7,9 +7,9 @@ ghost use Rattle.sp_verify_areas.specs.Grown.{HaveAllBlockNodes};
 ghost use Rattle.sp_verify_areas.specs.Homes.{AreHomes};
 ghost use Rattle.sp_verify_areas.specs.Owners.{AreOwners};
 
+use crate::all_blocks::filled;
 use crate::blocks::Blocks;
 use crate::child_nodes::{hang_all, nodes_of};
-use crate::filled::filled;
 use crate::have;
 use crate::homes::Homes;
 use crate::owners::Owner;

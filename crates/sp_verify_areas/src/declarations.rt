@@ -1,7 +1,7 @@
 //! Variables that are declared a second time: a point of rule V1.
 
 ghost use Rattle.std.specs.Prelude.{◌≡◌, ◌+◌, ◌<◌, [], Some, IfOk, length};
-ghost use Rattle.sp_verify_rules.specs.Named.{DeclaredTwice, InLayout, IsChild, OfChild};
+ghost use Rattle.sp_verify_rules.specs.NameRules.{DeclaredTwice, InLayout, IsChild, OfChild};
 ghost use Rattle.sp_verify_areas.specs.LeastPlaces.{IsLeast};
 ghost use Rattle.sp_verify_areas.specs.Twice.{SeenBefore, NotesVariable};
 

@@ -3,8 +3,8 @@
 ghost use Rattle.std.specs.Prelude.{◌≡◌, ◌++◌, length};
 ghost use Rattle.sp_verify_areas.specs.Alone.{LayoutFails, layout_fails};
 ghost use Rattle.sp_verify_areas.specs.LeastPlaces.{IsLeast, Upto};
-ghost use Rattle.sp_verify_rules.specs.Named.{answer_cells, begins_with, formal_cells, formals_cells, has_sizes};
-ghost use Rattle.sp_verify_rules.specs.Named.{is_program};
+ghost use Rattle.sp_verify_rules.specs.NameRules.{answer_cells, begins_with, formal_cells, formals_cells, has_sizes};
+ghost use Rattle.sp_verify_rules.specs.NameRules.{is_program};
 
 use crate::least::{least, place_if};
 use sp_code::{Formal, Layout};

@@ -2,7 +2,7 @@
 
 ghost use Rattle.std.specs.Prelude.{◌≡◌, ◌<◌, Some, length, slice_get};
 ghost use Rattle.sp_verify_rules.specs.Areas.{Area, homes as homes_of};
-ghost use Rattle.sp_verify_rules.specs.Named.{is_block};
+ghost use Rattle.sp_verify_rules.specs.NameRules.{is_block};
 ghost use Rattle.sp_verify_areas.specs.Homes.{AreHomes};
 ghost use Rattle.sp_verify_areas.specs.Only.{LiesOnlyIn};
 ghost use Rattle.sp_verify_areas.specs.Tree.{home_at};

@@ -24,15 +24,15 @@
 //!   `proofs/Leasts.antt`);
 //!   `least.rt` takes the less of two.
 //! - `whole.rt` is V1 by all its passes. An instruction that lies in two areas breaks V1 anyhow, so there the passes
-//!   look no further (`specs/Sums.antt`, `proofs/Summing.antt`).
+//!   look no further (`specs/Sums.antt`, `proofs/RuleSums.antt`).
 //! - `parts.rt` looks at what is wrong in itself (`specs/Alone.antt`): `names.rt` has instructions that name what is
 //!   not there, `layouts.rt` and `tables.rt` what can be wrong with a layout or a table. `declarations.rt` has
-//!   variables that are declared twice, `naming.rt` tables that not exactly one instruction names.
+//!   variables that are declared twice, `table_names.rt` tables that not exactly one instruction names.
 //! - `owners.rt` finds whose code each instruction is: it hands owners on along `ways.rt` and tables until a sweep
-//!   finds nothing new. In `proofs/`, `Owning` says that what is handed on is true, `Handing` has each step, `Owned`
-//!   what follows where nothing is left to be handed on. `placed.rt` goes by owners.
-//! - `tree.rt` is a tree of what is around code, in which one finds who is so many levels outward. `led.rt` and
-//!   `filled.rt` put the blocks into it, `child_nodes.rt` the children of forks, in the order of `order.rt`.
+//!   finds nothing new. In `proofs/`, `OwnerLaws` says that what is handed on is true, `OwnerSteps` has each step,
+//!   `OwnerClosure` what follows where nothing is left to be handed on. `placement.rt` goes by owners.
+//! - `tree.rt` is a tree of what is around code, in which one finds who is so many levels outward. `block_nodes.rt` and
+//!   `all_blocks.rt` put the blocks into it, `child_nodes.rt` the children of forks, in the order of `order.rt`.
 //!   `around.rt` is the whole search, `homes.rt` what it answers. `orphan_block.rt`, `ranges.rt` and `unknown.rt` are
 //!   the points of V1 that need it.
 //! - `blocks.rt` is the layouts by their blocks. `order.rt` and `hints.rt` only save time: no proof rests on the order,
@@ -42,40 +42,41 @@
 //! Lemmas for others, in `proofs`:
 //! - `Leasts`: least numbers of sums, of equal facts, and of items one after the other.
 //! - `BlockLaws`: what a table of layouts finds is the layout of the block.
-//! - `Failing`: one layout or child that fails a test, among others.
-//! - `Owning`: owners that are the same by the test are equal.
-//! - `Handing`: the steps of a search for owners: each hands on what is true, and where it changes nothing, it
+//! - `FirstFailures`: one layout or child that fails a test, among others.
+//! - `OwnerLaws`: owners that are the same by the test are equal.
+//! - `OwnerSteps`: the steps of a search for owners: each hands on what is true, and where it changes nothing, it
 //!   leaves nothing to be handed on.
-//! - `Owned`: where nothing is left to be handed on, each instruction of an area knows it: so the owners are right.
+//! - `OwnerClosure`: where nothing is left to be handed on, each instruction of an area knows it: so the owners are
+//!   right.
 //!
 //! To change:
 //! - A point of V1: its definition in `sp_verify_rules`; its pass, `src/whole.rt`, `specs/Sums.antt`,
-//!   `proofs/Summing.antt`.
+//!   `proofs/RuleSums.antt`.
 #![tactic(auto)]
 
+pub mod all_blocks;
 pub mod around;
+pub mod block_nodes;
 pub mod blocks;
 pub mod child_nodes;
 pub mod components;
 pub mod declarations;
-pub mod filled;
 pub mod flags;
 pub mod have;
 pub mod hints;
 pub mod homes;
 pub mod layouts;
 pub mod least;
-pub mod led;
 pub mod levels;
 pub mod names;
-pub mod naming;
 pub mod order;
 pub mod orphan_block;
 pub mod owners;
 pub mod parts;
-pub mod placed;
+pub mod placement;
 pub mod ranges;
 pub mod rounds;
+pub mod table_names;
 pub mod tables;
 pub mod tree;
 pub mod unknown;

@@ -4,7 +4,7 @@ ghost use Rattle.std.specs.Prelude.{◌≡◌, Some, false};
 ghost use Rattle.sp_verify_rules.specs.Areas.{instr_at};
 ghost use Rattle.sp_verify_areas.specs.Blocks.{IsNumbered};
 ghost use Rattle.sp_verify_areas.specs.LeastPlaces.{IsLeast};
-ghost use Rattle.sp_verify_rules.specs.Named.{names_there};
+ghost use Rattle.sp_verify_rules.specs.NameRules.{names_there};
 
 use crate::blocks::Blocks;
 use sp_code::{Code, Instr, Parts};

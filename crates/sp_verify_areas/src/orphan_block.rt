@@ -2,12 +2,12 @@
 
 ghost use Rattle.std.specs.Prelude.{◌≡◌, ◌+◌, ◌<◌, List, Some, IfOk, length, slice_get};
 ghost use Rattle.sp_code.specs.declared.code.Layout.{Layout};
-ghost use Rattle.sp_verify_rules.specs.Named.{OrphanBlock};
+ghost use Rattle.sp_verify_rules.specs.NameRules.{OrphanBlock};
 ghost use Rattle.sp_verify_areas.specs.Blocks.{IsNumbered, number_from};
 ghost use Rattle.sp_verify_areas.specs.Grown.{HaveAllBlockNodes};
 ghost use Rattle.sp_verify_areas.specs.OrphanBlock.{AreDoubled, IsOrphanBlock, is_place};
 ghost use Rattle.sp_verify_areas.specs.LeastPlaces.{IsLeast};
-ghost use Rattle.sp_verify_areas.specs.Misnamed.{Decides};
+ghost use Rattle.sp_verify_areas.specs.WrongNames.{Decides};
 
 use crate::blocks::Blocks;
 use crate::flags::{flag_at, mark, no_flags};

@@ -5,7 +5,7 @@ ghost use Rattle.std.specs.Prelude.{◌≡◌, ℕ, ◌+◌, ◌<◌, Some, IfOk
 ghost use Rattle.sp_code.specs.declared.code.ChildTable.{ChildTable};
 ghost use Rattle.sp_verify_rules.specs.Areas.{instr_at, table_named};
 ghost use Rattle.sp_verify_areas.specs.Blocks.{IsNumbered};
-ghost use Rattle.sp_verify_rules.specs.Named.{Names};
+ghost use Rattle.sp_verify_rules.specs.NameRules.{Names};
 ghost use Rattle.sp_verify_areas.specs.Owners.{AreBegun, AreOwners, AreTrue, EachFirst, HandsOwner, IsAllSpread};
 ghost use Rattle.sp_verify_areas.specs.Owners.{IsHanded};
 ghost use Rattle.sp_verify_areas.specs.Owners.{IsOwner};
@@ -318,7 +318,7 @@ fn sweep(
 }
 
 // Visits one instruction or table.
-#[tactic(auto, using(crate::proofs::Handing::any))]
+#[tactic(auto, using(crate::proofs::OwnerSteps::any))]
 fn visit_one(code: &Code, owners: &mut List<Owner>, waiting: &mut Writer<usize>, x: usize) -> bool
     requires just { AreTrue code.now owners.old }
     ensures { Propagates code.now owners.old owners.new (λ os. Unit {0}) result }
@@ -351,7 +351,7 @@ fn hurry(code: &Code, owners: &mut List<Owner>, waiting: &mut Writer<usize>) -> 
 }
 
 // Goes on until nothing is left to be handed on.
-#[tactic(auto, using(crate::proofs::Handing::room_falls, crate::proofs::Handing::closed_now))]
+#[tactic(auto, using(crate::proofs::OwnerSteps::room_falls, crate::proofs::OwnerSteps::closed_now))]
 fn search(code: &Code, blocks: &Blocks, owners: &mut List<Owner>) -> Result<(), Memory>
     requires just { AreTrue code.now owners.old }
     requires blocks { IsNumbered blocks.now.first code.now.layouts }

@@ -2,11 +2,11 @@
 
 ghost use Rattle.std.specs.Prelude.{◌≡◌, ◌<◌, Some, false, length, slice_get};
 ghost use Rattle.sp_verify_rules.specs.Areas.{Area, on_option};
-ghost use Rattle.sp_verify_rules.specs.Named.{is_loop_variable, is_plain, is_reference, level_fits};
+ghost use Rattle.sp_verify_rules.specs.NameRules.{is_loop_variable, is_plain, is_reference, level_fits};
 ghost use Rattle.sp_verify_areas.specs.Blocks.{IsNumbered};
 ghost use Rattle.sp_verify_areas.specs.Homes.{AreHomes, found_of};
 ghost use Rattle.sp_verify_areas.specs.LeastPlaces.{IsLeast};
-ghost use Rattle.sp_verify_areas.specs.Misnamed.{Decides, MisnamesOnly, fits};
+ghost use Rattle.sp_verify_areas.specs.WrongNames.{Decides, MisnamesOnly, fits};
 ghost use Rattle.sp_verify_areas.specs.Only.{LiesOnlyIn};
 ghost use Rattle.sp_verify_areas.specs.Owners.{AreOwners, Owns};
 
@@ -14,7 +14,7 @@ use crate::blocks::Blocks;
 use crate::homes::{Found, Homes, Naming};
 use crate::levels::is_block_outward;
 use crate::owners::Owner;
-use crate::placed::{instr_of, owner_at};
+use crate::placement::{instr_of, owner_at};
 use sp_base::List;
 use sp_code::{Code, Instr};
 

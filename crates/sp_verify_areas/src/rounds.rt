@@ -3,7 +3,7 @@
 
 ghost use Rattle.std.specs.Prelude.{◌≡◌, ◌↔◌, ◌<◌, ℕ, IfOk, IsTrue, MatchOption, Some, false, length, true};
 ghost use Rattle.sp_verify_rules.specs.Areas.{Area, instr_at};
-ghost use Rattle.sp_verify_rules.specs.Named.{LiesIn};
+ghost use Rattle.sp_verify_rules.specs.NameRules.{LiesIn};
 ghost use Rattle.sp_verify_rules.specs.Reach.{IsIn};
 ghost use Rattle.sp_verify_rules.specs.Rules.{BreaksV9, free_nexts};
 ghost use Rattle.sp_verify_areas.specs.Alone.{flag_at};

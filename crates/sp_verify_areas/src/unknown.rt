@@ -2,10 +2,10 @@
 
 ghost use Rattle.std.specs.Prelude.{◌≡◌, ◌+◌, ◌<◌, ◌⊎◌, ◌++◌, true, IfOk, length};
 ghost use Rattle.sp_verify_rules.specs.Areas.{Area, homes as homes_of};
-ghost use Rattle.sp_verify_rules.specs.Named.{has_variable, is_in, some_has};
+ghost use Rattle.sp_verify_rules.specs.NameRules.{has_variable, is_in, some_has};
 ghost use Rattle.sp_verify_areas.specs.Homes.{AreHomes};
 ghost use Rattle.sp_verify_areas.specs.LeastPlaces.{IsLeast, Upto};
-ghost use Rattle.sp_verify_areas.specs.Misnamed.{Decides};
+ghost use Rattle.sp_verify_areas.specs.WrongNames.{Decides};
 ghost use Rattle.sp_verify_areas.specs.Only.{LiesOnlyIn, UnknownOnly};
 ghost use Rattle.sp_verify_areas.specs.Owners.{AreOwners, Owns};
 ghost use Rattle.sp_verify_areas.specs.Tree.{IsFrame, home_of};
@@ -15,7 +15,7 @@ use crate::have;
 use crate::hints::{Hint, Hints, find_hints};
 use crate::homes::Homes;
 use crate::owners::{Owner, table_number};
-use crate::placed::owner_at;
+use crate::placement::owner_at;
 use crate::tree::Frame;
 use sp_base::{List, Memory};
 use sp_code::{ChildTable, Code, Layout};

@@ -1,26 +1,26 @@
 //! Rule V1 as a whole: the least of what its passes find.
 
 ghost use Rattle.std.specs.Prelude.{IfOk};
-ghost use Rattle.sp_verify_rules.specs.Named.{BreaksV1, DeclaredTwice, OrphanBlock, Unnamed};
+ghost use Rattle.sp_verify_rules.specs.NameRules.{BreaksV1, DeclaredTwice, OrphanBlock, Unnamed};
 ghost use Rattle.sp_verify_areas.specs.Alone.{BreaksAlone};
 ghost use Rattle.sp_verify_areas.specs.Blocks.{IsNumbered};
 ghost use Rattle.sp_verify_areas.specs.Homes.{AreHomes};
 ghost use Rattle.sp_verify_areas.specs.LeastPlaces.{IsLeast};
-ghost use Rattle.sp_verify_areas.specs.Misnamed.{MisnamesOnly};
+ghost use Rattle.sp_verify_areas.specs.WrongNames.{MisnamesOnly};
 ghost use Rattle.sp_verify_areas.specs.Only.{UnknownOnly};
 ghost use Rattle.sp_verify_areas.specs.Owners.{AreOwners};
-ghost use Rattle.sp_verify_areas.specs.Placed.{IsMisplaced};
+ghost use Rattle.sp_verify_areas.specs.Placement.{IsMisplaced};
 
 use crate::blocks::Blocks;
 use crate::declarations::first_twice;
 use crate::have;
 use crate::homes::Homes;
 use crate::least::least;
-use crate::naming::first_unnamed;
 use crate::owners::Owner;
 use crate::parts::first_wrong_alone;
-use crate::placed::first_misplaced;
+use crate::placement::first_misplaced;
 use crate::ranges::first_out_of_range;
+use crate::table_names::first_unnamed;
 use crate::unknown::first_unknown;
 use sp_base::{List, Memory};
 use sp_code::Code;

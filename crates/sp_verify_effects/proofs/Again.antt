@@ -11,22 +11,22 @@ use Rattle.sp_code.specs.Machine.{layout_of}
 use Rattle.sp_verify_rules.specs.Areas.{Area, on_option, instr_at, child_at, table_named, entry}
 use Rattle.sp_verify_rules.specs.Shapes.{Shape}
 use Rattle.sp_verify_rules.specs.Reach.{IsIn}
-use Rattle.sp_verify_rules.specs.Touched.{stored_by, loaded_by}
+use Rattle.sp_verify_rules.specs.Touches.{stored_by, loaded_by}
 use Rattle.sp_verify_rules.specs.Verdict.{is_stop}
-use Rattle.sp_verify_rules.specs.Named.{BreaksV1, LiesIn}
+use Rattle.sp_verify_rules.specs.NameRules.{BreaksV1, LiesIn}
 use Rattle.sp_verify_rules.specs.Rules.{ComesTo}
-use Rattle.sp_verify_rules.proofs.Walking.{passes}
+use Rattle.sp_verify_rules.proofs.ShapePaths.{passes}
 use Rattle.sp_verify_areas.specs.declared.owners.Owner.{Owner}
 use Rattle.sp_verify_areas.specs.Owners.{AreOwners}
-use Rattle.sp_verify_areas.proofs.Owned.{name_of}
+use Rattle.sp_verify_areas.proofs.OwnerClosure.{name_of}
 use Rattle.sp_verify_shapes.specs.declared.shapes.Shapes.{Shapes}
 use Rattle.sp_verify_shapes.specs.Shapes.{AreShapes}
 use Rattle.sp_verify_shapes.specs.Stacks.{list_of}
-use Rattle.sp_verify_shapes.specs.Reached.{reached_at}
+use Rattle.sp_verify_shapes.specs.ReachRules.{reached_at}
 use Rattle.sp_verify_shapes.specs.Repeats.{Repeats, called_block}
-use Rattle.sp_verify_shapes.proofs.Reaching.{reached_there, stands}
-use Rattle.sp_verify_shapes.proofs.Repeating.{called_is}
-use Rattle.sp_verify_effects.specs.declared.asked.Asked.{Asked}
+use Rattle.sp_verify_shapes.proofs.ReachLaws.{reached_there, stands}
+use Rattle.sp_verify_shapes.proofs.CallRepeats.{called_is}
+use Rattle.sp_verify_effects.specs.declared.asked_areas.Asked.{Asked}
 use Rattle.sp_verify_effects.specs.declared.edges.Edge.{Edge}
 use Rattle.sp_verify_effects.specs.declared.effects.Effects.{Effects}
 use Rattle.sp_verify_effects.specs.declared.facts.Fact.{Fact}
@@ -36,8 +36,8 @@ use Rattle.sp_verify_effects.specs.Calls.{call_clashes, clashes_at, fails_at}
 use Rattle.sp_verify_effects.specs.Edges.{EdgeAt, HasEdge, HasEdges, IsCall}
 use Rattle.sp_verify_effects.specs.Facts.{Tells}
 use Rattle.sp_verify_effects.specs.Own.{AskedAt, DoesBy, OwnAt, OwnBefore}
-use Rattle.sp_verify_effects.proofs.Lying.{one_entry, owner_there}
-use Rattle.sp_verify_effects.proofs.Telling.{tells_as}
+use Rattle.sp_verify_effects.proofs.OneArea.{one_entry, owner_there}
+use Rattle.sp_verify_effects.proofs.FactSets.{tells_as}
 
 module _ (c : Parts) (os : List Owner) (s : Shapes) (kept : (x : ℕ) → BreaksV1 c x → ⊥) (owned : AreOwners c os)
     (are : AreShapes c s) (p q : ℕ) (h : Repeats c os s p q) where

@@ -17,7 +17,7 @@ use Rattle.sp_verify_effects.specs.declared.facts.Fact.{Fact}
 use Rattle.sp_verify_effects.specs.declared.facts.Effect.{Effect}
 use Rattle.sp_verify_effects.specs.declared.facts.Effect.TheVariants as effect
 use Rattle.sp_verify_effects.specs.Allowances.{Fits, IsWithin, allows, loads_within, stores_within}
-use Rattle.sp_verify_effects.specs.Closing.{Passes, fact_along, is_index}
+use Rattle.sp_verify_effects.specs.FactClosure.{Passes, fact_along, is_index}
 use Rattle.sp_verify_effects.specs.Facts.{fact}
 use Rattle.sp_verify_effects.specs.Sets.{has, with_all}
 use Rattle.sp_verify_effects.proofs.Members.{all_in}

@@ -15,12 +15,12 @@ use Rattle.sp_verify_rules.specs.Effects.{CountsAsEffect, Loaded, handed_to}
 use Rattle.sp_verify_rules.specs.Forks.{IsIllHanded}
 use Rattle.sp_verify_rules.proofs.Lists.{different_front, different_back}
 use Rattle.sp_verify_rules.proofs.Lists.{different_apart}
-use Rattle.sp_verify_rules.proofs.Scoping.{different_join}
-use Rattle.sp_verify_effects.specs.declared.handed.Before.{Before}
+use Rattle.sp_verify_rules.proofs.FrameScopes.{different_join}
+use Rattle.sp_verify_effects.specs.declared.child_effects.Before.{Before}
 use Rattle.sp_verify_effects.specs.Sets.{has, with_all, with_index, all_new, meets, goes_beyond}
-use Rattle.sp_verify_effects.specs.Handed.{FailsAlone, StoresBeyond, LoadsBeyond, ClashesBefore, SomeHas, clashes}
-use Rattle.sp_verify_effects.specs.Handed.{fails_alone}
-use Rattle.sp_verify_effects.specs.Handed.{handed_keys, is_loose, known_keys, moved_keys, moved_to}
+use Rattle.sp_verify_effects.specs.ChildEffects.{FailsAlone, StoresBeyond, LoadsBeyond, ClashesBefore, SomeHas, clashes}
+use Rattle.sp_verify_effects.specs.ChildEffects.{fails_alone}
+use Rattle.sp_verify_effects.specs.ChildEffects.{handed_keys, is_loose, known_keys, moved_keys, moved_to}
 use Rattle.sp_verify_effects.specs.Befores.{IsBefore}
 use Rattle.sp_verify_effects.proofs.Members.{all_here, all_in, all_kept, beyond_from, beyond_is, index_in, index_kept}
 use Rattle.sp_verify_effects.proofs.Members.{meets_from, meets_is, new_from, new_is, one_here}

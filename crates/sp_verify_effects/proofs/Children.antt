@@ -11,11 +11,11 @@ use Rattle.sp_code.specs.declared.code.ForkTable.{ForkTable}
 use Rattle.sp_code.specs.declared.code.Parts.{Parts}
 use Rattle.sp_verify_rules.specs.Areas.{Area, Child, table_named, table_at, child_of, child_at}
 use Rattle.sp_verify_rules.specs.Reach.{IsArea}
-use Rattle.sp_verify_rules.specs.Named.{BreaksV1, TableUnnamed, LiesIn, Names, IsChild}
+use Rattle.sp_verify_rules.specs.NameRules.{BreaksV1, TableUnnamed, LiesIn, Names, IsChild}
 use Rattle.sp_verify_areas.specs.declared.owners.Owner.{Owner}
 use Rattle.sp_verify_areas.specs.declared.owners.Owner.TheVariants as owner
 use Rattle.sp_verify_areas.specs.Owners.{AreOwners, Owns}
-use Rattle.sp_verify_areas.proofs.Owned.{named_within}
+use Rattle.sp_verify_areas.proofs.OwnerClosure.{named_within}
 
 pub table_there : (fs : List ForkTable) (t k : ℕ) (ch : ChildTable) → child_of (slice_get fs t) k ≡ Some ch
     → (tb : ForkTable) × (slice_get fs t ≡ Some tb) × (slice_get tb.children k ≡ Some ch)

@@ -15,19 +15,19 @@ use Rattle.sp_verify_rules.specs.Areas.{Area, Body, Child, instr_at, child_at, t
 use Rattle.sp_verify_rules.specs.Areas.{entry_of_child}
 use Rattle.sp_verify_rules.specs.Shapes.{Shape}
 use Rattle.sp_verify_rules.specs.Reach.{IsIn, IsArea, IsInCodeOf}
-use Rattle.sp_verify_rules.specs.Touched.{stored_by, loaded_by}
-use Rattle.sp_verify_rules.specs.Effects.{Kind, Stored, Loaded, CountsAsEffect, IsNumber, IsActual, Becomes}
+use Rattle.sp_verify_rules.specs.Touches.{stored_by, loaded_by}
+use Rattle.sp_verify_rules.specs.Effects.{EffectKind, Stored, Loaded, CountsAsEffect, IsNumber, IsActual, Becomes}
 use Rattle.sp_verify_rules.specs.Effects.{IsStarted, IsCalled}
 use Rattle.sp_verify_rules.specs.Effects.{Does, IsEffect}
 use Rattle.sp_verify_rules.specs.Verdict.{HasStop, is_stop}
-use Rattle.sp_verify_rules.specs.Named.{BreaksV1, InTwo, LiesIn}
+use Rattle.sp_verify_rules.specs.NameRules.{BreaksV1, InTwo, LiesIn}
 use Rattle.sp_verify_areas.specs.declared.owners.Owner.{Owner}
 use Rattle.sp_verify_areas.specs.declared.owners.Owner.TheVariants as owner
 use Rattle.sp_verify_areas.specs.Owners.{AreOwners, Owns}
-use Rattle.sp_verify_rules.proofs.Walking.{passes}
+use Rattle.sp_verify_rules.proofs.ShapePaths.{passes}
 use Rattle.sp_verify_rules.proofs.EffectLaws.{does_effect, child_effect, called_effect, effects_within, stops_within}
-use Rattle.sp_verify_areas.proofs.Owned.{name_of}
-use Rattle.sp_verify_effects.specs.declared.asked.Asked.{Asked}
+use Rattle.sp_verify_areas.proofs.OwnerClosure.{name_of}
+use Rattle.sp_verify_effects.specs.declared.asked_areas.Asked.{Asked}
 use Rattle.sp_verify_effects.specs.declared.edges.Edge.{Edge}
 use Rattle.sp_verify_effects.specs.declared.edges.Edge.TheVariants as edge
 use Rattle.sp_verify_effects.specs.declared.facts.Fact.{Fact}
@@ -37,12 +37,12 @@ use Rattle.sp_verify_effects.specs.Facts.{has_fact, fact, Tells}
 use Rattle.sp_verify_effects.specs.Own.{DoesAt, OwnBefore}
 use Rattle.sp_verify_effects.specs.Edges.{EdgeAt, AreEdges}
 use Rattle.sp_verify_effects.specs.Effects.{ComesToStop}
-use Rattle.sp_verify_effects.specs.Asked.{is_asked}
-use Rattle.sp_verify_effects.specs.Closing.{is_own, is_index, fact_along, FactLeads, FollowsBy, FollowsEdges}
-use Rattle.sp_verify_effects.specs.Closing.{Closes, IsEffectOf, AreFacts}
+use Rattle.sp_verify_effects.specs.AskedAreas.{is_asked}
+use Rattle.sp_verify_effects.specs.FactClosure.{is_own, is_index, fact_along, FactLeads, FollowsBy, FollowsEdges}
+use Rattle.sp_verify_effects.specs.FactClosure.{Closes, IsEffectOf, AreFacts}
 use Rattle.sp_verify_effects.specs.Variables.{AreOwn, owns}
-use Rattle.sp_verify_effects.proofs.Linking.{entry_within}
-use Rattle.sp_verify_effects.proofs.Owned.{begins, in_own, own_in}
+use Rattle.sp_verify_effects.proofs.EdgeRows.{entry_within}
+use Rattle.sp_verify_effects.proofs.BlockVariables.{begins, in_own, own_in}
 
 -- ---- areas by their first instructions
 
@@ -202,7 +202,7 @@ module _ (c : Parts) (kept : (p : ℕ) → BreaksV1 c p → ⊥) (os : List Owne
 
         -- ---- none is left out
 
-        abbrev effect_by : Kind → ℕ → Effect
+        abbrev effect_by : EffectKind → ℕ → Effect
         effect_by Stored x = effect.Stores x
         effect_by Loaded x = effect.Loads x
 
@@ -250,7 +250,7 @@ module _ (c : Parts) (kept : (p : ℕ) → BreaksV1 c p → ⊥) (os : List Owne
         call_within : (p f up : ℕ) → instr_at c p ≡ Some (i.Call f up) → p < length c.instrs
         call_within p f up e = slice_get_within c.instrs p (i.Call f up) e
 
-        does_has : (u : Kind) (a : Area) (x : ℕ) → Does c u a x → HasFactOf a (effect_by u x)
+        does_has : (u : EffectKind) (a : Area) (x : ℕ) → Does c u a x → HasFactOf a (effect_by u x)
         does_has Stored a x (inl (p, ss, r, h)) ia q = own_there a p (effect.Stores x) ia q (passes c a p ss r)
             (stored_within a p x ss h) (inl (ss, r, h))
         does_has Stored a x (inr (p, j, t, s, h)) ia q = own_there a p (effect.Stores x) ia q s.0
@@ -296,7 +296,7 @@ module _ (c : Parts) (kept : (p : ℕ) → BreaksV1 c p → ⊥) (os : List Owne
             go true e = absurd (h (eqb-true x y e))
             go false e = refl
 
-        child_has : (u : Kind) (a : Area) (p j x : ℕ) (t : ChildTable) → IsStarted c a p j t
+        child_has : (u : EffectKind) (a : Area) (p j x : ℕ) (t : ChildTable) → IsStarted c a p j t
             → CountsAsEffect u t.index x
             → HasFactOf (Child a p j) (effect_by u x) → HasFactOf a (effect_by u x)
         child_has Stored a p j x t s z h = from_child a p j t (effect.Stores x) s (λ own. refl) h
@@ -341,7 +341,7 @@ module _ (c : Parts) (kept : (p : ℕ) → BreaksV1 c p → ⊥) (os : List Owne
           if_same : (y : ℕ) (g : Fact) → ◌≡◌ {A = Option Fact} (if y == y then Some g else None) (Some g)
           if_same y g = ap (λ (b : Bool). if b then Some g else None) (eq-eqb y y refl)
 
-          called_has : (u : Kind) (x y : ℕ) → Becomes l ss y x → HasFactOf (Body f) (effect_by u y)
+          called_has : (u : EffectKind) (x y : ℕ) → Becomes l ss y x → HasFactOf (Body f) (effect_by u y)
               → HasFactOf a (effect_by u x)
           called_has Stored x y (inl (s, never)) h =
               subst (λ z. HasFactOf a (effect.Stores z)) (sym s)
@@ -356,7 +356,7 @@ module _ (c : Parts) (kept : (p : ℕ) → BreaksV1 c p → ⊥) (os : List Owne
           called_has Loaded x y (inr (j, num, act)) h = from_passed j y x (effect.Loads y) (effect.Loads x) num act
               (λ own. if_same y (fact (entry c a) (effect.Loads x))) h
 
-        effect_has : (u : Kind) (a : Area) (x : ℕ) → IsEffect c (Does c) u a x → HasFactOf a (effect_by u x)
+        effect_has : (u : EffectKind) (a : Area) (x : ℕ) → IsEffect c (Does c) u a x → HasFactOf a (effect_by u x)
         effect_has u a x e =
             effects_within c (Does c) (λ v b y. HasFactOf b (effect_by v y)) does_has child_has
             (λ v b p f up z y ss l call m h. called_has b p f up ss l call v z y m h) u a x e

@@ -15,19 +15,19 @@ use Rattle.sp_verify_rules.specs.Areas.{instr_at}
 use Rattle.sp_verify_rules.specs.Areas.{with_home}
 use Rattle.sp_verify_rules.specs.Effects.{IsCalled}
 use Rattle.sp_verify_rules.specs.KeepsCodeRules.{KeepsCodeRules}
-use Rattle.sp_verify_rules.specs.Named.{LiesIn, level_fits, is_block}
+use Rattle.sp_verify_rules.specs.NameRules.{LiesIn, level_fits, is_block}
 use Rattle.sp_verify_rules.specs.Reach.{IsArea}
 use Rattle.sp_verify_rules.specs.Shapes.{Shape}
 use Rattle.sp_verify_rules.specs.Verdict.{Inside}
-use Rattle.sp_verify_rules.proofs.Scoping.{area_drop, homes_step, inner, is_block_of}
-use Rattle.sp_verify_rules.proofs.Walking.{passes}
+use Rattle.sp_verify_rules.proofs.FrameScopes.{area_drop, homes_step, inner, is_block_of}
+use Rattle.sp_verify_rules.proofs.ShapePaths.{passes}
 use Rattle.sp_verify_areas.specs.Alone.{Marks, flag_at}
 use Rattle.sp_verify_areas.specs.Only.{LiesOnlyIn}
 use Rattle.sp_verify_shapes.specs.declared.shapes.Shapes.{Shapes}
 use Rattle.sp_verify_shapes.specs.Shapes.{AreShapes}
-use Rattle.sp_verify_shapes.specs.Reached.{reached_at}
+use Rattle.sp_verify_shapes.specs.ReachRules.{reached_at}
 use Rattle.sp_verify_shapes.specs.Stacks.{list_of}
-use Rattle.sp_verify_shapes.proofs.Reaching.{stands}
+use Rattle.sp_verify_shapes.proofs.ReachLaws.{stands}
 use Rattle.sp_verify_effects.specs.Turns.{AreInside, CallsInside, SomeCalls, inside_of, is_inside}
 
 -- ---- where a block stands among those around code

@@ -2,7 +2,7 @@
 use Rattle.std.proofs.Common.{◌≡◌, refl, ap, sym, ◌∙◌, ℕ, suc, ◌+◌, ◌-◌, ◌<◌, List, [], ◌∷◌, ◌++◌, arith}
 use Rattle.std.proofs.lemmas.List.{append_assoc}
 use Rattle.sp_verify_rules.specs.Shapes.{Shape}
-use Rattle.sp_verify_rules.specs.Touched.{topmost_variable, addresses}
+use Rattle.sp_verify_rules.specs.Touches.{topmost_variable, addresses}
 use Rattle.sp_verify_shapes.specs.declared.stacks.Shape.{Shape as Kept}
 use Rattle.sp_verify_shapes.specs.declared.stacks.Shape.TheVariants as kept
 use Rattle.sp_verify_shapes.specs.Stacks.{shape_of}

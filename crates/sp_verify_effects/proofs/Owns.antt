@@ -6,33 +6,33 @@ use Rattle.sp_code.specs.declared.instr.Instr.{Instr}
 use Rattle.sp_code.specs.declared.code.Parts.{Parts}
 use Rattle.sp_verify_rules.specs.Areas.{Area, instr_at, entry}
 use Rattle.sp_verify_rules.specs.Shapes.{Shape}
-use Rattle.sp_verify_rules.specs.Named.{LiesIn}
+use Rattle.sp_verify_rules.specs.NameRules.{LiesIn}
 use Rattle.sp_verify_rules.specs.Reach.{IsIn}
-use Rattle.sp_verify_rules.specs.Touched.{stored_by, loaded_by}
+use Rattle.sp_verify_rules.specs.Touches.{stored_by, loaded_by}
 use Rattle.sp_verify_rules.specs.Verdict.{is_stop}
-use Rattle.sp_verify_rules.proofs.Walking.{passes}
+use Rattle.sp_verify_rules.proofs.ShapePaths.{passes}
 use Rattle.sp_verify_rules.specs.Rules.{ComesTo}
 use Rattle.sp_verify_areas.specs.Only.{LiesOnlyIn}
 use Rattle.sp_code.specs.declared.code.ChildTable.{ChildTable}
 use Rattle.sp_verify_shapes.specs.declared.shapes.Shapes.{Shapes}
 use Rattle.sp_verify_shapes.specs.Shapes.{AreShapes}
-use Rattle.sp_verify_shapes.specs.Reached.{reached_at}
+use Rattle.sp_verify_shapes.specs.ReachRules.{reached_at}
 use Rattle.sp_verify_shapes.specs.Stacks.{list_of}
-use Rattle.sp_verify_shapes.proofs.Reaching.{reached_there, stands}
+use Rattle.sp_verify_shapes.proofs.ReachLaws.{reached_there, stands}
 use Rattle.std.proofs.lemmas.Option.{none-some, same_Some}
 use Rattle.sp_base.proofs.Facts.{below_or_last, not_true_and_false}
 use Rattle.sp_verify_rules.proofs.Effects.{is_member, is_in_list}
-use Rattle.sp_verify_effects.specs.declared.asked.Asked.{Asked}
+use Rattle.sp_verify_effects.specs.declared.asked_areas.Asked.{Asked}
 use Rattle.sp_verify_effects.specs.declared.facts.Fact.{Fact}
 use Rattle.sp_verify_effects.specs.declared.facts.Effect.{Effect}
 use Rattle.sp_verify_effects.specs.declared.facts.Effect.TheVariants as effect
 use Rattle.sp_verify_effects.specs.Facts.{fact, with_fact, Tells}
-use Rattle.sp_verify_effects.specs.Asked.{is_asked, is_marked}
+use Rattle.sp_verify_effects.specs.AskedAreas.{is_asked, is_marked}
 use Rattle.sp_verify_effects.specs.Own.{IsOf, IsEffectAmong, IsStop, IsHanded, OneIsHanded, ForkedAt, ReachedAt, OwnAt}
 use Rattle.sp_verify_effects.specs.Own.{AskedAt, OwnBefore, TellsAsked}
 use Rattle.sp_verify_effects.specs.Own.{DoesBy, effect_of}
-use Rattle.sp_verify_effects.proofs.Asking.{marked}
-use Rattle.sp_verify_effects.proofs.Telling.{tells_none, tells_as, tells_then, tells_one}
+use Rattle.sp_verify_effects.proofs.AreaQueries.{marked}
+use Rattle.sp_verify_effects.proofs.FactSets.{tells_none, tells_as, tells_then, tells_one}
 
 -- ---- lists
 

@@ -11,20 +11,20 @@ use Rattle.sp_code.specs.declared.code.Parts.{Parts}
 use Rattle.sp_verify_rules.specs.Areas.{Area, entry}
 use Rattle.sp_verify_rules.specs.Reach.{IsIn, IsArea}
 use Rattle.sp_verify_rules.specs.Effects.{Does, HasEffect}
-use Rattle.sp_verify_rules.specs.Named.{BreaksV1}
-use Rattle.sp_verify_effects.specs.declared.asked.Asked.{Asked}
+use Rattle.sp_verify_rules.specs.NameRules.{BreaksV1}
+use Rattle.sp_verify_effects.specs.declared.asked_areas.Asked.{Asked}
 use Rattle.sp_verify_effects.specs.declared.effects.EffectRow.{EffectRow}
 use Rattle.sp_verify_effects.specs.declared.facts.Fact.{Fact}
 use Rattle.sp_verify_effects.specs.declared.facts.Effect.{Effect}
 use Rattle.sp_verify_effects.specs.declared.facts.Effect.TheVariants as effect
-use Rattle.sp_verify_effects.specs.Asked.{Asks, AsksAll, is_asked}
+use Rattle.sp_verify_effects.specs.AskedAreas.{Asks, AsksAll, is_asked}
 use Rattle.sp_verify_effects.specs.Facts.{has_fact, fact}
 use Rattle.sp_verify_effects.specs.Effects.{InRow, RowsHave, AddsEffect, WritesFact, AreRows, IsRowOf, AreEffects}
 use Rattle.sp_verify_effects.specs.Effects.{touches}
-use Rattle.sp_verify_effects.specs.Closing.{IsEffectOf, AreFacts}
+use Rattle.sp_verify_effects.specs.FactClosure.{IsEffectOf, AreFacts}
 use Rattle.sp_verify_effects.specs.Variables.{AreOwn}
-use Rattle.sp_verify_effects.proofs.Telling.{told_place, place_told}
-use Rattle.sp_verify_effects.proofs.Linking.{entry_within}
+use Rattle.sp_verify_effects.proofs.FactSets.{told_place, place_told}
+use Rattle.sp_verify_effects.proofs.EdgeRows.{entry_within}
 
 -- ---- one row
 

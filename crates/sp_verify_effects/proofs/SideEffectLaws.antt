@@ -10,20 +10,20 @@ use Rattle.sp_code.specs.Machine.{layout_of}
 use Rattle.sp_verify_rules.specs.Areas.{Body, entry, entry_of_layout}
 use Rattle.sp_verify_rules.specs.Effects.{Does}
 use Rattle.sp_verify_rules.specs.Forks as fork
-use Rattle.sp_verify_rules.specs.Named.{BreaksV1}
+use Rattle.sp_verify_rules.specs.NameRules.{BreaksV1}
 use Rattle.sp_verify_rules.specs.Rules.{some_reference}
 use Rattle.sp_verify_rules.specs.Verdict.{BreaksV8, HasStop}
 use Rattle.sp_verify_areas.specs.LeastPlaces.{IsLeast, Upto}
 use Rattle.sp_verify_areas.proofs.Leasts.{all}
 use Rattle.sp_verify_effects.specs.declared.effects.EffectRow.{EffectRow}
 use Rattle.sp_verify_effects.specs.declared.effects.Effects.{Effects}
-use Rattle.sp_verify_effects.specs.declared.asked.Asked.{Asked}
+use Rattle.sp_verify_effects.specs.declared.asked_areas.Asked.{Asked}
 use Rattle.sp_verify_effects.specs.declared.facts.Effect.TheVariants as effect
-use Rattle.sp_verify_effects.specs.Asked.{AsksAll, is_asked}
+use Rattle.sp_verify_effects.specs.AskedAreas.{AsksAll, is_asked}
 use Rattle.sp_verify_effects.specs.Effects.{AreEffects, IsRowOf}
 use Rattle.sp_verify_effects.specs.SideEffects.{HasSideEffects, LayoutHasSideEffects, has_side_effects}
 use Rattle.sp_verify_effects.specs.Variables.{AreOwn, goes_out}
-use Rattle.sp_verify_effects.proofs.Owned.{layout_here, one_layout, out_from, out_is}
+use Rattle.sp_verify_effects.proofs.BlockVariables.{layout_here, one_layout, out_from, out_is}
 
 -- ---- one layout
 

@@ -3,8 +3,8 @@
 use Rattle.std.specs.Prelude.{◌≡◌, ◌↔◌, ℕ, List, true}
 use Rattle.sp_code.specs.declared.code.ChildTable.{ChildTable}
 use Rattle.sp_verify_rules.specs.Effects.{handed_to}
-use Rattle.sp_verify_effects.specs.declared.handed.Before.{Before}
-use Rattle.sp_verify_effects.specs.Handed.{SomeHas, moved_to}
+use Rattle.sp_verify_effects.specs.declared.child_effects.Before.{Before}
+use Rattle.sp_verify_effects.specs.ChildEffects.{SomeHas, moved_to}
 use Rattle.sp_verify_effects.specs.Sets.{has}
 
 -- of the first so many children

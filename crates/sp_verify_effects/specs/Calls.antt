@@ -13,7 +13,7 @@ use Rattle.sp_verify_rules.specs.Areas.{on_option, instr_at}
 use Rattle.sp_verify_rules.specs.Shapes.{Shape, A}
 use Rattle.sp_verify_shapes.specs.declared.shapes.Shapes.{Shapes}
 use Rattle.sp_verify_shapes.specs.declared.stacks.Stacks.{Stacks}
-use Rattle.sp_verify_shapes.specs.Reached.{reached_at}
+use Rattle.sp_verify_shapes.specs.ReachRules.{reached_at}
 use Rattle.sp_verify_shapes.specs.Stacks.{list_of}
 use Rattle.sp_verify_effects.specs.declared.effects.Effects.{Effects}
 use Rattle.sp_verify_shapes.specs.Repeats.{called_block}

@@ -7,13 +7,13 @@ use Rattle.sp_verify_rules.specs.Areas.{Area, entry}
 use Rattle.sp_verify_rules.specs.Reach.{IsIn, IsArea}
 use Rattle.sp_verify_rules.specs.Effects.{Stored, Loaded, Does, IsEffect, HasEffect, StopsBy}
 use Rattle.sp_verify_rules.specs.Verdict.{HasStop}
-use Rattle.sp_verify_effects.specs.declared.asked.Asked.{Asked}
+use Rattle.sp_verify_effects.specs.declared.asked_areas.Asked.{Asked}
 use Rattle.sp_verify_effects.specs.declared.effects.EffectRow.{EffectRow}
 use Rattle.sp_verify_effects.specs.declared.effects.Effects.{Effects}
 use Rattle.sp_verify_effects.specs.declared.facts.Fact.{Fact}
 use Rattle.sp_verify_effects.specs.declared.facts.Effect.{Effect}
 use Rattle.sp_verify_effects.specs.declared.facts.Effect.TheVariants as effect
-use Rattle.sp_verify_effects.specs.Asked.{Asks, AsksAll, is_asked}
+use Rattle.sp_verify_effects.specs.AskedAreas.{Asks, AsksAll, is_asked}
 use Rattle.sp_verify_effects.specs.Facts.{has_fact, fact}
 use Rattle.sp_verify_effects.specs.Variables.{AreOwn}
 

@@ -2,9 +2,9 @@ pub mod Facts
 pub mod Effects
 pub mod Own
 pub mod Edges
-pub mod Closing
+pub mod FactClosure
 pub mod Sets
-pub mod Handed
+pub mod ChildEffects
 pub mod Befores
 pub mod Variables
 pub mod SideEffects
@@ -12,4 +12,4 @@ pub mod Calls
 pub mod Turns
 pub mod PassContexts
 pub mod Allowances
-pub mod Asked
+pub mod AskedAreas

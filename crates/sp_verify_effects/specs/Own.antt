@@ -10,21 +10,21 @@ use Rattle.sp_code.specs.Machine.{layout_of}
 use Rattle.sp_verify_rules.specs.Areas.{Area, on_option, instr_at, child_at, variable_at, entry}
 use Rattle.sp_verify_rules.specs.Shapes.{Shape, below_topmost}
 use Rattle.sp_verify_rules.specs.Reach.{IsIn, Reaches}
-use Rattle.sp_verify_rules.specs.Touched.{stored_by, loaded_by, topmost_variable, addresses, number_list}
+use Rattle.sp_verify_rules.specs.Touches.{stored_by, loaded_by, topmost_variable, addresses, number_list}
 use Rattle.sp_verify_rules.specs.Effects.{IsStarted}
 use Rattle.sp_verify_rules.specs.Verdict.{is_stop}
-use Rattle.sp_verify_rules.specs.Named.{LiesIn}
+use Rattle.sp_verify_rules.specs.NameRules.{LiesIn}
 use Rattle.sp_verify_rules.specs.Rules.{ComesTo}
 use Rattle.sp_verify_areas.specs.declared.owners.Owner.{Owner}
 use Rattle.sp_verify_areas.specs.declared.owners.Owner.TheVariants as owner
 use Rattle.sp_verify_areas.specs.Owners.{entry_at}
-use Rattle.sp_verify_effects.specs.declared.asked.Asked.{Asked}
+use Rattle.sp_verify_effects.specs.declared.asked_areas.Asked.{Asked}
 use Rattle.sp_verify_effects.specs.declared.facts.Fact.{Fact}
 use Rattle.sp_verify_effects.specs.declared.facts.Effect.{Effect}
 use Rattle.sp_verify_effects.specs.declared.facts.Effect.TheVariants as effect
 use Rattle.sp_verify_effects.specs.declared.places.Place.{Place}
 use Rattle.sp_verify_effects.specs.declared.places.Place.TheVariants as place
-use Rattle.sp_verify_effects.specs.Asked.{is_asked}
+use Rattle.sp_verify_effects.specs.AskedAreas.{is_asked}
 use Rattle.sp_verify_effects.specs.Facts.{Tells}
 
 -- where a child begins, if there is one

@@ -1,7 +1,7 @@
 -- None of this belongs to what the program promises: it is for contracts between crates.
 -- What the passes may take for granted: the code keeps V1, and what was found of it is right.
 use Rattle.std.specs.Prelude.{ℕ}
-use Rattle.sp_verify_rules.specs.Named.{BreaksV1}
+use Rattle.sp_verify_rules.specs.NameRules.{BreaksV1}
 use Rattle.sp_verify_areas.specs.Blocks.{IsNumbered}
 use Rattle.sp_verify_areas.specs.Homes.{AreHomes}
 use Rattle.sp_verify_areas.specs.Owners.{AreOwners}

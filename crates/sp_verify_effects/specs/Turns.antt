@@ -11,13 +11,13 @@ use Rattle.sp_code.specs.declared.code.Layout.{Layout}
 use Rattle.sp_code.specs.declared.code.Parts.{Parts}
 use Rattle.sp_code.specs.Memory.{Home}
 use Rattle.sp_verify_rules.specs.Areas.{Area, homes, instr_at}
-use Rattle.sp_verify_rules.specs.Named.{is_block}
+use Rattle.sp_verify_rules.specs.NameRules.{is_block}
 use Rattle.sp_verify_rules.specs.Reach.{IsIn}
 use Rattle.sp_verify_areas.specs.Alone.{flag_at}
 use Rattle.sp_verify_areas.specs.Blocks.{number_of}
 use Rattle.sp_verify_areas.specs.Only.{LiesOnlyIn}
 use Rattle.sp_verify_shapes.specs.declared.shapes.Shapes.{Shapes}
-use Rattle.sp_verify_shapes.specs.Reached.{reached_at}
+use Rattle.sp_verify_shapes.specs.ReachRules.{reached_at}
 use Rattle.sp_verify_effects.specs.declared.effects.EffectRow.{EffectRow}
 use Rattle.sp_verify_effects.specs.declared.effects.Effects.{Effects}
 use Rattle.sp_verify_effects.specs.Variables.{LayoutDoes, goes_out}

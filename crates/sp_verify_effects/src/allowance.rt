@@ -2,7 +2,7 @@
 
 ghost use Rattle.std.specs.Prelude.{◌≡◌, IfOk, Some, true};
 ghost use Rattle.sp_verify_effects.specs.Allowances.{Fits, IsWithin, allows, loads_within, stores_within};
-ghost use Rattle.sp_verify_effects.specs.Closing.{Passes};
+ghost use Rattle.sp_verify_effects.specs.FactClosure.{Passes};
 
 use crate::edges::Edge;
 use crate::facts::Effect;

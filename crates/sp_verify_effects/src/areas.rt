@@ -6,7 +6,7 @@ ghost use Rattle.sp_verify_areas.specs.Only.{LiesOnlyIn};
 ghost use Rattle.sp_verify_effects.specs.PassContexts.{IsPassContext};
 ghost use Rattle.sp_verify_effects.specs.Own.{child_entry, entry_by};
 ghost use Rattle.sp_verify_rules.specs.Areas.{Area, child_at, entry, instr_at, table_at, table_named};
-ghost use Rattle.sp_verify_rules.specs.Named.{LiesIn};
+ghost use Rattle.sp_verify_rules.specs.NameRules.{LiesIn};
 
 use crate::pass_context::PassContext;
 use sp_code::{Code, ForkTable};

@@ -17,7 +17,7 @@ use crate::variables::owns;
 use sp_base::{List, Memory};
 use sp_code::{Formal, Layout};
 use sp_verify_areas::flags::flag_at;
-use sp_verify_shapes::reached::reached;
+use sp_verify_shapes::reach::reached;
 use sp_verify_shapes::repeats::called_block;
 use sp_verify_shapes::stacks::{Shape, Stacks};
 use std::alloc::Global;

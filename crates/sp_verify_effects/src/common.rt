@@ -3,7 +3,7 @@
 //! afterwards whether what is found is right.
 
 use crate::allowance::{Allowance, allowance_of, passes_within};
-use crate::asked::target;
+use crate::asked_areas::target;
 use crate::edges::Edge;
 use crate::have;
 use sp_base::{List, Memory};

@@ -18,7 +18,7 @@ use crate::pass_context::PassContext;
 use sp_base::{List, Memory};
 use sp_code::{ChildTable, Code, Formal, Layout};
 use sp_verify_areas::flags::flag_at;
-use sp_verify_shapes::reached::reached;
+use sp_verify_shapes::reach::reached;
 use sp_verify_shapes::repeats::called_block;
 use sp_verify_shapes::stacks::{Shape, Stacks};
 use std::alloc::Global;

@@ -6,8 +6,8 @@ ghost use Rattle.sp_verify_effects.specs.Effects.{AreEffects, AreRows, RowsHave,
 ghost use Rattle.sp_verify_effects.specs.declared.facts.Effect.{Effect as EffectOf};
 ghost use Rattle.std.specs.Option.{option_copied};
 
-use crate::asked::{Asked, asked_of};
-use crate::closing::facts_of;
+use crate::asked_areas::{Asked, asked_of};
+use crate::closure::facts_of;
 use crate::edges::edges_of;
 use crate::facts::{Effect, Fact, Facts};
 use crate::have;

@@ -4,7 +4,7 @@ ghost use Rattle.std.specs.Prelude.{◌≡◌, ℕ, ◌+◌, ◌<◌, None, Some
 ghost use Rattle.sp_verify_rules.specs.Areas.{Area, homes as homes_of, instr_at};
 ghost use Rattle.sp_verify_rules.specs.KeepsCodeRules.{KeepsCodeRules};
 ghost use Rattle.sp_verify_areas.specs.Only.{LiesOnlyIn};
-ghost use Rattle.sp_verify_shapes.specs.Reached.{reached_at};
+ghost use Rattle.sp_verify_shapes.specs.ReachRules.{reached_at};
 ghost use Rattle.sp_verify_effects.specs.PassContexts.{IsPassContext};
 ghost use Rattle.sp_verify_effects.specs.Turns.{AreInside, inside_of, is_inside};
 
@@ -14,7 +14,7 @@ use sp_base::{List, Memory};
 use sp_code::Instr;
 use sp_verify_areas::flags::{mark, no_flags};
 use sp_verify_areas::levels::is_block_outward;
-use sp_verify_shapes::reached::reached;
+use sp_verify_shapes::reach::reached;
 
 /// Whether a block that is called from so many levels inside the one around it is called inside itself.
 pub(crate) fn is_inside(g: &PassContext, p: u32, block: u32, up: u32) -> bool

@@ -18,28 +18,28 @@
 //! - Each answer is exact. The only other one is want of memory.
 //! - An area is known by its first instruction: that of no other area, where V1 is kept.
 //! - The rules ask about children, about blocks that answer or take a variable by reference, and about blocks that are
-//!   called inside themselves (`specs/Asked.antt`). What no such area comes to is not followed. `asked.rt` marks them
-//!   with no contract, and looks whether the marks are right; else all areas are followed.
+//!   called inside themselves (`specs/AskedAreas.antt`). What no such area comes to is not followed. `asked_areas.rt`
+//!   marks them with no contract, and looks whether the marks are right; else all areas are followed.
 //! - What all children are handed that come to an area is not asked about it (`allowance.rt`, `specs/Allowances.antt`):
-//!   the rule lets them do it. `common.rt` finds that with no contract, and `asked.rt` looks whether it is right.
+//!   the rule lets them do it. `common.rt` finds that with no contract, and `asked_areas.rt` looks whether it is right.
 //! - `facts.rt` is a set of facts about areas (`specs/Facts.antt`), `places.rt` and `own.rt` are what instructions do
-//!   themselves, `edges.rt` and `closing.rt` how facts go from area to area until nothing is new, `effects.rt` makes a
+//!   themselves, `edges.rt` and `closure.rt` how facts go from area to area until nothing is new, `effects.rt` makes a
 //!   table of them, with the variables of blocks (`variables.rt`).
-//! - `handed.rt` is V6; `clash.rt` is V7, with `calls.rt` (a call) and `inside.rt` (a block that is called inside
-//!   itself); `side_effects.rt` is V8. `sets.rt` serves them.
+//! - `child_effects.rt` is V6; `clash.rt` is V7, with `calls.rt` (a call) and `inside.rt` (a block that is called
+//!   inside itself); `side_effects.rt` is V8. `sets.rt` serves them.
 #![tactic(auto)]
 
 pub mod allowance;
 pub mod areas;
-pub mod asked;
+pub mod asked_areas;
 pub mod calls;
+pub mod child_effects;
 pub mod clash;
-pub mod closing;
+pub mod closure;
 pub mod common;
 pub mod edges;
 pub mod effects;
 pub mod facts;
-pub mod handed;
 pub mod inside;
 pub mod own;
 pub mod pass_context;

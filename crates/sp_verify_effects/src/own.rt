@@ -12,12 +12,12 @@ ghost use Rattle.sp_verify_effects.specs.Own.{AskedAt, DoesBy, ForkedAt, IsEffec
 ghost use Rattle.sp_verify_effects.specs.Own.{OneIsHanded, OwnBefore, ReachedAt, TellsAsked, effect_of};
 ghost use Rattle.sp_verify_effects.specs.Own.{operand_variables, variables_at};
 ghost use Rattle.sp_verify_rules.specs.Areas.{Area, entry, instr_at};
-ghost use Rattle.sp_verify_rules.specs.Touched.{topmost_variable, addresses, number_list};
+ghost use Rattle.sp_verify_rules.specs.Touches.{topmost_variable, addresses, number_list};
 ghost use Rattle.sp_verify_rules.specs.Shapes.{below_topmost};
 ghost use Rattle.sp_verify_shapes.specs.Stacks.{IsListNumber, IsStacks, list_of, shape_of};
 
 use crate::areas::{area_at, table_of};
-use crate::asked::Asked;
+use crate::asked_areas::Asked;
 use crate::facts::{Effect, Fact, Facts};
 use crate::have;
 use crate::pass_context::PassContext;
@@ -26,7 +26,7 @@ use sp_base::{List, Memory};
 use sp_code::{ChildTable, Code, Instr};
 use sp_verify_areas::flags::flag_at;
 use sp_verify_areas::homes::Found;
-use sp_verify_shapes::reached::reached;
+use sp_verify_shapes::reach::reached;
 use sp_verify_shapes::stacks::{Shape, Stacks};
 
 // Puts a variable last.

@@ -5,7 +5,7 @@ ghost use Rattle.sp_code.specs.declared.code.Parts.{Parts};
 ghost use Rattle.sp_verify_effects.specs.Own.{variables_at};
 ghost use Rattle.sp_verify_rules.specs.Areas.{Area};
 ghost use Rattle.sp_verify_rules.specs.Shapes.{Shape};
-ghost use Rattle.sp_verify_rules.specs.Touched.{stored_by, loaded_by};
+ghost use Rattle.sp_verify_rules.specs.Touches.{stored_by, loaded_by};
 ghost use Rattle.sp_verify_rules.specs.Verdict.{is_stop};
 
 use sp_code::Instr;

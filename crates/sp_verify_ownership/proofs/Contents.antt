@@ -1,6 +1,6 @@
 -- What two stores may have of one variable, and what keeps that.
 use Rattle.std.proofs.Common.{inl, inr, Option, Some, None, sym}
-use Rattle.sp_cell.specs.Held.{ShareAlike, ContentsAgree}
+use Rattle.sp_cell.specs.Holders.{ShareAlike, ContentsAgree}
 use Rattle.sp_cell.specs.Map.{Content, Own, Shared, Output, Away, IsPiece, IsOwn, cells_of}
 use Rattle.sp_verify_ownership.specs.OwnChange.{AgreesOn}
 

@@ -38,22 +38,22 @@ use Rattle.sp_verify_rules.specs.Areas.{Area, homes}
 use Rattle.sp_verify_rules.specs.Effects.{Does, May}
 use Rattle.sp_verify_rules.specs.Forks.{KeepsEffects}
 use Rattle.sp_verify_rules.specs.KeepsCodeRules.{KeepsCodeRules}
-use Rattle.sp_verify_rules.specs.Named.{Unknown}
+use Rattle.sp_verify_rules.specs.NameRules.{Unknown}
 use Rattle.sp_verify_rules.specs.Rules.{BreaksV9}
-use Rattle.sp_verify_rules.specs.Running.{HasActivations, StopInvariant}
+use Rattle.sp_verify_rules.specs.ProcessLife.{HasActivations, StopInvariant}
 use Rattle.sp_verify_rules.specs.Systems.{awaited_children, IsLive, LivesIn, Inv}
 use Rattle.sp_verify_rules.specs.Writable.{IsWritable}
-use Rattle.sp_verify_rules.proofs.Ending.{T, Room, Sent}
-use Rattle.sp_verify_rules.proofs.Verified.{live_along, enters_live, safe_where}
+use Rattle.sp_verify_rules.proofs.TurnEnds.{T, Room, Sent}
+use Rattle.sp_verify_rules.proofs.SafeRuns.{live_along, enters_live, safe_where}
 use Rattle.sp_verify_ownership.specs.Apart.{config_in, map_of, spots_moved, meaning, process_of, IsChildOf, AreApart}
 use Rattle.sp_verify_ownership.specs.Apart.{AreOlder}
 use Rattle.sp_verify_ownership.specs.OwnChange.{OwnChange}
-use Rattle.sp_verify_ownership.proofs.Becoming.{ChangesTo, becomes_apart, child_before}
+use Rattle.sp_verify_ownership.proofs.StoreChanges.{ChangesTo, becomes_apart, child_before}
 use Rattle.sp_verify_ownership.proofs.Conditions.{alike, twice, same_put}
-use Rattle.sp_verify_ownership.proofs.Joining.{ends_apart}
-use Rattle.sp_verify_ownership.proofs.Running.{Out, StopWrites, turn_stops, turn_faults}
-use Rattle.sp_verify_ownership.proofs.Splitting.{after_fork, forks_apart}
-use Rattle.sp_verify_ownership.proofs.Turning.{change_none, change_twice, change_write, change_own}
+use Rattle.sp_verify_ownership.proofs.JoinOwners.{ends_apart}
+use Rattle.sp_verify_ownership.proofs.TurnChanges.{Out, StopWrites, turn_stops, turn_faults}
+use Rattle.sp_verify_ownership.proofs.ForkOwners.{after_fork, forks_apart}
+use Rattle.sp_verify_ownership.proofs.TurnStores.{change_none, change_twice, change_write, change_own}
 
 module _ (g : CodeRun) (k : KeepsCodeRules g.code) (e : KeepsEffects g.code (Does g.code)) (known : (p : ℕ)
     → Unknown g.code p

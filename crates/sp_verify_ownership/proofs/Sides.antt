@@ -5,7 +5,7 @@ use Rattle.std.specs.Prelude.{IsSome}
 use Rattle.std.specs.List.{AllByRecursion}
 use Rattle.std.specs.FinMap as map
 use Rattle.sp_cell.specs.declared.spot.Spot.{Spot}
-use Rattle.sp_cell.specs.Held.{View, ContentsAgree, HasUniqueSpots, AgreeOnAll, IsPartition}
+use Rattle.sp_cell.specs.Holders.{View, ContentsAgree, HasUniqueSpots, AgreeOnAll, IsPartition}
 use Rattle.sp_cell.specs.Map.{Plain}
 use Rattle.sp_journal.specs.Queue.{numbers}
 use Rattle.sp_journal.specs.declared.entry.Birth.{Birth}

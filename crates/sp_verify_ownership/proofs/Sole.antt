@@ -7,7 +7,7 @@ use Rattle.std.proofs.lemmas.Bool.{cases_eq}
 use Rattle.std.proofs.lemmas.Option.{same_Some}
 use Rattle.std.specs.FinMap as map
 use Rattle.sp_cell.specs.declared.spot.Spot.{Spot}
-use Rattle.sp_cell.specs.Held.{IsNotHeld}
+use Rattle.sp_cell.specs.Holders.{IsNotHeld}
 use Rattle.sp_cell.specs.Map.{Plain, Content, Away}
 use Rattle.sp_cell.specs.Spots.{In}
 use Rattle.sp_journal.specs.declared.entry.Birth.{Birth}

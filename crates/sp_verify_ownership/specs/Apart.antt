@@ -4,7 +4,7 @@
 use Rattle.std.specs.Prelude.{◌≡◌, ◌≢◌, ◌⊎◌, ◌<◌, ℕ, List, Option, Some, None, IsSome}
 use Rattle.std.specs.FinMap as map
 use Rattle.sp_cell.specs.declared.spot.Spot.{Spot}
-use Rattle.sp_cell.specs.Held.{ContentsAgree}
+use Rattle.sp_cell.specs.Holders.{ContentsAgree}
 use Rattle.sp_cell.specs.Map.{Map, Plain, Away}
 use Rattle.sp_cell.specs.Spots.{In}
 use Rattle.sp_journal.specs.declared.entry.Birth.{Birth}

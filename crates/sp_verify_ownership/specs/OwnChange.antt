@@ -4,7 +4,7 @@
 use Rattle.std.specs.Prelude.{◌≡◌, ◌⊎◌, ℕ, List, Option, IsSome}
 use Rattle.std.specs.FinMap as map
 use Rattle.sp_cell.specs.declared.spot.Spot.{Spot}
-use Rattle.sp_cell.specs.Held.{ContentsAgree}
+use Rattle.sp_cell.specs.Holders.{ContentsAgree}
 use Rattle.sp_cell.specs.Map.{Content, Plain}
 use Rattle.sp_cell.specs.Spots.{In}
 use Rattle.sp_code.specs.Memory.{Frame}

@@ -3,7 +3,7 @@
 //!
 //! Laws:
 //! - `verified_code_is_held` (`laws`): in the system of code of proper sizes that breaks no rule, along every journal,
-//!   the stores of all processes, side by side, are a partition (`Held` of `sp_code`).
+//!   the stores of all processes, side by side, are a partition (`StoreOwners` of `sp_code`).
 //!
 //! To know:
 //! - `specs/Apart.antt` has what is kept along a journal: what a process knows is of a frame that it made, or its
@@ -11,11 +11,12 @@
 //!   agree. `specs/OwnChange.antt` says what a turn may change in the store of its process.
 //! - That a process writes only where it may is known from `Writable` of `sp_verify_rules`. A piece that is shared no
 //!   more may still stand as shared in its owner's store; `proofs/Sole.antt` shows that no other store holds it.
-//! - Of the proofs, `Turning` is one instruction and `Running` one turn, `Becoming`, `Splitting` and `Joining` are the
-//!   events, `EntriesKeepApart` the system along a journal.
+//! - Of the proofs, `TurnStores` is one instruction and `TurnChanges` one turn, `StoreChanges`, `ForkOwners` and
+//!   `JoinOwners` are the events, `EntriesKeepApart` the system along a journal.
 //!
 //! To change:
-//! - What `Held` says: `sp_cell/specs/Held.antt` and `Apart`, then `proofs/Sides.antt`, which has one from the other.
+//! - What `StoreOwners` says: `sp_cell/specs/Holders.antt` and `Apart`, then `proofs/Sides.antt`, which has one from
+//!   the other.
 #![tactic(auto)]
 
 pub mod laws;

@@ -19,7 +19,7 @@ use Rattle.sp_verify_rules.specs.Areas.{found_at}
 use Rattle.sp_verify_rules.specs.Areas.{variable_at, homes, instr_at}
 use Rattle.sp_verify_rules.specs.Chains.{variables_of, variables_in, all_variables}
 use Rattle.sp_verify_rules.specs.KeepsCodeRules.{KeepsCodeRules}
-use Rattle.sp_verify_rules.specs.Named.{is_plain, is_reference, names_well, InLayout, OfChild}
+use Rattle.sp_verify_rules.specs.NameRules.{is_plain, is_reference, names_well, InLayout, OfChild}
 use Rattle.sp_verify_rules.specs.Reach.{IsArea, IsBrought, LeadsWith, BringsShapes, Reaches, IsInCodeOf}
 use Rattle.sp_verify_rules.specs.Shapes.{Shape, O, C, L, A, Shaped, Wrong, To, instr_shapes, with_answer, take_o}
 use Rattle.sp_verify_rules.specs.Shapes.{take_c}
@@ -28,8 +28,8 @@ use Rattle.sp_verify_rules.specs.Shapes.{take_value, take_same, take_cells, take
 use Rattle.sp_verify_rules.specs.Shapes.{one_gone, two_gone, read_shapes, fill_shapes, loop_start_shapes}
 use Rattle.sp_verify_rules.specs.Shapes.{loop_end_shapes}
 use Rattle.sp_verify_rules.specs.Shapes.{address_shapes}
-use Rattle.sp_verify_rules.proofs.Scoping.{layout_variable, declared_here, member_home, index_declared, index_in}
-use Rattle.sp_verify_rules.proofs.Walking.{passes}
+use Rattle.sp_verify_rules.proofs.FrameScopes.{layout_variable, declared_here, member_home, index_declared, index_in}
+use Rattle.sp_verify_rules.proofs.ShapePaths.{passes}
 
 module _ (P : ℕ → Type 0) where
   -- each address is in a variable of P

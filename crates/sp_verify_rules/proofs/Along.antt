@@ -20,11 +20,11 @@ use Rattle.sp_code.specs.PlainStore.{plain}
 use Rattle.sp_code.specs.System.{Condition, Absent, Working, Waits, Joins, Laid, Gone, Over, frames_of, store_of}
 use Rattle.sp_code.specs.System.{on_store, after_message, parent_after_join}
 use Rattle.sp_history.proofs.Queues.{number_or, at_same, at_other}
-use Rattle.sp_verify_rules.specs.Running.{Base, HasActivations, StopInvariant}
+use Rattle.sp_verify_rules.specs.ProcessLife.{Base, HasActivations, StopInvariant}
 use Rattle.sp_verify_rules.specs.Systems.{without_first, awaited_children, IsLive, moved_to, JoinInvariant}
 use Rattle.sp_verify_rules.specs.Systems.{LivesIn, Inv}
 use Rattle.sp_verify_rules.proofs.Messages.{lives_received}
-use Rattle.sp_verify_rules.proofs.Rejoining.{lives_whole, lent_rest}
+use Rattle.sp_verify_rules.proofs.ChildEnds.{lives_whole, lent_rest}
 
 pub without_length : (q : ℕ) (xs : List ℕ) → IsMember q xs → length (without_first q xs) ≡ length xs - 1
 without_length q [] m = absurd m

@@ -13,13 +13,14 @@ use Rattle.sp_code.specs.declared.code.ChildTable.{ChildTable}
 use Rattle.sp_verify_rules.specs.Areas.{Area, Body, instr_at, child_of, table_at, table_named, leads_by}
 use Rattle.sp_verify_rules.specs.Shapes.{Shape}
 use Rattle.sp_verify_rules.specs.Reach.{nexts, IsIn}
-use Rattle.sp_verify_rules.specs.Named.{names_there, level_fits, ends_well, in_range, names_well, loops_well, has_sizes}
-use Rattle.sp_verify_rules.specs.Named.{is_program, Declared, InLayout, OfChild, IsBefore, declaration_at, LiesIn}
-use Rattle.sp_verify_rules.specs.Named.{BreaksV1}
-use Rattle.sp_verify_rules.specs.Named.{NotThere, BlocksApart, WithoutProgram, Twice, SizesDiffer, TableUnnamed}
-use Rattle.sp_verify_rules.specs.Named.{TableIndexed}
-use Rattle.sp_verify_rules.specs.Named.{TableUnknown, LevelDiffers, InTwo, EndsWrong, OutOfRange, NamedWrong}
-use Rattle.sp_verify_rules.specs.Named.{LoopsWrong}
+use Rattle.sp_verify_rules.specs.NameRules.{names_there, level_fits, ends_well, in_range, names_well, loops_well}
+use Rattle.sp_verify_rules.specs.NameRules.{has_sizes}
+use Rattle.sp_verify_rules.specs.NameRules.{is_program, Declared, InLayout, OfChild, IsBefore, declaration_at, LiesIn}
+use Rattle.sp_verify_rules.specs.NameRules.{BreaksV1}
+use Rattle.sp_verify_rules.specs.NameRules.{NotThere, BlocksApart, WithoutProgram, Twice, SizesDiffer, TableUnnamed}
+use Rattle.sp_verify_rules.specs.NameRules.{TableIndexed}
+use Rattle.sp_verify_rules.specs.NameRules.{TableUnknown, LevelDiffers, InTwo, EndsWrong, OutOfRange, NamedWrong}
+use Rattle.sp_verify_rules.specs.NameRules.{LoopsWrong}
 use Rattle.sp_verify_rules.specs.Rules.{BreaksV4, OtherLength, NoRoom, SendsAt, BreaksV9, ComesBack, IsFreePath}
 use Rattle.sp_verify_rules.specs.Rules.{free_nexts}
 use Rattle.sp_verify_rules.proofs.Rows.{main, product_as_int, only, keeps_v2, keeps_v3, keeps_v5}

@@ -12,12 +12,12 @@ use Rattle.sp_verify_rules.specs.Effects.{Does}
 use Rattle.sp_verify_rules.specs.Forks.{KeepsEffects}
 use Rattle.sp_verify_rules.specs.Forks as fork
 use Rattle.sp_verify_rules.specs.KeepsCodeRules.{KeepsCodeRules, HaveChildren, FitsTypes}
-use Rattle.sp_verify_rules.specs.Named.{Unknown, TableUnknown}
+use Rattle.sp_verify_rules.specs.NameRules.{Unknown, TableUnknown}
 use Rattle.sp_verify_rules.specs.Verdict.{V1, V2, V3, V4, V5, V6, V7, V8, V9, HasStop, IsVerified}
-use Rattle.sp_verify_rules.proofs.Kept.{keeps, distinct, formals_have_room}
-use Rattle.sp_verify_rules.proofs.Scoping.{found_layout}
+use Rattle.sp_verify_rules.proofs.Premises.{keeps, distinct, formals_have_room}
+use Rattle.sp_verify_rules.proofs.FrameScopes.{found_layout}
 use Rattle.sp_verify_rules.proofs.Unbroken.{keeps_effects}
-use Rattle.sp_verify_rules.proofs.Verified as verified
+use Rattle.sp_verify_rules.proofs.SafeRuns as verified
 
 -- what holds of all holds of each
 module _ {X : Type 0} where

@@ -27,10 +27,10 @@ use Rattle.sp_code.specs.System.{spot_of, handing_of, index_by, or_outward}
 use Rattle.sp_verify_rules.specs.Chains.{Chain, all_variables, spot_by_homes, extent_by_homes}
 use Rattle.sp_verify_rules.specs.Extents.{extent, size_in, size_at, or_further}
 use Rattle.sp_verify_rules.specs.Forks.{handed_to}
-use Rattle.sp_verify_rules.specs.Holding.{HoldsVariable, Allowed, input_spot}
+use Rattle.sp_verify_rules.specs.HeldEffects.{HoldsVariable, Allowed, input_spot}
 use Rattle.sp_verify_rules.proofs.Lists.{different_apart}
 use Rattle.sp_verify_rules.proofs.Chains.{last_up, spot_is, size_is}
-use Rattle.sp_verify_rules.proofs.Forking.{cells_of_position}
+use Rattle.sp_verify_rules.proofs.ForkSteps.{cells_of_position}
 use Rattle.sp_code.proofs.Plans.{spots_from, in_spots, out_of}
 use Rattle.sp_code.proofs.StoreLaws.{piece_cells}
 
@@ -108,7 +108,7 @@ module _ (ls : List Layout) (ha : List Home) (fs : List Frame) (chain : Chain ha
         (w.0, ap position_in (same_cells 0 q c.0 i e c.1 ∙ sym c.1) ∙ w.1)
     has_handed (suc zero) q i e w = ⊎_elim
         (λ j. subst IsOutput (sym (child_moved m h q (moved_at 1 q j e)
-        (known_of_held (map.get m q) (Rattle.sp_verify_rules.proofs.Forking.held_of_output (map.get m q) w)))) w)
+        (known_of_held (map.get m q) (Rattle.sp_verify_rules.proofs.ForkSteps.held_of_output (map.get m q) w)))) w)
         (λ j. absurd (no_output j))
         (member_either 1 t.moved t.shared i)
     has_handed (suc (suc x)) q i e w = (

@@ -26,7 +26,7 @@ use Rattle.sp_verify_rules.specs.Chains.{Chain, variables_of, variables_in, all_
 use Rattle.sp_verify_rules.specs.Chains.{extent_by_homes}
 use Rattle.sp_verify_rules.specs.Extents.{extent, extent_at, extent_by, extent_of_layout, size_in, size_at, size_of}
 use Rattle.sp_verify_rules.specs.Extents.{size_behind, or_further}
-use Rattle.sp_verify_rules.specs.Holding.{HoldsVariable, Allowed, input_spot}
+use Rattle.sp_verify_rules.specs.HeldEffects.{HoldsVariable, Allowed, input_spot}
 use Rattle.sp_verify_rules.proofs.Lists.{member_or, different_apart, place_some}
 use Rattle.sp_verify_rules.proofs.Chains.{last_up, up_length, not_here, no_extent, chain_up, stands_up, extends_up}
 use Rattle.sp_verify_rules.proofs.Chains.{spot_is}

@@ -6,23 +6,24 @@ use Rattle.sp_code.specs.declared.code.Layout.{Layout}
 use Rattle.sp_code.specs.declared.code.ChildTable.{ChildTable}
 use Rattle.sp_code.specs.declared.code.Parts.{Parts}
 use Rattle.sp_verify_rules.specs.Areas.{Area, Body, Child}
-use Rattle.sp_verify_rules.specs.Effects.{Kind, CountsAsEffect, Becomes, IsStarted, IsCalled, EffectBy, IsEffect}
+use Rattle.sp_verify_rules.specs.Effects.{EffectKind, CountsAsEffect, Becomes, IsStarted, IsCalled, EffectBy, IsEffect}
 use Rattle.sp_verify_rules.specs.Effects.{StopsBy}
 use Rattle.sp_verify_rules.specs.Shapes.{Shape}
 
-module _ (c : Parts) (Does : Kind → Area → ℕ → Type 0) where
+module _ (c : Parts) (Does : EffectKind → Area → ℕ → Type 0) where
   -- what an area does itself is an effect of it
-  pub does_effect : (u : Kind) (a : Area) (x : ℕ) → Does u a x → IsEffect c Does u a x
+  pub does_effect : (u : EffectKind) (a : Area) (x : ℕ) → Does u a x → IsEffect c Does u a x
   does_effect u a x d = record { areas = []; proof = d }
 
   -- an effect of a child is one of the area that starts it, its index aside
-  pub child_effect : (u : Kind) (a : Area) (p k x : ℕ) (t : ChildTable) → IsStarted c a p k t
+  pub child_effect : (u : EffectKind) (a : Area) (p k x : ℕ) (t : ChildTable) → IsStarted c a p k t
       → CountsAsEffect u t.index x
       → IsEffect c Does u (Child a p k) x → IsEffect c Does u a x
   child_effect u a p k x t s o e = record { areas = Child a p k ∷ e.areas; proof = inl (p, k, t, refl, s, o, e.proof) }
 
   -- an effect of a called block is one of the area that calls it, as what the variable is there
-  pub called_effect : (u : Kind) (a : Area) (p f up x y : ℕ) (ss : List Shape) (l : Layout) → IsCalled c a p f up ss l
+  pub called_effect : (u : EffectKind) (a : Area) (p f up x y : ℕ) (ss : List Shape) (l : Layout)
+      → IsCalled c a p f up ss l
       → Becomes l ss y x → IsEffect c Does u (Body f) y → IsEffect c Does u a x
   called_effect u a p f up x y ss l call b e = record {
     areas = Body f ∷ e.areas;
@@ -31,18 +32,19 @@ module _ (c : Parts) (Does : Kind → Area → ℕ → Type 0) where
   }
 
   -- a closed set has all effects
-  module _ (S : Kind → Area → ℕ → Type 0) (does : (u : Kind) (a : Area) (x : ℕ) → Does u a x → S u a x)
-      (child : (u : Kind) (a : Area) (p k x : ℕ) (t : ChildTable) → IsStarted c a p k t → CountsAsEffect u t.index x
+  module _ (S : EffectKind → Area → ℕ → Type 0) (does : (u : EffectKind) (a : Area) (x : ℕ) → Does u a x → S u a x)
+      (child : (u : EffectKind) (a : Area) (p k x : ℕ) (t : ChildTable) → IsStarted c a p k t
+      → CountsAsEffect u t.index x
       → S u (Child a p k) x → S u a x)
-      (called : (u : Kind) (a : Area) (p f up x y : ℕ) (ss : List Shape) (l : Layout) → IsCalled c a p f up ss l
+      (called : (u : EffectKind) (a : Area) (p f up x y : ℕ) (ss : List Shape) (l : Layout) → IsCalled c a p f up ss l
       → Becomes l ss y x → S u (Body f) y → S u a x) where
-    within : (bs : List Area) (u : Kind) (a : Area) (x : ℕ) → EffectBy c Does bs u a x → S u a x
+    within : (bs : List Area) (u : EffectKind) (a : Area) (x : ℕ) → EffectBy c Does bs u a x → S u a x
     within [] u a x d = does u a x d
     within (b ∷ bs) u a x (inl d) = child u a d.0 d.1 x d.2 d.4 d.5 (subst (λ z. S u z x) d.3 (within bs u b x d.6))
     within (b ∷ bs) u a x (inr d) = called u a d.0 d.1 d.2 x d.7.0 d.3 d.4 d.6 d.7.2
         (subst (λ z. S u z d.7.0) d.5 (within bs u b d.7.0 d.7.1))
 
-    pub effects_within : (u : Kind) (a : Area) (x : ℕ) → IsEffect c Does u a x → S u a x
+    pub effects_within : (u : EffectKind) (a : Area) (x : ℕ) → IsEffect c Does u a x → S u a x
     effects_within u a x e = within e.areas u a x e.proof
 
   -- and so for stops

@@ -3,7 +3,7 @@ use Rattle.std.proofs.Common.{inl, inr, [], ◌∷◌, Some, None, refl, arith}
 use Rattle.sp_code.specs.declared.code.ChildTable.{ChildTable}
 use Rattle.sp_code.specs.declared.code.Layout.{Layout}
 use Rattle.sp_verify_rules.specs.Areas.{Area, Body, Child}
-use Rattle.sp_verify_rules.specs.Clashing.{clashing_children, doubled_actuals, distant_store}
+use Rattle.sp_verify_rules.specs.EffectRows.{clashing_children, doubled_actuals, distant_store}
 use Rattle.sp_verify_rules.specs.Effects.{Stored, Does, IsEffect, IsCalled}
 use Rattle.sp_verify_rules.specs.Forks.{BreaksV6, BreaksV7}
 use Rattle.sp_verify_rules.specs.Reach.{Reaches}

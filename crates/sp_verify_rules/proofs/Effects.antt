@@ -20,20 +20,20 @@ use Rattle.sp_verify_rules.specs.Areas.{instr_at}
 use Rattle.sp_verify_rules.specs.Areas.{child_at}
 use Rattle.sp_verify_rules.specs.Areas.{child_of, table_at, table_named, index_of_child}
 use Rattle.sp_verify_rules.specs.Chains.{variables_of, variables_in, all_variables}
-use Rattle.sp_verify_rules.specs.Effects.{Kind, Stored, Loaded, CountsAsEffect, Becomes, IsStarted, IsCalled}
+use Rattle.sp_verify_rules.specs.Effects.{EffectKind, Stored, Loaded, CountsAsEffect, Becomes, IsStarted, IsCalled}
 use Rattle.sp_verify_rules.specs.Effects.{EffectBy, IsEffect}
 use Rattle.sp_verify_rules.specs.Effects.{HasEffect, handed_to, does_at, handed_as, Does, Granted, May}
 use Rattle.sp_verify_rules.specs.Forks.{KeepsEffects}
 use Rattle.sp_verify_rules.specs.KeepsCodeRules.{KeepsCodeRules}
-use Rattle.sp_verify_rules.specs.Named.{Names, Unknown, is_block, is_in, is_loop_variable, is_plain, has_variable}
-use Rattle.sp_verify_rules.specs.Named.{some_has}
-use Rattle.sp_verify_rules.specs.Named.{level_fits, loops_well}
+use Rattle.sp_verify_rules.specs.NameRules.{Names, Unknown, is_block, is_in, is_loop_variable, is_plain, has_variable}
+use Rattle.sp_verify_rules.specs.NameRules.{some_has}
+use Rattle.sp_verify_rules.specs.NameRules.{level_fits, loops_well}
 use Rattle.sp_verify_rules.specs.Reach.{IsIn, IsArea}
 use Rattle.sp_verify_rules.specs.Shapes.{Shape, O, C, L, A, below_topmost}
-use Rattle.sp_verify_rules.specs.Touched.{stored_by, loaded_by, topmost_variable, addresses, number_list}
+use Rattle.sp_verify_rules.specs.Touches.{stored_by, loaded_by, topmost_variable, addresses, number_list}
 use Rattle.sp_verify_rules.proofs.Addresses.{AllP, addresses_around, found_around}
-use Rattle.sp_verify_rules.proofs.Scoping.{found_layout, area_drop, homes_step, is_block_of, inner}
-use Rattle.sp_verify_rules.proofs.Walking.{passes}
+use Rattle.sp_verify_rules.proofs.FrameScopes.{found_layout, area_drop, homes_step, is_block_of, inner}
+use Rattle.sp_verify_rules.proofs.ShapePaths.{passes}
 
 pub is_member : (x : ℕ) (ys : List ℕ) → IsIn x ys → IsMember x ys
 is_member x [] h = h
@@ -222,7 +222,7 @@ module _ (c : Parts) (k : KeepsCodeRules c) (e : KeepsEffects c (Does c)) (known
 
   -- ---- effects are around
 
-  does_around : (u : Kind) (a : Area) (x : ℕ) → IsArea c a → Does c u a x → (x < 2) ⊎ Around a x
+  does_around : (u : EffectKind) (a : Area) (x : ℕ) → IsArea c a → Does c u a x → (x < 2) ⊎ Around a x
   does_around u a x area (inl d) = go u d.3
     where
       p : ℕ
@@ -241,13 +241,13 @@ module _ (c : Parts) (k : KeepsCodeRules c) (e : KeepsEffects c (Does c)) (known
           → Around a f.number
       found var f s w = found_around c k a 0 var f s (inl (first_true (is_plain f.naming) (f.cells == 1) w))
 
-      go : (v : Kind) → IsIn x (does_at c v a p ss) → (x < 2) ⊎ Around a x
+      go : (v : EffectKind) → IsIn x (does_at c v a p ss) → (x < 2) ⊎ Around a x
       go Stored m = stored_p (Around a) c a found ss all x (instr_at c p) loops m
       go Loaded m = loaded_p (Around a) c a found ss all x (instr_at c p) m
   does_around u a x area (inr d) = ⊎_elim (λ (l : x < 2). inl l)
       (λ (r : 2 ≤ x). inr (handed_around a d.0 d.1 x d.2 area d.3 (handed u d.4) r)) (below_two_or_not x)
     where
-      handed : (v : Kind) → IsMember x (handed_as c v d.2) → IsMember x (handed_to d.2)
+      handed : (v : EffectKind) → IsMember x (handed_as c v d.2) → IsMember x (handed_to d.2)
       handed Stored m = member_front x d.2.moved d.2.shared m
       handed Loaded m = member_back x d.2.moved d.2.shared m
 
@@ -255,7 +255,8 @@ module _ (c : Parts) (k : KeepsCodeRules c) (e : KeepsEffects c (Does c)) (known
   area_of_child a p j t area s = (area, s.0, (t, s.1))
 
   -- an effect of a child that is none of its index
-  not_index : (u : Kind) (a : Area) (p j x y : ℕ) (t : ChildTable) → IsArea c (Child a p j) → child_at c p j ≡ Some t
+  not_index : (u : EffectKind) (a : Area) (p j x y : ℕ) (t : ChildTable) → IsArea c (Child a p j)
+      → child_at c p j ≡ Some t
       → t.index ≡ Some y → CountsAsEffect u t.index x → IsEffect c (Does c) u (Child a p j) x → x ≡ y → ⊥
   not_index Stored a p j x y t area at is o f s = nothing
       (subst (IsMember x) (e.no_moves a p j t area at (subst (λ z. IsSome z) (sym is) refl))
@@ -265,7 +266,8 @@ module _ (c : Parts) (k : KeepsCodeRules c) (e : KeepsEffects c (Does c)) (known
       nothing m = m
   not_index Loaded a p j x y t area at is o f s = subst (λ z. CountsAsEffect Loaded z x) is o s
 
-  pub around : (bs : List Area) (u : Kind) (a : Area) (x : ℕ) → IsArea c a → EffectBy c (Does c) bs u a x → (x < 2)
+  pub around : (bs : List Area) (u : EffectKind) (a : Area) (x : ℕ) → IsArea c a → EffectBy c (Does c) bs u a x
+      → (x < 2)
       ⊎ Around a x
   around [] u a x area d = does_around u a x area d
   around (b ∷ bs) u a x area (inl d) = ⊎_elim (λ (l : x < 2). inl l)

@@ -15,8 +15,8 @@ use Rattle.sp_code.specs.Machine.{Entry, MemoryResult, Done, Failed}
 use Rattle.sp_code.specs.Memory.{CodeRun, Stores, Memory, memory, has_cells, with_store, bytes_in, memory_after_call}
 use Rattle.sp_verify_rules.specs.Shapes.{span}
 use Rattle.sp_verify_rules.specs.Extents.{HasWhole}
-use Rattle.sp_verify_rules.specs.Standing.{Points}
-use Rattle.sp_verify_rules.specs.Named.{is_some}
+use Rattle.sp_verify_rules.specs.InstructionFacts.{Points}
+use Rattle.sp_verify_rules.specs.NameRules.{is_some}
 
 -- what a test found
 pub found : {T : Type 0} (o : Option T) → is_some o ≡ true → (x : T) × (o ≡ Some x)

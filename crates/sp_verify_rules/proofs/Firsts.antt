@@ -18,10 +18,10 @@ use Rattle.sp_verify_rules.specs.Areas.{child_at}
 use Rattle.sp_verify_rules.specs.Areas.{around_layout}
 use Rattle.sp_verify_rules.specs.Areas.{child_of, table_at, table_named, index_of_child, entry_of_child, leads_by}
 use Rattle.sp_verify_rules.specs.Reach.{IsArea, IsInCodeOf}
-use Rattle.sp_verify_rules.specs.Standing.{Framed, RefersWell, ProcessAt, ProcessStands, ForksAt}
+use Rattle.sp_verify_rules.specs.InstructionFacts.{Framed, RefersWell, ProcessAt, ProcessStands, ForksAt}
 use Rattle.sp_verify_rules.specs.KeepsCodeRules.{KeepsCodeRules}
 use Rattle.sp_verify_rules.proofs.Chains.{last_up}
-use Rattle.sp_verify_rules.proofs.Scoping.{found_layout, programs, none_homes, leads_of, homes_of_block_nodes}
+use Rattle.sp_verify_rules.proofs.FrameScopes.{found_layout, programs, none_homes, leads_of, homes_of_block_nodes}
 
 module _ (c : Parts) (k : KeepsCodeRules c) where
   -- the program's frame

@@ -20,9 +20,9 @@ use Rattle.sp_code.specs.Memory.{Home, Frame}
 use Rattle.sp_code.specs.PlainStore.{plain, is_away, none_away}
 use Rattle.sp_code.proofs.Members.{above_members, member_above}
 use Rattle.sp_verify_rules.specs.Chains.{Chain}
-use Rattle.sp_verify_rules.specs.Holding.{Allowed, AllAllowed, AreOwn, Holding, input_spot}
-use Rattle.sp_verify_rules.proofs.Forking.{has_held}
-use Rattle.sp_verify_rules.proofs.Keeping.{KeepsLengths, all_keeps, keeps_same}
+use Rattle.sp_verify_rules.specs.HeldEffects.{Allowed, AllAllowed, AreOwn, Holding, input_spot}
+use Rattle.sp_verify_rules.proofs.ForkSteps.{has_held}
+use Rattle.sp_verify_rules.proofs.StoreLaws.{KeepsLengths, all_keeps, keeps_same}
 
 -- ---- lists of numbers
 

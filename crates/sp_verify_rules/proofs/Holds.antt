@@ -25,13 +25,13 @@ use Rattle.sp_code.specs.System.{spot_of}
 use Rattle.sp_verify_rules.specs.Areas.{Area, Body, homes, block_homes, instr_at}
 use Rattle.sp_verify_rules.specs.Shapes.{Shape, O, C, L, A}
 use Rattle.sp_verify_rules.specs.Reach.{IsIn, IsArea, Reaches}
-use Rattle.sp_verify_rules.specs.Touched.{stored_by}
-use Rattle.sp_verify_rules.specs.Standing.{Points, HasShape, ProcessAt}
+use Rattle.sp_verify_rules.specs.Touches.{stored_by}
+use Rattle.sp_verify_rules.specs.InstructionFacts.{Points, HasShape, ProcessAt}
 use Rattle.sp_verify_rules.specs.Rules as rule
 use Rattle.sp_verify_rules.specs.KeepsCodeRules.{KeepsCodeRules}
-use Rattle.sp_verify_rules.specs.Named.{LiesIn, is_block, level_fits}
-use Rattle.sp_verify_rules.proofs.Scoping.{is_block_of, homes_step, inner, area_drop, found_layout}
-use Rattle.sp_verify_rules.proofs.Walking.{passes}
+use Rattle.sp_verify_rules.specs.NameRules.{LiesIn, is_block, level_fits}
+use Rattle.sp_verify_rules.proofs.FrameScopes.{is_block_of, homes_step, inner, area_drop, found_layout}
+use Rattle.sp_verify_rules.proofs.ShapePaths.{passes}
 use Rattle.sp_verify_rules.proofs.Turns.{all_fit}
 use Rattle.sp_verify_rules.proofs.Pieces.{filled_keeps}
 use Rattle.std.proofs.lemmas.Bool.{eq-eqb, ne_eqb, and_parts}
@@ -41,10 +41,10 @@ use Rattle.sp_verify_rules.specs.Changes.{Pairs, areas, areas_of, Target, Change
 use Rattle.sp_verify_rules.specs.Changes.{ReadsItem, Skips}
 use Rattle.sp_verify_rules.specs.Changes.{Prints, MakesOwn, Calls, Returns}
 use Rattle.sp_verify_rules.specs.Effects.{IsActual}
-use Rattle.sp_verify_rules.specs.Holding.{Allowed, Holding, input_spot}
-use Rattle.sp_verify_rules.specs.Running.{Base, HasConsole, IsLast, HasActivations, Aims}
+use Rattle.sp_verify_rules.specs.HeldEffects.{Allowed, Holding, input_spot}
+use Rattle.sp_verify_rules.specs.ProcessLife.{Base, HasConsole, IsLast, HasActivations, Aims}
 use Rattle.sp_verify_rules.proofs.Holdings.{head, holding_set, holding_pop}
-use Rattle.sp_verify_rules.proofs.Keeping.{keeps_input, keeps_output}
+use Rattle.sp_verify_rules.proofs.StoreLaws.{keeps_input, keeps_output}
 use Rattle.sp_verify_rules.proofs.Messages.{lives_with, lives_opened, lives_received, t}
 use Rattle.sp_verify_rules.proofs.Pushes.{KeepsCalls, holding_push}
 use Rattle.sp_history.proofs.Outputs.{output_known}

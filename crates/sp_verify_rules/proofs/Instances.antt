@@ -22,23 +22,24 @@ use Rattle.sp_code.specs.PlainStore.{plain}
 use Rattle.sp_code.specs.System.{child_process, child_or, table_or}
 use Rattle.sp_verify_rules.specs.Areas.{Area, Body, Child, homes, with_home, child_at, child_of, index_of_child}
 use Rattle.sp_verify_rules.specs.Chains.{variables_of, variables_in, all_variables}
-use Rattle.sp_verify_rules.specs.Effects.{Kind, Stored, Loaded, IsActual, IsStarted, IsCalled, IsEffect, HasEffect}
+use Rattle.sp_verify_rules.specs.Effects.{EffectKind, Stored, Loaded, IsActual, IsStarted, IsCalled, IsEffect}
+use Rattle.sp_verify_rules.specs.Effects.{HasEffect}
 use Rattle.sp_verify_rules.specs.Effects.{handed_to}
 use Rattle.sp_verify_rules.specs.Effects.{does_at, Does, Granted, May}
 use Rattle.sp_verify_rules.specs.Forks.{KeepsEffects}
 use Rattle.sp_verify_rules.specs.KeepsCodeRules.{KeepsCodeRules}
-use Rattle.sp_verify_rules.specs.Named.{Unknown, begins_with, formals_cells, answer_cells}
+use Rattle.sp_verify_rules.specs.NameRules.{Unknown, begins_with, formals_cells, answer_cells}
 use Rattle.sp_verify_rules.specs.Reach.{IsIn, IsArea, IsInCodeOf, Reaches}
-use Rattle.sp_verify_rules.specs.Running.{IsChild, ForkInvariant, table_of}
+use Rattle.sp_verify_rules.specs.ProcessLife.{IsChild, ForkInvariant, table_of}
 use Rattle.sp_verify_rules.specs.Shapes.{Shape, O, C, L, A}
-use Rattle.sp_verify_rules.specs.Standing.{ForksAt}
-use Rattle.sp_verify_rules.specs.Touched.{addresses, stored_by}
+use Rattle.sp_verify_rules.specs.InstructionFacts.{ForksAt}
+use Rattle.sp_verify_rules.specs.Touches.{addresses, stored_by}
 use Rattle.sp_verify_rules.proofs.Addresses.{addresses_around, around_real}
 use Rattle.sp_verify_rules.proofs.Effects.{effects_around, may_effect, called_homes, handed_around, at_p}
 use Rattle.sp_code.specs.Tables.{child_at as table_child, child_by, first_index}
 use Rattle.sp_verify_rules.proofs.Pieces.{HaveRoom}
 use Rattle.sp_verify_rules.proofs.Pushes.{KeepsCalls}
-use Rattle.sp_verify_rules.proofs.Scoping.{found_layout, area_different}
+use Rattle.sp_verify_rules.proofs.FrameScopes.{found_layout, area_different}
 
 -- ---- lists
 
@@ -72,7 +73,7 @@ room_for k (formal.Reference n ∷ fs) ys (z ∷ zs) size b h =
 
 module _ (c : Parts) (k : KeepsCodeRules c) (e : KeepsEffects c (Does c)) (known : (p : ℕ) → Unknown c p → ⊥) where
   -- what an instruction that is reached stores, loads or selects the activation may touch
-  pub may_do : (u : Kind) (a : Area) (p x : ℕ) (ss : List Shape) → IsArea c a → Reaches c a p ss
+  pub may_do : (u : EffectKind) (a : Area) (p x : ℕ) (ss : List Shape) → IsArea c a → Reaches c a p ss
       → IsIn x (does_at c u a p ss) → May c a x
   may_do Stored a p x ss area r m = may_effect c k e known a x area
       (inl (record { areas = []; proof = inl (p, ss, r, m) }))
@@ -112,7 +113,7 @@ module _ (c : Parts) (k : KeepsCodeRules c) (e : KeepsEffects c (Does c)) (known
             (subst (λ o. IsIn x (Rattle.sp_verify_rules.specs.Areas.on_option [] o
             (λ (m : Layout). addresses (length m.formals) ss))) (sym call.layout) there)
 
-    pub outer_effect : (u : Kind) (y : ℕ) → IsEffect c (Does c) u (Body b) y → (IsMember y l.variables → ⊥)
+    pub outer_effect : (u : EffectKind) (y : ℕ) → IsEffect c (Does c) u (Body b) y → (IsMember y l.variables → ⊥)
         → IsEffect c (Does c) u a y
     outer_effect u y f n = record {
       areas = Body b ∷ f.areas;

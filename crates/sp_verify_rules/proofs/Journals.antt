@@ -16,12 +16,12 @@ use Rattle.sp_code.specs.Memory.{CodeRun, Home, Memory}
 use Rattle.sp_code.specs.PlainStore.{plain}
 use Rattle.sp_code.specs.System.{Condition, Absent, Working, Joins, frames_of, on_store, handing_of, child_process}
 use Rattle.sp_code.specs.System.{plan_of}
-use Rattle.sp_verify_rules.specs.Running.{Base, HasActivations, ForkInvariant, table_of}
+use Rattle.sp_verify_rules.specs.ProcessLife.{Base, HasActivations, ForkInvariant, table_of}
 use Rattle.sp_verify_rules.specs.Systems.{awaited_children, IsLive, JoinInvariant, LivesIn, Inv}
 use Rattle.sp_history.proofs.Orders.{next_is, next_not, next_past, next_yes}
 use Rattle.sp_history.proofs.Queues.{number_or, at_same, at_other, numbers_length}
 use Rattle.sp_verify_rules.proofs.Along.{fine_alike}
-use Rattle.sp_verify_rules.proofs.Forked.{child_base, child_lives, joins_well}
+use Rattle.sp_verify_rules.proofs.ForkChildren.{child_base, child_lives, joins_well}
 
 numbers_have : (a n q : ℕ) → a ≤ q → q < a + n → IsMember q (numbers a n)
 numbers_have a zero q l h = absurd (omega (arith, l, h))

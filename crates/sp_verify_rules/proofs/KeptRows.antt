@@ -9,15 +9,16 @@ use Rattle.sp_code.specs.declared.code.Layout.{Layout}
 use Rattle.sp_code.specs.declared.code.ChildTable.{ChildTable}
 use Rattle.sp_code.specs.declared.instr.Instr.TheVariants as i
 use Rattle.sp_verify_rules.specs.Areas.{Area, Body, Child, child_at, instr_at}
-use Rattle.sp_verify_rules.specs.Clashing.{doubly_moved}
-use Rattle.sp_verify_rules.specs.Effects.{Kind, Stored, Loaded, CountsAsEffect, IsStarted, IsCalled, Becomes, Does}
+use Rattle.sp_verify_rules.specs.EffectRows.{doubly_moved}
+use Rattle.sp_verify_rules.specs.Effects.{EffectKind, Stored, Loaded, CountsAsEffect, IsStarted, IsCalled, Becomes}
+use Rattle.sp_verify_rules.specs.Effects.{Does}
 use Rattle.sp_verify_rules.specs.Effects.{IsEffect, does_at}
 use Rattle.sp_verify_rules.specs.Effects.{handed_to}
 use Rattle.sp_verify_rules.specs.Forks.{KeepsEffects}
 use Rattle.sp_verify_rules.specs.Reach.{IsIn, IsArea, IsBrought, IsInCodeOf, Reaches, LeadsInSteps, nexts}
 use Rattle.sp_verify_rules.specs.Shapes.{Shape, O, A}
 use Rattle.sp_verify_rules.proofs.EffectLaws.{effects_within}
-use Rattle.sp_verify_rules.proofs.Tabled.{is_closed, reached_in}
+use Rattle.sp_verify_rules.proofs.ShapeTables.{is_closed, reached_in}
 
 abbrev first : ChildTable
 first = record { entry = 2; moved = 2 ∷ []; shared = []; index = None }
@@ -160,7 +161,7 @@ each_two P a b c d p ss r = go (reached_in doubly_moved (Child (Body 0) 0 1) two
     go (inr (inr (inr (inr z)))) = absurd z
 
 -- a closed set: the first child stores variable 2 alone, the second one variable 3 alone, and they load nothing
-abbrev Set : Kind → Area → ℕ → Type 0
+abbrev Set : EffectKind → Area → ℕ → Type 0
 Set Stored (Child (Body zero) zero zero) x = x ≡ 2
 Set Stored (Child (Body zero) zero (suc zero)) x = x ≡ 3
 Set Loaded (Child (Body zero) zero zero) x = ⊥
@@ -171,7 +172,7 @@ alone : (x y : ℕ) → IsIn x (y ∷ []) → x ≡ y
 alone x y (inl e) = e
 alone x y (inr z) = absurd z
 
-set_does : (u : Kind) (a : Area) (x : ℕ) → Does doubly_moved u a x → Set u a x
+set_does : (u : EffectKind) (a : Area) (x : ℕ) → Does doubly_moved u a x → Set u a x
 set_does Stored (Child (Body zero) zero zero) x (inl d) = each_one
     (λ p ss. IsIn x (does_at doubly_moved Stored (Child (Body 0) 0 0) p ss)
     → x ≡ 2) (λ m. absurd m) (λ m. absurd m) (λ m. alone x 2 m) (λ m. absurd m) d.0 d.1 d.2 d.3
@@ -190,7 +191,7 @@ set_does Loaded (Child (Body zero) zero (suc zero)) x (inl d) = each_two
 set_does Loaded (Child (Body zero) zero (suc zero)) x (inr d) = none_two d.0 d.1 d.2 d.3
 set_does u a x d = tt
 
-set_child : (u : Kind) (a : Area) (p k x : ℕ) (t : ChildTable) → IsStarted doubly_moved a p k t
+set_child : (u : EffectKind) (a : Area) (p k x : ℕ) (t : ChildTable) → IsStarted doubly_moved a p k t
     → CountsAsEffect u t.index x
     → Set u (Child a p k) x → Set u a x
 set_child Stored (Child (Body zero) zero zero) p k x t s o h = absurd (none_one p k t s)
@@ -207,7 +208,8 @@ no_call_two : (p f up : ℕ) (ss : List Shape) (l : Layout) → IsCalled doubly_
 no_call_two p f up ss l c = each_two (λ q ts. instr_at doubly_moved q ≡ Some (i.Call f up)
     → ⊥) (λ e. cc e) (λ e. cc e) (λ e. cc e) (λ e. cc e) p ss c.reached c.call
 
-set_called : (u : Kind) (a : Area) (p f up x y : ℕ) (ss : List Shape) (l : Layout) → IsCalled doubly_moved a p f up ss l
+set_called : (u : EffectKind) (a : Area) (p f up x y : ℕ) (ss : List Shape) (l : Layout)
+    → IsCalled doubly_moved a p f up ss l
     → Becomes l ss y x → Set u (Body f) y → Set u a x
 set_called Stored (Child (Body zero) zero zero) p f up x y ss l c b h = absurd (no_call_one p f up ss l c)
 set_called Stored (Child (Body zero) zero (suc zero)) p f up x y ss l c b h = absurd (no_call_two p f up ss l c)
@@ -215,7 +217,7 @@ set_called Loaded (Child (Body zero) zero zero) p f up x y ss l c b h = no_call_
 set_called Loaded (Child (Body zero) zero (suc zero)) p f up x y ss l c b h = no_call_two p f up ss l c
 set_called u a p f up x y ss l c b h = tt
 
-in_set : (u : Kind) (a : Area) (x : ℕ) → IsEffect doubly_moved (Does doubly_moved) u a x → Set u a x
+in_set : (u : EffectKind) (a : Area) (x : ℕ) → IsEffect doubly_moved (Does doubly_moved) u a x → Set u a x
 in_set = effects_within doubly_moved (Does doubly_moved) Set set_does set_child set_called
 
 -- ---- its areas are the program and the two children

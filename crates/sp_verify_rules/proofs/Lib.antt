@@ -1,23 +1,23 @@
 pub mod Lists
 mod Chains
 mod Calls
-mod Forking
+mod ForkSteps
 mod Births
-mod Keeping
+mod StoreLaws
 pub mod Pieces
 mod Holdings
 mod Pushes
 mod Messages
-mod Rejoining
-mod Forked
+mod ChildEnds
+mod ForkChildren
 mod Along
 mod Journals
 mod Safety
-mod Taking
+mod OperandLaws
 mod Facts
 mod Turns
-pub mod Walking
-pub mod Scoping
+pub mod ShapePaths
+pub mod FrameScopes
 mod Addresses
 mod Unbroken
 pub mod Effects
@@ -26,18 +26,18 @@ mod Instances
 pub mod Readiness
 pub mod Safe
 mod Holds
-pub mod Writing
-pub mod Ending
-pub mod Ranked
-pub mod Kept
-mod Opening
-pub mod Verified
+pub mod WriteLaws
+pub mod TurnEnds
+pub mod RankLaws
+pub mod Premises
+mod FirstProcess
+pub mod SafeRuns
 mod EffectRows
 pub mod Assembly
-mod Answering
+mod FunctionStops
 pub mod EffectLaws
 pub mod Rows
-mod Tabled
+mod ShapeTables
 mod KeptRows
 mod AnswerRow
 mod AnswerForks

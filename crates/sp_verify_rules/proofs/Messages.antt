@@ -18,10 +18,10 @@ use Rattle.sp_code.specs.Sound.{CanPut}
 use Rattle.sp_code.specs.System.{spot_of, on_store}
 use Rattle.sp_code.proofs.StoreLaws.{held_of_cells}
 use Rattle.sp_verify_rules.specs.Extents.{extent}
-use Rattle.sp_verify_rules.specs.Holding.{Allowed, input_spot}
-use Rattle.sp_verify_rules.specs.Running.{Base, HasConsole, HasActivations, Aims}
+use Rattle.sp_verify_rules.specs.HeldEffects.{Allowed, input_spot}
+use Rattle.sp_verify_rules.specs.ProcessLife.{Base, HasConsole, HasActivations, Aims}
 use Rattle.sp_verify_rules.proofs.Holdings.{head, holding_set}
-use Rattle.sp_verify_rules.proofs.Keeping.{keeps_put}
+use Rattle.sp_verify_rules.proofs.StoreLaws.{keeps_put}
 
 pub overwritten_length : (xs ys : List Cell) (o : ℕ) → o + length ys ≤ length xs
     → length (splice xs o ys) ≡ length xs

@@ -22,10 +22,10 @@ use Rattle.sp_code.specs.Memory.{Home, OfBlock, Frame, frames_up, references, re
 use Rattle.sp_code.specs.PlainStore.{plain, piece_of}
 use Rattle.sp_code.specs.System.{spot_of}
 use Rattle.sp_verify_rules.specs.Chains.{Chain, all_variables}
-use Rattle.sp_verify_rules.specs.Holding.{Allowed, AllAllowed, Holding, input_spot}
+use Rattle.sp_verify_rules.specs.HeldEffects.{Allowed, AllAllowed, Holding, input_spot}
 use Rattle.sp_verify_rules.proofs.Calls.{chain_new, callee}
 use Rattle.sp_verify_rules.proofs.Holdings.{head, rebound, next_low}
-use Rattle.sp_verify_rules.proofs.Keeping.{all_keeps, keeps_same}
+use Rattle.sp_verify_rules.proofs.StoreLaws.{all_keeps, keeps_same}
 use Rattle.sp_code.proofs.Pieces.{pieces_other, pieces_at}
 use Rattle.sp_verify_rules.proofs.Pieces.{HasLength, HaveRoom, filled_sized, filled_keeps}
 

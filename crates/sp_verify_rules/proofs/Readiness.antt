@@ -22,18 +22,18 @@ use Rattle.sp_verify_rules.specs.Chains.{Chain, variables_of, spot_by_homes, ext
 use Rattle.sp_verify_rules.specs.Effects.{Stored, Loaded, Does, May}
 use Rattle.sp_verify_rules.specs.Extents.{HasWhole, extent_of_layout, extent_at, extent_by, size_of, or_further}
 use Rattle.sp_verify_rules.specs.Forks.{KeepsEffects}
-use Rattle.sp_verify_rules.specs.Holding.{Allowed, Holding, input_spot}
+use Rattle.sp_verify_rules.specs.HeldEffects.{Allowed, Holding, input_spot}
 use Rattle.sp_verify_rules.specs.KeepsCodeRules.{KeepsCodeRules}
-use Rattle.sp_verify_rules.specs.Named.{Unknown, begins_with, formals_cells, answer_cells}
+use Rattle.sp_verify_rules.specs.NameRules.{Unknown, begins_with, formals_cells, answer_cells}
 use Rattle.sp_verify_rules.specs.Reach.{IsIn, IsArea, Reaches}
-use Rattle.sp_verify_rules.specs.Running.{Base, HasConsole, HasActivations}
+use Rattle.sp_verify_rules.specs.ProcessLife.{Base, HasConsole, HasActivations}
 use Rattle.sp_verify_rules.specs.Shapes.{Shape}
-use Rattle.sp_verify_rules.specs.Touched.{stored_by, loaded_by, touched_by, HasAnswer}
+use Rattle.sp_verify_rules.specs.Touches.{stored_by, loaded_by, touched_by, HasAnswer}
 use Rattle.sp_verify_rules.proofs.Chains.{spot_is, size_is}
 use Rattle.sp_verify_rules.proofs.Holdings.{head, next_low, may_go}
 use Rattle.sp_verify_rules.proofs.Instances.{may_do}
 use Rattle.sp_verify_rules.proofs.Lists.{place_some}
-use Rattle.sp_verify_rules.proofs.Scoping.{found_layout}
+use Rattle.sp_verify_rules.proofs.FrameScopes.{found_layout}
 
 pub in_split : (x : ℕ) (ys zs : List ℕ) → IsIn x (ys ++ zs) → IsIn x ys ⊎ IsIn x zs
 in_split x [] zs h = inr h
@@ -57,7 +57,7 @@ answer_size [] [] b = absurd (cc b)
 answer_size [] (z ∷ zs) b = ap Some (sym (eqb-true 1 z (and_parts (1 == z) true b).0))
 answer_size (g ∷ fs) [] b = absurd (cc b)
 answer_size (g ∷ fs) (z ∷ zs) b = answer_size fs zs
-    (and_parts (Rattle.sp_verify_rules.specs.Named.formal_cells g == z) (begins_with (formals_cells fs
+    (and_parts (Rattle.sp_verify_rules.specs.NameRules.formal_cells g == z) (begins_with (formals_cells fs
     ++ answer_cells true) zs) b).1
 
 none_behind : {X : Type 0} (fs : List X) → slice_get fs (length fs) ≡ None

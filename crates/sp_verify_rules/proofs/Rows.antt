@@ -11,12 +11,12 @@ use Rattle.sp_code.specs.declared.code.Parts.{Parts}
 use Rattle.sp_verify_rules.specs.Areas.{Area, Body, Child, instr_at, child_of, table_at, table_named}
 use Rattle.sp_verify_rules.specs.Shapes.{Shape, O, A, Wrong, instr_shapes, stays_within}
 use Rattle.sp_verify_rules.specs.Reach.{IsArea, IsInCodeOf, Reaches, Arrives}
-use Rattle.sp_verify_rules.specs.Named.{BreaksV1, OutOfRange}
+use Rattle.sp_verify_rules.specs.NameRules.{BreaksV1, OutOfRange}
 use Rattle.sp_verify_rules.specs.Rules.{BreaksV2, LacksOperand, BreaksV3, PassesLeft, BreaksV5, NoFit}
 use Rattle.sp_verify_rules.specs.Rules.{AnswersByReference}
 use Rattle.sp_verify_rules.specs.Rules.{BreaksV9}
 use Rattle.sp_verify_rules.specs.Rules.{ComesBack, call_fits}
-use Rattle.sp_verify_rules.proofs.Tabled.{is_closed, never_wrong, reached_passes, one_shape}
+use Rattle.sp_verify_rules.proofs.ShapeTables.{is_closed, never_wrong, reached_passes, one_shape}
 
 -- the program's frame has one variable of one cell
 abbrev pub main : Layout

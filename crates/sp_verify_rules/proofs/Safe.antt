@@ -7,15 +7,15 @@ use Rattle.sp_code.specs.Turns.{RunsIn, IsSafe, Stopped, Runs}
 use Rattle.sp_code.specs.Ranks.{RanksFall, IsRankedAlong}
 use Rattle.sp_code.specs.Memory.{CodeRun, Stores, Memory, memory}
 use Rattle.sp_verify_rules.specs.Areas.{Area, instr_at}
-use Rattle.sp_verify_rules.specs.Touched.{MemorySuffices}
-use Rattle.sp_verify_rules.specs.Standing.{ProcessAt, StoppedAt}
+use Rattle.sp_verify_rules.specs.Touches.{MemorySuffices}
+use Rattle.sp_verify_rules.specs.InstructionFacts.{ProcessAt, StoppedAt}
 use Rattle.sp_verify_rules.specs.Changes.{areas, areas_of, Changes, Well, IsHere}
 use Rattle.sp_verify_rules.specs.Rules.{BreaksV9}
 use Rattle.sp_verify_rules.specs.KeepsCodeRules.{KeepsCodeRules}
 use Rattle.sp_verify_rules.proofs.Turns.{fine}
-use Rattle.sp_verify_rules.proofs.Scoping.{scoped}
-use Rattle.sp_verify_rules.proofs.Walking.{here, passes}
-use Rattle.sp_verify_rules.proofs.Ranked.{ranked_at}
+use Rattle.sp_verify_rules.proofs.FrameScopes.{scoped}
+use Rattle.sp_verify_rules.proofs.ShapePaths.{here, passes}
+use Rattle.sp_verify_rules.proofs.RankLaws.{ranked_at}
 
 module _ {S : Type 0} (stores : Stores S) (g : CodeRun) (k : KeepsCodeRules g.code) where
   -- what a process at p that stands so needs

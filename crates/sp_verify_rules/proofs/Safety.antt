@@ -32,14 +32,14 @@ use Rattle.sp_code.specs.System.{system_after_turn, opening_system, EntryLeads, 
 use Rattle.sp_code.specs.System.{IsSystem}
 use Rattle.sp_code.specs.Ranks.{IsRankedAlong}
 use Rattle.sp_code.specs.Turns.{Turn, Stopped, Faulted, IsTurn, IsSafe}
-use Rattle.sp_verify_rules.specs.Running.{Base, HasActivations, StopInvariant}
+use Rattle.sp_verify_rules.specs.ProcessLife.{Base, HasActivations, StopInvariant}
 use Rattle.sp_verify_rules.specs.Systems.{awaited_children, IsLive, JoinInvariant, LivesIn, Inv}
 use Rattle.sp_verify_rules.proofs.Along.{becomes_ok, meets_ok, ends_ok}
-use Rattle.sp_verify_rules.proofs.Forked.{splits}
+use Rattle.sp_verify_rules.proofs.ForkChildren.{splits}
 use Rattle.sp_verify_rules.proofs.Holdings.{next_low}
 use Rattle.sp_verify_rules.proofs.Journals.{forks_ok}
 use Rattle.sp_verify_rules.proofs.Messages.{lives_opened, lives_received, can_put}
-use Rattle.sp_verify_rules.proofs.Rejoining.{can_join}
+use Rattle.sp_verify_rules.proofs.ChildEnds.{can_join}
 
 first_none : (f h : Option Fault) → first_fault f h ≡ None → h ≡ None
 first_none None h e = e
@@ -81,7 +81,7 @@ module _ (g : CodeRun) {Area : Type 0} (H : Area → List Home) (E : Area → �
         (n : Memory Plain) → HasActivations g H E T b us (At pc st n) → T us (At pc st n) → HasNextFrame n.store
     room_of b us pc st n l t =
         let w = next_low g.code.layouts H E
-        (Rattle.sp_verify_rules.specs.Running.HasConsole g H E T b.area) us n.frames n.depth n.store l.holding in
+        (Rattle.sp_verify_rules.specs.ProcessLife.HasConsole g H E T b.area) us n.frames n.depth n.store l.holding in
         let d = t_deep us (At pc st n) t in
         omega (arith, w, d)
 

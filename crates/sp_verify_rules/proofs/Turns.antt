@@ -50,21 +50,22 @@ use Rattle.sp_verify_rules.specs.Shapes.{loop_start_shapes}
 use Rattle.sp_verify_rules.specs.Shapes.{loop_end_shapes, read_shapes, fill_shapes}
 use Rattle.sp_verify_rules.specs.Reach.{IsIn, IsArea, Reaches}
 use Rattle.sp_verify_rules.specs.Extents.{HasWhole}
-use Rattle.sp_verify_rules.specs.Touched.{MemorySuffices, HasAnswer, stored_by, topmost_variable, number_list}
-use Rattle.sp_verify_rules.specs.Touched.{addresses}
-use Rattle.sp_verify_rules.specs.Standing.{Points, HasShape, Operands, Framed, RefersWell, Refers, Caller, link_of}
-use Rattle.sp_verify_rules.specs.Standing.{IsBottom}
-use Rattle.sp_verify_rules.specs.Standing.{Under, ProcessAt, StoppedAt, StopsSo, ForksAt, cells_left}
-use Rattle.sp_verify_rules.specs.Named.{is_plain, is_reference, is_block, is_loop_variable, names_there, level_fits}
-use Rattle.sp_verify_rules.specs.Named.{ends_well}
-use Rattle.sp_verify_rules.specs.Named.{names_well, loops_well}
+use Rattle.sp_verify_rules.specs.Touches.{MemorySuffices, HasAnswer, stored_by, topmost_variable, number_list}
+use Rattle.sp_verify_rules.specs.Touches.{addresses}
+use Rattle.sp_verify_rules.specs.InstructionFacts.{Points, HasShape, Operands, Framed, RefersWell, Refers, Caller}
+use Rattle.sp_verify_rules.specs.InstructionFacts.{link_of}
+use Rattle.sp_verify_rules.specs.InstructionFacts.{IsBottom}
+use Rattle.sp_verify_rules.specs.InstructionFacts.{Under, ProcessAt, StoppedAt, StopsSo, ForksAt, cells_left}
+use Rattle.sp_verify_rules.specs.NameRules.{is_plain, is_reference, is_block, is_loop_variable, names_there, level_fits}
+use Rattle.sp_verify_rules.specs.NameRules.{ends_well}
+use Rattle.sp_verify_rules.specs.NameRules.{names_well, loops_well}
 use Rattle.sp_verify_rules.specs.Rules as rule
 use Rattle.sp_verify_rules.specs.Changes.{Pairs, areas, areas_of, Target, Changes, Unchanged, Ticks, PutsCell, Copies}
 use Rattle.sp_verify_rules.specs.Changes.{ReadsItem, Skips}
 use Rattle.sp_verify_rules.specs.Changes.{Prints, MakesOwn, Calls, Returns, Well}
-use Rattle.sp_verify_rules.proofs.Taking.{LeadsToReached, number, channel, address, value, cells, equals, popped}
-use Rattle.sp_verify_rules.proofs.Taking.{is_there as is_found}
-use Rattle.sp_verify_rules.proofs.Taking.{holds, done, yields, ordinal, channel_of, both}
+use Rattle.sp_verify_rules.proofs.OperandLaws.{LeadsToReached, number, channel, address, value, cells, equals, popped}
+use Rattle.sp_verify_rules.proofs.OperandLaws.{is_there as is_found}
+use Rattle.sp_verify_rules.proofs.OperandLaws.{holds, done, yields, ordinal, channel_of, both}
 use Rattle.sp_verify_rules.proofs.Facts.{found, found_some, in_span, part_length}
 use Rattle.sp_verify_rules.proofs.Facts.{has_left as has_cells_left, reaches, here, size_here, beat_frames}
 use Rattle.sp_verify_rules.proofs.Facts.{print_frames}

@@ -6,7 +6,7 @@ use Rattle.sp_code.specs.declared.code.Layout.{Layout}
 use Rattle.sp_code.specs.declared.code.ChildTable.{ChildTable}
 use Rattle.sp_code.specs.declared.code.Parts.{Parts}
 use Rattle.sp_verify_rules.specs.Areas.{Area, Child, child_at}
-use Rattle.sp_verify_rules.specs.Effects.{Kind, IsCalled, handed_to}
+use Rattle.sp_verify_rules.specs.Effects.{EffectKind, IsCalled, handed_to}
 use Rattle.sp_verify_rules.specs.Forks.{BreaksV6, BreaksV7, KeepsEffects}
 use Rattle.sp_verify_rules.specs.Reach.{IsArea}
 use Rattle.sp_verify_rules.specs.Shapes.{Shape}
@@ -17,7 +17,7 @@ different_or [] = inl tt
 different_or (x ∷ xs) = ⊎_elim (λ m. inr (λ d. d.0 m))
     (λ n. ⊎_elim (λ d. inl (n, d)) (λ e. inr (λ d. e d.1)) (different_or xs)) (member_or x xs)
 
-module _ (c : Parts) (Does : Kind → Area → ℕ → Type 0) (Stops : Area → Type 0)
+module _ (c : Parts) (Does : EffectKind → Area → ℕ → Type 0) (Stops : Area → Type 0)
     (six : (a : Area) (p k : ℕ) (t : ChildTable) → IsArea c (Child a p k) → child_at c p k ≡ Some t
     → BreaksV6 c Does Stops a p k t → ⊥)
     (seven : (a : Area) (p b up : ℕ) (ss : List Shape) (l : Layout) → IsArea c a → IsCalled c a p b up ss l

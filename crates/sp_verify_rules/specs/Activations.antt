@@ -17,7 +17,7 @@ use Rattle.sp_verify_rules.specs.Areas.{Area, Body, instr_at}
 use Rattle.sp_verify_rules.specs.Changes.{areas}
 use Rattle.sp_verify_rules.specs.Effects.{IsCalled}
 use Rattle.sp_verify_rules.specs.Shapes.{Shape}
-use Rattle.sp_verify_rules.specs.Standing.{ProcessAt}
+use Rattle.sp_verify_rules.specs.InstructionFacts.{ProcessAt}
 use Rattle.sp_verify_rules.specs.Verdict.{is_stop}
 
 module _ (c : Parts) where

@@ -15,8 +15,8 @@ use Rattle.sp_code.specs.Memory.{CodeRun, Stores, Frame, Memory, memory, with_st
 use Rattle.sp_verify_rules.specs.Areas.{Area, Body}
 use Rattle.sp_verify_rules.specs.Shapes.{Shape}
 use Rattle.sp_verify_rules.specs.Reach.{IsIn}
-use Rattle.sp_verify_rules.specs.Touched.{stored_by}
-use Rattle.sp_verify_rules.specs.Standing.{Points, HasShape, Caller, ProcessAt, StoppedAt}
+use Rattle.sp_verify_rules.specs.Touches.{stored_by}
+use Rattle.sp_verify_rules.specs.InstructionFacts.{Points, HasShape, Caller, ProcessAt, StoppedAt}
 use Rattle.sp_verify_rules.specs.Rules.{fit_formals, lowest_first}
 
 -- entries are of these shapes, one by one

@@ -12,16 +12,16 @@ use Rattle.sp_code.specs.Machine.{layout_of}
 use Rattle.sp_verify_rules.specs.Areas.{Area, Body, Child, instr_at, child_at}
 use Rattle.sp_verify_rules.specs.Shapes.{Shape, A}
 use Rattle.sp_verify_rules.specs.Reach.{IsIn, IsInCodeOf, Reaches}
-use Rattle.sp_verify_rules.specs.Touched.{stored_by, loaded_by}
+use Rattle.sp_verify_rules.specs.Touches.{stored_by, loaded_by}
 use Rattle.sp_verify_rules.specs.Chains.{variables_of}
 
 -- an effect stores a variable, or loads it
-pub data Kind : Type 0 where
-  Stored : Kind
-  Loaded : Kind
+pub data EffectKind : Type 0 where
+  Stored : EffectKind
+  Loaded : EffectKind
 
 -- the index of a forall is no effect of the code around it, unless it is stored
-abbrev pub CountsAsEffect : Kind → Option ℕ → ℕ → Type 0
+abbrev pub CountsAsEffect : EffectKind → Option ℕ → ℕ → Type 0
 CountsAsEffect Stored index x = Unit {0}
 CountsAsEffect Loaded None x = Unit {0}
 CountsAsEffect Loaded (Some y) x = x ≡ y → ⊥
@@ -56,9 +56,9 @@ module _ (c : Parts) where
     pub call : instr_at c p ≡ Some (i.Call b up)
     pub layout : layout_of c.layouts b ≡ Some l
 
-  module _ (Does : Kind → Area → ℕ → Type 0) where
+  module _ (Does : EffectKind → Area → ℕ → Type 0) where
     -- along these areas, each a child that the one before it starts or a block that it calls, code stores or loads x
-    abbrev pub EffectBy : List Area → Kind → Area → ℕ → Type 0
+    abbrev pub EffectBy : List Area → EffectKind → Area → ℕ → Type 0
     EffectBy [] e a x = Does e a x
     EffectBy (b ∷ bs) e a x =
         ((p k : ℕ) × (t : ChildTable) × (b ≡ Child a p k) × IsStarted a p k t × CountsAsEffect e t.index x
@@ -67,7 +67,7 @@ module _ (c : Parts) where
         × ((y : ℕ) × EffectBy bs e b y × Becomes l ss y x))
 
     -- x is an effect of the area
-    pub record IsEffect (e : Kind) (a : Area) (x : ℕ) : Type 0 where
+    pub record IsEffect (e : EffectKind) (a : Area) (x : ℕ) : Type 0 where
       pub areas : List Area
       pub proof : EffectBy areas e a x
 
@@ -87,17 +87,17 @@ module _ (c : Parts) where
 module _ (c : Parts) where
   -- what the instruction at p does to variables. Selecting within a variable counts as loading it, though the machine
   -- asks for no cell there: what uses the address does
-  abbrev pub does_at : Kind → Area → ℕ → List Shape → List ℕ
+  abbrev pub does_at : EffectKind → Area → ℕ → List Shape → List ℕ
   does_at Stored a p ss = stored_by c a (instr_at c p) ss
   does_at Loaded a p ss = loaded_by c a (instr_at c p) ss
 
   -- what a fork moves counts as stored, what it shares as loaded
-  abbrev pub handed_as : Kind → ChildTable → List ℕ
+  abbrev pub handed_as : EffectKind → ChildTable → List ℕ
   handed_as Stored t = t.moved
   handed_as Loaded t = t.shared
 
   -- code of the area itself stores or loads x
-  abbrev pub Does : Kind → Area → ℕ → Type 0
+  abbrev pub Does : EffectKind → Area → ℕ → Type 0
   Does e a x = ((p : ℕ) × (ss : List Shape) × Reaches c a p ss × IsIn x (does_at e a p ss))
       ⊎ ((p k : ℕ) × (t : ChildTable) × IsStarted c a p k t × IsMember x (handed_as e t))
 

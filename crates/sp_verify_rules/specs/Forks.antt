@@ -9,7 +9,7 @@ use Rattle.sp_verify_rules.specs.Areas.{Area, Body, Child, child_at, block_of}
 use Rattle.sp_verify_rules.specs.Shapes.{Shape}
 use Rattle.sp_verify_rules.specs.Reach.{IsArea}
 pub use Rattle.sp_verify_rules.specs.Effects.{handed_to}
-use Rattle.sp_verify_rules.specs.Effects.{Kind, Stored, Loaded, CountsAsEffect, IsActual, IsCalled, IsEffect}
+use Rattle.sp_verify_rules.specs.Effects.{EffectKind, Stored, Loaded, CountsAsEffect, IsActual, IsCalled, IsEffect}
 use Rattle.sp_verify_rules.specs.Effects.{HasEffect, StopsBy}
 
 -- a variable that moves to one child is handed to the other
@@ -22,7 +22,7 @@ Clash s t = (x : ℕ) × ((IsMember x s.moved × IsMember x (handed_to t))
 abbrev pub IsIllHanded : ChildTable → Type 0
 IsIllHanded t = (AllDifferent (handed_to t) → ⊥) ⊎ (IsMember 1 t.shared ⊎ (IsSome t.index × (t.moved ≢ [])))
 
-module _ (c : Parts) (Does : Kind → Area → ℕ → Type 0) (Stops : Area → Type 0) where
+module _ (c : Parts) (Does : EffectKind → Area → ℕ → Type 0) (Stops : Area → Type 0) where
   -- what a child stores is not moved to it; what it loads is not handed to it, nor its index
   abbrev pub StoresMore : Area → ChildTable → Type 0
   StoresMore a t = (x : ℕ) × IsEffect c Does Stored a x × (IsMember x t.moved → ⊥)
@@ -64,7 +64,7 @@ module _ (c : Parts) (Does : Kind → Area → ℕ → Type 0) (Stops : Area →
 
 -- ---- code that keeps V6 and V7, said as what holds
 
-pub record KeepsEffects (c : Parts) (Does : Kind → Area → ℕ → Type 0) : Type 0 where
+pub record KeepsEffects (c : Parts) (Does : EffectKind → Area → ℕ → Type 0) : Type 0 where
   -- what a child stores is moved to it; what it loads is handed to it, or its index
   pub stored : (a : Area) (p k x : ℕ) (t : ChildTable) → IsArea c (Child a p k) → child_at c p k ≡ Some t
       → IsEffect c Does Stored (Child a p k) x → IsMember x t.moved

@@ -10,9 +10,10 @@ use Rattle.sp_code.specs.declared.code.Parts.{Parts}
 use Rattle.sp_code.specs.Machine.{layout_of}
 use Rattle.sp_verify_rules.specs.Areas.{Area, instr_at, leads_by}
 use Rattle.sp_verify_rules.specs.Shapes.{Shape, Wrong, instr_shapes, stays_within}
-use Rattle.sp_verify_rules.specs.Standing.{IsSent, IsReceived}
-use Rattle.sp_verify_rules.specs.Named.{IsLayout, LiesIn, names_there, level_fits, ends_well, names_well, loops_well}
-use Rattle.sp_verify_rules.specs.Named.{has_sizes, is_program, Declared, declaration_at, Names, IsChild}
+use Rattle.sp_verify_rules.specs.InstructionFacts.{IsSent, IsReceived}
+use Rattle.sp_verify_rules.specs.NameRules.{IsLayout, LiesIn, names_there, level_fits, ends_well, names_well}
+use Rattle.sp_verify_rules.specs.NameRules.{loops_well}
+use Rattle.sp_verify_rules.specs.NameRules.{has_sizes, is_program, Declared, declaration_at, Names, IsChild}
 use Rattle.sp_verify_rules.specs.Rules.{ComesTo, call_fits}
 
 pub record KeepsCodeRules (c : Parts) : Type 0 where

@@ -12,8 +12,8 @@ use Rattle.sp_code.specs.Machine.{layout_of}
 use Rattle.sp_verify_rules.specs.Areas.{Area, on_option, instr_at}
 use Rattle.sp_verify_rules.specs.Shapes.{Shape, O, C, L, A, Wrong, instr_shapes, stays_within}
 use Rattle.sp_verify_rules.specs.Reach.{IsIn, IsArea, Reaches, Arrives, nexts}
-use Rattle.sp_verify_rules.specs.Standing.{message_cells, cells_left}
-use Rattle.sp_verify_rules.specs.Named.{IsLayout, LiesIn}
+use Rattle.sp_verify_rules.specs.InstructionFacts.{message_cells, cells_left}
+use Rattle.sp_verify_rules.specs.NameRules.{IsLayout, LiesIn}
 
 -- an operand fits a formal
 abbrev pub fits_formal : Formal → Shape → Bool

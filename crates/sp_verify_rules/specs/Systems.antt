@@ -14,7 +14,7 @@ use Rattle.sp_code.specs.Memory.{CodeRun, Home, Frame, Memory}
 use Rattle.sp_code.specs.System.{Condition, Absent, Working, Waits, Joins, Gone, Over, spot_of, frames_of}
 use Rattle.sp_code.specs.System.{store_of, on_store}
 use Rattle.sp_verify_rules.specs.Extents.{extent}
-use Rattle.sp_verify_rules.specs.Running.{Base, HasActivations, StopInvariant}
+use Rattle.sp_verify_rules.specs.ProcessLife.{Base, HasActivations, StopInvariant}
 
 -- a list without the first q
 abbrev pub without_first : ℕ → List ℕ → List ℕ

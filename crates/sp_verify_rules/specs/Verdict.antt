@@ -11,7 +11,7 @@ use Rattle.sp_code.specs.Memory.{OfBlock}
 use Rattle.sp_verify_rules.specs.Areas.{Area, Child, instr_at, child_at, block_homes}
 use Rattle.sp_verify_rules.specs.Shapes.{Shape}
 use Rattle.sp_verify_rules.specs.Reach.{IsArea, Reaches}
-use Rattle.sp_verify_rules.specs.Named.{BreaksV1, IsLayout}
+use Rattle.sp_verify_rules.specs.NameRules.{BreaksV1, IsLayout}
 use Rattle.sp_verify_rules.specs.Rules.{BreaksV2, BreaksV3, BreaksV4, BreaksV5, BreaksV9}
 use Rattle.sp_verify_rules.specs.Effects.{Does, IsCalled}
 use Rattle.sp_verify_rules.specs.Forks as fork

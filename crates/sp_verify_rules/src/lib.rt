@@ -17,10 +17,10 @@
 //! - The other files of `specs/` are what the proof is made of: what one process has at an instruction (`Standing`),
 //!   what its activations hold (`Extents`, `Holding`, `Running`), where they write (`Writable`), and what all processes
 //!   hold along a journal (`Systems`).
-//! - Of the proofs, `Turns` has one instruction, `Scoping` the resolution of variables, `Kept` what follows where no
-//!   rule is broken, `Ranked` the ranks from V9, `Writing` where a process writes, `Safe` and `Ending` a turn,
-//!   `Forking`, `Births`, `Rejoining` and `Messages` the events, `Safety` the system along a journal, `Assembly` the
-//!   law.
+//! - Of the proofs, `Turns` has one instruction, `FrameScopes` the resolution of variables, `Premises` what follows
+//!   where no rule is broken, `RankLaws` the ranks from V9, `WriteLaws` where a process writes, `Safe` and `TurnEnds`
+//!   a turn, `ForkSteps`, `Births`, `ChildEnds` and `Messages` the events, `Safety` the system along a journal,
+//!   `Assembly` the law.
 //! - `proofs/Rows`, `AnswerRow` and `AnswerForks` have a code that keeps all rules and neighbours of it that break one,
 //!   `EffectRows` codes that break V6 or V7, `KeptRows` a code with a fork that keeps V6 and V7.
 //!
@@ -28,22 +28,22 @@
 //! - `Lists`: lists of numbers, frames and their ends.
 //! - `Pieces`: a new frame with its arguments: each variable of it has a piece of its cells, and no other spot
 //!   changes.
-//! - `Walking`: ways with shapes are ways: what is reached lies in the area.
-//! - `Scoping`: names lead to frames: where the rules hold, an address by level and number stands in the variable
+//! - `ShapePaths`: ways with shapes are ways: what is reached lies in the area.
+//! - `FrameScopes`: names lead to frames: where the rules hold, an address by level and number stands in the variable
 //!   that is found there, and a called block has the frames around it.
 //! - `Effects`: the effects of an area are variables around it, and an activation of the area may touch them.
 //! - `Firsts`: a process begins where it stands: the first one, and each child of a fork.
 //! - `Readiness`: a process that lives has what its next instruction needs of the memory.
 //! - `Safe`: the turn of a process that stands and holds what its effects ask for lacks nothing, makes the ranks
 //!   fall, and stops as it should.
-//! - `Writing`: what an activation of verified code may store stands where its process may write, and each
+//! - `WriteLaws`: what an activation of verified code may store stands where its process may write, and each
 //!   instruction keeps that.
-//! - `Ending`: the turn of a process of verified code: it lacks nothing, and where it stops the process lives and
+//! - `TurnEnds`: the turn of a process of verified code: it lacks nothing, and where it stops the process lives and
 //!   its stop is as it should be.
-//! - `Ranked`: where no instruction of an area lies on a way back to itself without a tick or a call, each such way
+//! - `RankLaws`: where no instruction of an area lies on a way back to itself without a tick or a call, each such way
 //!   makes the rank fall.
-//! - `Kept`: where no rule is broken at any instruction, what the theorem asks for holds.
-//! - `Verified`: code that keeps the rules runs safely: along every journal no turn lacks anything, each fork, join
+//! - `Premises`: where no rule is broken at any instruction, what the theorem asks for holds.
+//! - `SafeRuns`: code that keeps the rules runs safely: along every journal no turn lacks anything, each fork, join
 //!   and message can be carried out.
 //! - `Assembly`: code that breaks no rule is sound.
 //! - `EffectLaws`: laws of effects, for who computes them: a set that is closed under what code does, starts and
@@ -52,9 +52,8 @@
 //!   V2 or V9, by computing.
 //!
 //! To change:
-//! - A rule: its file of `specs/`, its point in `KeepsCodeRules` or `Forks`, and of the proofs `Kept`, `Unbroken` or
-//!   `Ranked`;
-//!   then the pass that looks for it, in `sp_verify_areas`, `sp_verify_shapes` or `sp_verify_effects`.
+//! - A rule: its file of `specs/`, its point in `KeepsCodeRules` or `Forks`, and of the proofs `Premises`, `Unbroken`
+//!   or `RankLaws`; then the pass that looks for it, in `sp_verify_areas`, `sp_verify_shapes` or `sp_verify_effects`.
 #![tactic(auto)]
 
 pub mod laws;

@@ -12,8 +12,8 @@ use Rattle.sp_verify_rules.specs.Shapes.{take_none}
 use Rattle.sp_verify_rules.specs.Shapes.{instr_shapes}
 use Rattle.sp_verify_rules.specs.Shapes.{with_answer}
 use Rattle.sp_verify_rules.specs.Reach.{IsIn, LeadsWith, nexts}
-use Rattle.sp_verify_shapes.specs.declared.plans.Kind.{Kind}
-use Rattle.sp_verify_shapes.specs.declared.plans.Kind.TheVariants as kind
+use Rattle.sp_verify_shapes.specs.declared.plans.OperandKind.{OperandKind}
+use Rattle.sp_verify_shapes.specs.declared.plans.OperandKind.TheVariants as kind
 use Rattle.sp_verify_shapes.specs.declared.plans.Takes.{Takes}
 use Rattle.sp_verify_shapes.specs.declared.plans.Takes.TheVariants as takes
 use Rattle.sp_verify_shapes.specs.declared.plans.Successor.{Successor}
@@ -120,7 +120,7 @@ module _ (q : ℕ) (ts : List Shape) where
   plainly : (go : ℕ → ℕ → List Shape → Shaped) → Led q ts (go 0 0) → LedWith go
   plainly go h = (0, 0, h.0, h.1)
 
-  led_one : (k : Kind) (ss : List Shape) (go : ℕ → ℕ → List Shape → Shaped) → LeadsWith (take_one k ss go) q ts
+  led_one : (k : OperandKind) (ss : List Shape) (go : ℕ → ℕ → List Shape → Shaped) → LeadsWith (take_one k ss go) q ts
       → LedWith go
   led_one kind.Ordinal ss go h = plainly go (led_o ss (go 0 0) h)
   led_one kind.Channel ss go h = plainly go (led_c ss (go 0 0) h)

@@ -1,14 +1,14 @@
-mod Stacking
+mod ListNumbers
 mod Forms
 mod Takings
-mod Stepping
+mod FormSteps
 mod Ways
-mod Searching
-mod Comparing
+mod SearchLaws
+mod ListComparison
 mod SearchSteps
-mod Starting
-mod Closing
-pub mod Reaching
-pub mod Repeating
+mod AreaEntries
+mod SearchEnds
+pub mod ReachLaws
+pub mod CallRepeats
 mod Formals
-mod Measuring
+mod MessageLengths

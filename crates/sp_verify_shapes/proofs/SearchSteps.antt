@@ -10,7 +10,7 @@ use Rattle.sp_code.specs.declared.code.Parts.{Parts}
 use Rattle.sp_verify_rules.specs.Areas.{Area, instr_at}
 use Rattle.sp_verify_rules.specs.Shapes.{Shape, Shaped, Wrong, To, instr_shapes}
 use Rattle.sp_verify_rules.specs.Reach.{IsBrought, IsWhole, LeadsWith, Arrives}
-use Rattle.sp_verify_rules.specs.Named.{LiesIn}
+use Rattle.sp_verify_rules.specs.NameRules.{LiesIn}
 use Rattle.sp_verify_rules.specs.Rules.{ArrivesAt}
 use Rattle.sp_verify_areas.specs.Only.{LiesOnlyIn}
 use Rattle.sp_verify_shapes.specs.declared.stacks.Stacks.{Stacks}
@@ -28,8 +28,8 @@ use Rattle.sp_verify_shapes.specs.Search.{Unknown, IsWrongStep}
 use Rattle.sp_verify_shapes.specs.Search.{BringsOn, WalksOne}
 use Rattle.sp_verify_shapes.specs.Search.{AreStepped, IsSane, is_set, with_arrival}
 use Rattle.sp_verify_shapes.proofs.Ways.{only_in, lies}
-use Rattle.sp_verify_shapes.proofs.Searching.{Moves, among_last, among_left, among_or, one_list}
-use Rattle.sp_verify_shapes.proofs.Searching.{table_covers, closed_stays}
+use Rattle.sp_verify_shapes.proofs.SearchLaws.{Moves, among_last, among_left, among_or, one_list}
+use Rattle.sp_verify_shapes.proofs.SearchLaws.{table_covers, closed_stays}
 
 -- ---- what waits, and what is brought
 

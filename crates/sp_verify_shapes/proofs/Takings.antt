@@ -6,10 +6,10 @@ use Rattle.sp_verify_rules.specs.Shapes.{Shape, Shaped, take_all}
 use Rattle.sp_verify_shapes.specs.declared.stacks.Jump.{Jump}
 use Rattle.sp_verify_shapes.specs.declared.stacks.Stacks.{Stacks}
 use Rattle.sp_verify_shapes.specs.declared.plans.Takes.TheVariants as takes
-use Rattle.sp_verify_shapes.specs.declared.taking.TakeResult.{TakeResult}
+use Rattle.sp_verify_shapes.specs.declared.operands.TakeResult.{TakeResult}
 use Rattle.sp_verify_shapes.specs.Stacks.{IsJump, IsListNumber, list_of}
 use Rattle.sp_verify_shapes.specs.Plans.{take}
-use Rattle.sp_verify_shapes.specs.Taking.{IsTaken}
+use Rattle.sp_verify_shapes.specs.Remainders.{IsTaken}
 
 -- of so many some are taken, so many are left to be taken, and this is the rest
 pub record AreGone (st : Stacks) (n count left rest : ℕ) : Type 0 where

@@ -13,10 +13,10 @@ use Rattle.sp_verify_rules.specs.Areas.{entry_of_child}
 use Rattle.sp_verify_rules.specs.Areas.{entry_of_layout}
 use Rattle.sp_verify_rules.specs.Shapes.{Shape, instr_shapes}
 use Rattle.sp_verify_rules.specs.Reach.{IsIn, IsArea, LeadsInSteps, BringsShapes, LeadsWith, nexts}
-use Rattle.sp_verify_rules.specs.Named.{LiesIn, NotThere, InTwo, names_there}
+use Rattle.sp_verify_rules.specs.NameRules.{LiesIn, NotThere, InTwo, names_there}
 use Rattle.sp_verify_rules.specs.Rules.{ArrivesAt}
 use Rattle.sp_verify_areas.specs.Only.{LiesOnlyIn}
-use Rattle.sp_verify_areas.proofs.Owned.{layout_in}
+use Rattle.sp_verify_areas.proofs.OwnerClosure.{layout_in}
 use Rattle.sp_verify_shapes.specs.Search.{KeepsV1}
 use Rattle.sp_verify_shapes.proofs.Forms.{leads_in}
 

@@ -9,10 +9,10 @@ use Rattle.sp_code.specs.declared.instr.Instr.TheVariants as i
 use Rattle.sp_code.specs.declared.code.Parts.{Parts}
 use Rattle.sp_verify_rules.specs.Areas.{on_option, instr_at}
 use Rattle.sp_verify_rules.specs.Shapes.{Shape}
-use Rattle.sp_verify_rules.specs.Standing.{message_cells, cells_left}
+use Rattle.sp_verify_rules.specs.InstructionFacts.{message_cells, cells_left}
 use Rattle.sp_verify_shapes.specs.declared.shapes.Shapes.{Shapes}
 use Rattle.sp_verify_shapes.specs.declared.messages.Message.{Message}
-use Rattle.sp_verify_shapes.specs.Reached.{shapes_at}
+use Rattle.sp_verify_shapes.specs.ReachRules.{shapes_at}
 
 -- ---- messages
 

@@ -1,10 +1,10 @@
 pub mod Stacks
 pub mod Plans
-pub mod Taking
+pub mod Remainders
 pub mod Steps
 pub mod Search
 pub mod Starts
 pub mod Shapes
-pub mod Reached
+pub mod ReachRules
 pub mod Repeats
 pub mod Lengths

@@ -12,8 +12,8 @@ use Rattle.sp_verify_rules.specs.Shapes.{take_same}
 use Rattle.sp_verify_rules.specs.Shapes.{take_cells, take_all}
 use Rattle.sp_verify_shapes.specs.declared.stacks.Shape.{Shape as Kept}
 use Rattle.sp_verify_shapes.specs.declared.stacks.Shape.TheVariants as kept
-use Rattle.sp_verify_shapes.specs.declared.plans.Kind.{Kind}
-use Rattle.sp_verify_shapes.specs.declared.plans.Kind.TheVariants as kind
+use Rattle.sp_verify_shapes.specs.declared.plans.OperandKind.{OperandKind}
+use Rattle.sp_verify_shapes.specs.declared.plans.OperandKind.TheVariants as kind
 use Rattle.sp_verify_shapes.specs.declared.plans.Takes.{Takes}
 use Rattle.sp_verify_shapes.specs.declared.plans.Takes.TheVariants as takes
 use Rattle.sp_verify_shapes.specs.declared.plans.Leaves.{Leaves}
@@ -54,7 +54,7 @@ read_plan s = record { takes = takes.One kind.Address; leaves = leaves.One s; go
 abbrev pub fill_plan : Plan
 fill_plan = record { takes = takes.One kind.Address; leaves = leaves.Nothing; goes = goes.FallThrough }
 
-abbrev pub pair_gone : Kind → Kind → Plan
+abbrev pub pair_gone : OperandKind → OperandKind → Plan
 pair_gone k j = record { takes = takes.Two k j; leaves = leaves.Nothing; goes = goes.FallThrough }
 
 abbrev pub compare_plan : Plan
@@ -156,7 +156,7 @@ plan_at c a o = Some (plain_plan o)
 -- ---- what the forms do
 
 -- an operand of a kind is taken; of an address the variable and the cells left go on too
-abbrev pub take_one : Kind → List Shape → (ℕ → ℕ → List Shape → Shaped) → Shaped
+abbrev pub take_one : OperandKind → List Shape → (ℕ → ℕ → List Shape → Shaped) → Shaped
 take_one kind.Ordinal ss go = take_o ss (go 0 0)
 take_one kind.Channel ss go = take_c ss (go 0 0)
 take_one kind.Address ss go = take_a ss go

@@ -9,7 +9,7 @@ use Rattle.sp_verify_rules.specs.Areas.{instr_at}
 use Rattle.sp_verify_areas.specs.declared.owners.Owner.{Owner}
 use Rattle.sp_verify_areas.specs.Alone.{flag_at}
 use Rattle.sp_verify_shapes.specs.declared.shapes.Shapes.{Shapes}
-use Rattle.sp_verify_shapes.specs.Reached.{reached_at}
+use Rattle.sp_verify_shapes.specs.ReachRules.{reached_at}
 
 -- the block that an instruction calls
 abbrev pub called_block : Option Instr → Option ℕ

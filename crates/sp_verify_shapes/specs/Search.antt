@@ -8,7 +8,7 @@ use Rattle.sp_code.specs.declared.code.Parts.{Parts}
 use Rattle.sp_verify_rules.specs.Areas.{Area, instr_at}
 use Rattle.sp_verify_rules.specs.Shapes.{Shape, Wrong, instr_shapes}
 use Rattle.sp_verify_rules.specs.Reach.{LeadsWith}
-use Rattle.sp_verify_rules.specs.Named.{LiesIn, BreaksV1}
+use Rattle.sp_verify_rules.specs.NameRules.{LiesIn, BreaksV1}
 use Rattle.sp_verify_rules.specs.Rules.{ArrivesAt}
 use Rattle.sp_verify_areas.specs.Only.{LiesOnlyIn}
 use Rattle.sp_verify_shapes.specs.declared.stacks.Stacks.{Stacks}

@@ -7,7 +7,7 @@ use Rattle.sp_code.specs.declared.code.Parts.{Parts}
 use Rattle.sp_code.specs.Machine.{layout_of}
 use Rattle.sp_verify_rules.specs.Areas.{Area, child_at, entry}
 use Rattle.sp_verify_rules.specs.Reach.{IsArea}
-use Rattle.sp_verify_rules.specs.Named.{LiesIn}
+use Rattle.sp_verify_rules.specs.NameRules.{LiesIn}
 use Rattle.sp_verify_shapes.specs.declared.steps.Arrival.{Arrival}
 use Rattle.sp_verify_shapes.specs.Search.{IsOneOf}
 

@@ -7,12 +7,12 @@ ghost use Rattle.sp_verify_areas.specs.LeastPlaces.{IsLeast, Upto};
 ghost use Rattle.sp_verify_areas.specs.declared.owners.Owner.{Owner};
 ghost use Rattle.sp_verify_rules.specs.Rules.{BreaksV5, call_fits, fit_formals, fits_formal};
 ghost use Rattle.sp_verify_rules.specs.Rules.{lowest_first, some_reference};
-ghost use Rattle.sp_verify_shapes.specs.Reached.{answers_by_reference, fails_at};
+ghost use Rattle.sp_verify_shapes.specs.ReachRules.{answers_by_reference, fails_at};
 ghost use Rattle.sp_verify_shapes.specs.Repeats.{AreRepeats};
 ghost use Rattle.sp_verify_shapes.specs.Shapes.{AreShapes};
 ghost use Rattle.sp_verify_shapes.specs.Stacks.{IsListNumber, IsStacks, list_of, shape_of};
 
-use crate::reached::reached;
+use crate::reach::reached;
 use crate::shapes::Shapes;
 use crate::stacks::{Shape, Stacks};
 use sp_base::List;

@@ -4,11 +4,11 @@ ghost use Rattle.std.specs.Prelude.{◌≡◌, Some};
 ghost use Rattle.sp_verify_areas.specs.LeastPlaces.{IsLeast};
 ghost use Rattle.sp_verify_rules.specs.Rules.{BreaksV3};
 ghost use Rattle.sp_verify_rules.specs.Shapes.{below_topmost, has_left, span, stays_within};
-ghost use Rattle.sp_verify_shapes.specs.Reached.{fails_at};
+ghost use Rattle.sp_verify_shapes.specs.ReachRules.{fails_at};
 ghost use Rattle.sp_verify_shapes.specs.Shapes.{AreShapes};
 ghost use Rattle.sp_verify_shapes.specs.Stacks.{IsListNumber, IsStacks, list_of};
 
-use crate::reached::reached;
+use crate::reach::reached;
 use crate::shapes::Shapes;
 use crate::stacks::{Shape, Stacks};
 use sp_code::{Code, Instr};

@@ -20,14 +20,14 @@
 //! - Where V2 is kept, all ways bring the same shapes to an instruction: so `Shapes` has one list for each.
 //! - `stacks.rt` keeps each list of shapes once. `plans.rt` has what each instruction takes, leaves and goes on to, in
 //!   a few forms (`specs/Plans.antt`, `proofs/Forms.antt`).
-//! - `taking.rt` and `steps.rt` are one step by these forms, `begin.rt` is where ways begin, `search.rt` follows all
+//! - `operands.rt` and `steps.rt` are one step by these forms, `begin.rt` is where ways begin, `search.rt` follows all
 //!   ways level by level (`specs/Search.antt` says what is kept meanwhile), `shapes.rt` is V2.
 //! - `cells.rt`, `messages.rt` and `calls.rt` are V3, V4 and V5. `repeats.rt` spares V5, and what stands above it, the
-//!   operands of calls that say nothing new. `stacks.rt` has jumps, by which `taking.rt` takes many operands at once.
+//!   operands of calls that say nothing new. `stacks.rt` has jumps, by which `operands.rt` takes many operands at once.
 //!
 //! Lemmas for others, in `proofs`:
-//! - `Reaching`: the table of shapes has, at each instruction, the shapes that ways bring there.
-//! - `Repeating`: a call that repeats an earlier one fails a test where that one does.
+//! - `ReachLaws`: the table of shapes has, at each instruction, the shapes that ways bring there.
+//! - `CallRepeats`: a call that repeats an earlier one fails a test where that one does.
 #![tactic(auto)]
 
 pub mod begin;
@@ -35,11 +35,11 @@ pub mod calls;
 pub mod cells;
 pub mod have;
 pub mod messages;
+pub mod operands;
 pub mod plans;
-pub mod reached;
+pub mod reach;
 pub mod repeats;
 pub mod search;
 pub mod shapes;
 pub mod stacks;
 pub mod steps;
-pub mod taking;

@@ -5,12 +5,12 @@ ghost use Rattle.sp_verify_areas.specs.LeastPlaces.{IsLeast};
 ghost use Rattle.sp_verify_rules.specs.Rules.{BreaksV4};
 ghost use Rattle.sp_verify_shapes.specs.Lengths.{AreLengths, Differs, LacksRoom, PutsLength, PutsGreatest, is_longer};
 ghost use Rattle.sp_verify_shapes.specs.Lengths.{of_kind, received_at, sent_at};
-ghost use Rattle.sp_verify_rules.specs.Standing.{cells_left, message_cells};
+ghost use Rattle.sp_verify_rules.specs.InstructionFacts.{cells_left, message_cells};
 ghost use Rattle.sp_verify_shapes.specs.Shapes.{AreShapes};
 ghost use Rattle.sp_verify_shapes.specs.Stacks.{IsListNumber, IsStacks, list_of};
 
 use crate::have;
-use crate::reached::reached;
+use crate::reach::reached;
 use crate::shapes::Shapes;
 use crate::stacks::{Shape, Stacks};
 use sp_base::Memory;

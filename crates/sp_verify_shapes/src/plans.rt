@@ -18,7 +18,7 @@ use sp_verify_areas::homes::{Found, Homes};
 
 /// A kind of operand.
 #[derive(Clone, Copy)]
-pub enum Kind {
+pub enum OperandKind {
     Ordinal,
     Channel,
     Address,
@@ -32,9 +32,9 @@ pub enum Kind {
 #[derive(Clone, Copy)]
 pub enum Takes {
     Nothing,
-    One(Kind),
+    One(OperandKind),
     /// The upper one first.
-    Two(Kind, Kind),
+    Two(OperandKind, OperandKind),
     /// Two ordinals or two channels.
     Same,
     /// So many, whatever they are.
@@ -100,7 +100,7 @@ fn two_to_one() -> Plan
     ensures { result ≡ two_to_one }
 {
     Plan {
-        takes: Takes::Two(Kind::Ordinal, Kind::Ordinal),
+        takes: Takes::Two(OperandKind::Ordinal, OperandKind::Ordinal),
         leaves: Leaves::One(Shape::Ordinal),
         goes: Successor::FallThrough,
     }
@@ -110,7 +110,7 @@ fn one_to_one() -> Plan
     ensures { result ≡ one_to_one }
 {
     Plan {
-        takes: Takes::One(Kind::Ordinal),
+        takes: Takes::One(OperandKind::Ordinal),
         leaves: Leaves::One(Shape::Ordinal),
         goes: Successor::FallThrough,
     }
@@ -120,7 +120,7 @@ fn one_gone() -> Plan
     ensures { result ≡ one_gone }
 {
     Plan {
-        takes: Takes::One(Kind::Ordinal),
+        takes: Takes::One(OperandKind::Ordinal),
         leaves: Leaves::Nothing,
         goes: Successor::FallThrough,
     }
@@ -130,7 +130,7 @@ fn two_gone() -> Plan
     ensures { result ≡ two_gone }
 {
     Plan {
-        takes: Takes::Two(Kind::Ordinal, Kind::Ordinal),
+        takes: Takes::Two(OperandKind::Ordinal, OperandKind::Ordinal),
         leaves: Leaves::Nothing,
         goes: Successor::FallThrough,
     }
@@ -140,7 +140,7 @@ fn read(shape: Shape) -> Plan
     ensures { result ≡ read_plan shape }
 {
     Plan {
-        takes: Takes::One(Kind::Address),
+        takes: Takes::One(OperandKind::Address),
         leaves: Leaves::One(shape),
         goes: Successor::FallThrough,
     }
@@ -150,13 +150,13 @@ fn filled() -> Plan
     ensures { result ≡ fill_plan }
 {
     Plan {
-        takes: Takes::One(Kind::Address),
+        takes: Takes::One(OperandKind::Address),
         leaves: Leaves::Nothing,
         goes: Successor::FallThrough,
     }
 }
 
-fn pair_gone(upper: Kind, lower: Kind) -> Plan
+fn pair_gone(upper: OperandKind, lower: OperandKind) -> Plan
     ensures { result ≡ pair_gone upper lower }
 {
     Plan {
@@ -207,19 +207,19 @@ fn plain(instr: Instr) -> Plan
             high: _,
             size,
         } => led(
-            Takes::Two(Kind::Ordinal, Kind::Address),
+            Takes::Two(OperandKind::Ordinal, OperandKind::Address),
             Leaves::Inside(size),
             Successor::FallThrough,
         ),
         Instr::Field(k) => led(
-            Takes::One(Kind::Address),
+            Takes::One(OperandKind::Address),
             Leaves::Further(k),
             Successor::FallThrough,
         ),
         Instr::Load => read(Shape::Ordinal),
         Instr::Loadc => read(Shape::Channel),
-        Instr::Store => pair_gone(Kind::Value, Kind::Address),
-        Instr::Copy(_) => pair_gone(Kind::Address, Kind::Address),
+        Instr::Store => pair_gone(OperandKind::Value, OperandKind::Address),
+        Instr::Copy(_) => pair_gone(OperandKind::Address, OperandKind::Address),
         Instr::Add => two_to_one(),
         Instr::Sub => two_to_one(),
         Instr::Mul => two_to_one(),
@@ -243,12 +243,12 @@ fn plain(instr: Instr) -> Plan
         Instr::Pred(_) => one_to_one(),
         Instr::Jump(to) => led(Takes::Nothing, Leaves::Nothing, Successor::There(to)),
         Instr::Jumpf(to) => led(
-            Takes::One(Kind::Ordinal),
+            Takes::One(OperandKind::Ordinal),
             Leaves::Nothing,
             Successor::Either(to),
         ),
         Instr::Casej { value: _, to } => led(
-            Takes::One(Kind::Ordinal),
+            Takes::One(OperandKind::Ordinal),
             Leaves::One(Shape::Ordinal),
             Successor::Past(to),
         ),
@@ -256,22 +256,22 @@ fn plain(instr: Instr) -> Plan
         Instr::Tick => straight(),
         Instr::Assume => one_gone(),
         Instr::Forup { var: _, to } => led(
-            Takes::Two(Kind::Ordinal, Kind::Ordinal),
+            Takes::Two(OperandKind::Ordinal, OperandKind::Ordinal),
             Leaves::One(Shape::Ordinal),
             Successor::Past(to),
         ),
         Instr::Fordown { var: _, to } => led(
-            Takes::Two(Kind::Ordinal, Kind::Ordinal),
+            Takes::Two(OperandKind::Ordinal, OperandKind::Ordinal),
             Leaves::One(Shape::Ordinal),
             Successor::Past(to),
         ),
         Instr::Nextup { var: _, to } => led(
-            Takes::One(Kind::Ordinal),
+            Takes::One(OperandKind::Ordinal),
             Leaves::One(Shape::Ordinal),
             Successor::Back(to),
         ),
         Instr::Nextdown { var: _, to } => led(
-            Takes::One(Kind::Ordinal),
+            Takes::One(OperandKind::Ordinal),
             Leaves::One(Shape::Ordinal),
             Successor::Back(to),
         ),
@@ -292,8 +292,8 @@ fn plain(instr: Instr) -> Plan
         Instr::Writeln => straight(),
         Instr::Pack(k) => read(Shape::Cells(k)),
         Instr::Open => filled(),
-        Instr::Send(_) => pair_gone(Kind::Message, Kind::Channel),
-        Instr::Receive(_) => pair_gone(Kind::Address, Kind::Channel),
+        Instr::Send(_) => pair_gone(OperandKind::Message, OperandKind::Channel),
+        Instr::Receive(_) => pair_gone(OperandKind::Address, OperandKind::Channel),
         Instr::Fork(_) => straight(),
         Instr::Forall(_) => two_gone(),
         Instr::End => last(),

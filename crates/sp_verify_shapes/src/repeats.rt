@@ -7,7 +7,7 @@ ghost use Rattle.sp_verify_rules.specs.Areas.{instr_at};
 ghost use Rattle.sp_verify_shapes.specs.Repeats.{AreRepeats, Repeats, called_block};
 
 use crate::have;
-use crate::reached::reached;
+use crate::reach::reached;
 use crate::shapes::Shapes;
 use sp_base::{List, Memory};
 use sp_code::{Code, Instr};

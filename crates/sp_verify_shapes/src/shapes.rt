@@ -5,7 +5,7 @@ ghost use Rattle.sp_verify_areas.specs.Blocks.{IsNumbered};
 ghost use Rattle.sp_verify_areas.specs.Homes.{AreHomes};
 ghost use Rattle.sp_verify_areas.specs.LeastPlaces.{IsLeast};
 ghost use Rattle.sp_verify_areas.specs.Owners.{AreOwners};
-ghost use Rattle.sp_verify_rules.specs.Named.{BreaksV1};
+ghost use Rattle.sp_verify_rules.specs.NameRules.{BreaksV1};
 ghost use Rattle.sp_verify_shapes.specs.Search.{IsDoneSearch, KeepsV1};
 ghost use Rattle.sp_verify_shapes.specs.Shapes.{IsOutcome};
 

@@ -12,9 +12,9 @@ ghost use Rattle.sp_verify_shapes.specs.Stacks.{Extends, IsListNumber, IsStacks,
 ghost use Rattle.sp_verify_shapes.specs.Steps.{IsStep};
 
 use crate::have;
+use crate::operands::{TakeResult, take};
 use crate::plans::{Leaves, Plan, Successor, planned};
 use crate::stacks::{Shape, Stacks};
-use crate::taking::{TakeResult, take};
 use sp_base::Memory;
 use sp_code::Code;
 use sp_verify_areas::blocks::Blocks;

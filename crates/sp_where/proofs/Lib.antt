@@ -1,6 +1,6 @@
-mod Cutting
-mod Filling
+mod FirstBytes
+mod PieceLists
 mod Forms
-mod Moving
+mod SpotTests
 mod StateLines
-mod Tracing
+mod EntryWalk

@@ -11,7 +11,7 @@ use Rattle.sp_journal.specs.Births.{Births, births_after_entry, first_births}
 use Rattle.sp_journal.specs.Texts.{entry_text}
 use Rattle.sp_cell.specs.declared.cell.Cell.{Cell}
 use Rattle.sp_lines.specs.declared.mark.Mark.{Mark}
-use Rattle.sp_lines.specs.declared.told.Told.{Told}
+use Rattle.sp_lines.specs.declared.entry_place.Told.{Told}
 use Rattle.sp_base.specs.Places.{place_text}
 use Rattle.sp_where.specs.Places.{statement_at, part_at}
 use Rattle.sp_where.specs.Values.{value_text}

@@ -10,10 +10,10 @@ ghost use Rattle.sp_journal.specs.Births.{IsNameable, births};
 ghost use Rattle.sp_journal.specs.Ledger.{IsLedger};
 ghost use Rattle.sp_kernel.specs.Kernels.{system_of};
 ghost use Rattle.sp_kernel.specs.Views.{IsSeen};
-ghost use Rattle.sp_lines.specs.Telling.{lasts_after};
+ghost use Rattle.sp_lines.specs.EntryPlaces.{lasts_after};
 ghost use Rattle.sp_machine.specs.Procs.{config_of};
-ghost use Rattle.sp_replay.specs.Following.{HoldsAllReady};
-ghost use Rattle.sp_replay.specs.Tracing.{last_in, never};
+ghost use Rattle.sp_replay.specs.FollowInvariant.{HoldsAllReady};
+ghost use Rattle.sp_replay.specs.TraceAnswers.{last_in, never};
 ghost use Rattle.sp_report.specs.InOrder.{sorted_by_name};
 ghost use Rattle.sp_where.specs.KnownOf.{IsKnown, known_by, known_of};
 ghost use Rattle.sp_where.specs.States.{fault_in, first_line, is_end, is_live, laid_line, lines_below};
@@ -30,7 +30,7 @@ use sp_code::{Code, Instr};
 use sp_journal::{Entry, Event, Journal, Ledger};
 use sp_kernel::Seen;
 use sp_machine::Proc;
-use sp_replay::{Followed, Traced, lasts};
+use sp_replay::{FollowedRun, Traced, lasts};
 use sp_shown::landing;
 use sp_writer::Writer;
 use std::alloc::Global;
@@ -198,7 +198,7 @@ fn put_named(
     out: &mut Writer<u8>,
     known: &Known,
     fault: Option<(u32, Fault)>,
-    state: &Followed,
+    state: &FollowedRun,
     lasts: &[u32],
     name: &ProcName,
     process: u32,
@@ -220,7 +220,7 @@ fn put_all(
     out: &mut Writer<u8>,
     known: &Known,
     fault: Option<(u32, Fault)>,
-    state: &Followed,
+    state: &FollowedRun,
     lasts: &[u32],
     names: &BTreeMap<ProcName, u32>,
 )
@@ -235,7 +235,7 @@ fn put_all(
 }
 
 // Whether a process has not ended.
-fn is_live(state: &Followed, process: u32) -> bool
+fn is_live(state: &FollowedRun, process: u32) -> bool
     requires { HoldsAllReady state.now }
     ensures { result ≡ is_live ((system_of state.now.kernel).condition process) }
 {
@@ -249,7 +249,7 @@ fn is_live(state: &Followed, process: u32) -> bool
 fn live_names(
     alloc: Global,
     ledger: &Ledger,
-    state: &Followed,
+    state: &FollowedRun,
 ) -> Result<BTreeMap<ProcName, u32>, Memory>
     requires ledger { IsLedger ledger.now }
     requires stands { HoldsAllReady state.now }
@@ -284,7 +284,7 @@ fn text_of(
     alloc: Global,
     known: &Known,
     fault: Option<(u32, Fault)>,
-    state: &Followed,
+    state: &FollowedRun,
     lasts: &[u32],
     names: &BTreeMap<ProcName, u32>,
 ) -> Result<Vec<u8>, Memory>

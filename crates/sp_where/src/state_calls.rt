@@ -133,7 +133,7 @@ fn is_of(frame: &Frame, spot: Spot) -> bool
 }
 
 // Whether one of the spots is of this frame.
-#[tactic(auto, using(crate::proofs::Moving::any_here, crate::proofs::Moving::any_on, crate::proofs::Moving::any_end))]
+#[tactic(auto, using(crate::proofs::SpotTests::any_here, crate::proofs::SpotTests::any_on, crate::proofs::SpotTests::any_end))]
 fn has_moved(frame: &Frame, spots: &[Spot]) -> bool
     ensures { result ≡ list_any (is_of (frame_of frame.now)) spots.now }
 {

@@ -164,7 +164,7 @@ fn is_same(spot: Spot, other: Spot) -> bool
 }
 
 // Whether the spot is one of these.
-#[tactic(auto, using(crate::proofs::Moving::any_here, crate::proofs::Moving::any_on, crate::proofs::Moving::any_end))]
+#[tactic(auto, using(crate::proofs::SpotTests::any_here, crate::proofs::SpotTests::any_on, crate::proofs::SpotTests::any_end))]
 fn is_among(spot: Spot, spots: &[Spot]) -> bool
     ensures { result ≡ list_any (same_spot spot) spots.now }
 {

@@ -9,12 +9,13 @@ use Rattle.sp_meaning.specs.SuperPascal.{superpascal}
 use Rattle.sp_meaning.specs.Entries.{Happening, Opened, Forked, Offered, Faulted, Laid, Paused, Occurrence}
 use Rattle.sp_journal.specs.Names as happenings
 use Rattle.sp_meaning.specs.Runs.{StateOf, running_process, next_state, happening_of, happening_at}
-use Rattle.sp_meaning.specs.Along.{Either, ticks_of, is_due_after, Turn, MakesEntry, Course, with_ticks, course_after}
+use Rattle.sp_meaning.specs.Along.{Either, ticks_of, is_due_after, Turn, MakesEntry, JournalState, with_ticks}
+use Rattle.sp_meaning.specs.Along.{course_after}
 use Rattle.sp_meaning.specs.Along.{EntryStep, Along}
 use Rattle.sp_race.specs.Notes.{Event}
-use Rattle.sp_race.specs.Noting.{WithNotes}
+use Rattle.sp_race.specs.RunNotes.{WithNotes}
 use Rattle.sp_race.proofs.GoodSteps.{steps}
-use Rattle.sp_witness.proofs.Moving.{Head, Tag, Block, Does, Runs, BlockRuns}
+use Rattle.sp_witness.proofs.IndependentSteps.{Head, Tag, Block, Does, Runs, BlockRuns}
 use Rattle.sp_witness.proofs.Ticks.{ticks_by, ticks_after, said_same}
 use Rattle.sp_witness.proofs.Blocks.{IsMove, IsLocalNotDue, AllSilent, IsStepOfEntry, IsLast, Valid, since_after}
 use Rattle.sp_witness.proofs.Blocks.{since_all, AllValid}
@@ -177,12 +178,14 @@ module _ (g : RunInput) where
         last Laid m does y = absurd y
 
     -- no fault stands, and nobody is laid
-    abbrev pub IsFair : Course → Type 0
+    abbrev pub IsFair : JournalState → Type 0
     IsFair c = (c.faulted ≡ false) × ((q : Name) → c.laid q ≡ false)
 
-    entered : (left : Course → StateOf g → ℕ → Type 0) (c : Course) (mid u : StateOf g) (paused : Bool) (q : Name)
+    entered : (left : JournalState → StateOf g → ℕ
+        → Type 0) (c : JournalState) (mid u : StateOf g) (paused : Bool) (q : Name)
         (what : Happening) (ticks : ℕ) → IsFair c → EndsBy mid u paused q what → ticks_of g u q ≡ ticks
-        → ((c1 : Course) → c1.since ≡ (λ z. cond (same_name q z) ticks (c.since z)) → IsFair c1 → (r : ℕ) × left c1 u r)
+        → ((c1 : JournalState) → c1.since ≡ (λ z. cond (same_name q z) ticks (c.since z)) → IsFair c1
+        → (r : ℕ) × left c1 u r)
         → (n : ℕ) × EntryStep g left c mid paused q what n
     entered left c mid u paused q Paused ticks fair ends t go =
         let x = go (with_ticks q (ticks_of g u q) c) (λ i z. cond (same_name q z) (t i) (c.since z)) fair in (
@@ -213,16 +216,16 @@ module _ (g : RunInput) where
     entered left c mid u paused q Laid ticks fair ends t go = absurd ends
 
     -- the entries, and then what goes on after them
-    pub rebuilt : (tail : List Occurrence) (t : StateOf g) (bs : List (Block g)) (s u : WithNotes L) (c : Course)
+    pub rebuilt : (tail : List Occurrence) (t : StateOf g) (bs : List (Block g)) (s u : WithNotes L) (c : JournalState)
         → BlockRuns g label s bs u → AllValid g turn c.since bs → IsFair c
-        → ((c1 : Course) → c1.since ≡ since_all g turn c.since bs → IsFair c1
+        → ((c1 : JournalState) → c1.since ≡ since_all g turn c.since bs → IsFair c1
         → (r : ℕ) × Along g turn c1 u.state tail r t) → (n : ℕ) × Along g turn c s.state (entries bs ++ tail) n t
     rebuilt tail t [] s u c runs valid fair go =
         let x = go c refl fair in
         (x.0, subst (λ (z : WithNotes L). Along g turn c z.state tail x.0 t) runs x.1)
     rebuilt tail t (b ∷ bs) s u c runs valid fair go =
         let k = back (c.since b.head.who) s runs.0 b.head b.tags b.head.what b.ticks valid.0 runs.1 in
-        let rest : (c1 : Course) → c1.since ≡ since_after g turn c.since b → IsFair c1
+        let rest : (c1 : JournalState) → c1.since ≡ since_after g turn c.since b → IsFair c1
         → (n : ℕ) × Along g turn c1 runs.0.state (entries bs ++ tail) n t = λ c1 e f.
         rebuilt tail t bs runs.0 u c1 runs.2 (subst (λ z. AllValid g turn z bs) (sym e) valid.1) f
         (λ c2 i. go c2 (i ∙ ap (λ z. since_all g turn z bs) e)) in

@@ -8,7 +8,7 @@ use Rattle.sp_meaning.specs.SuperPascal.{superpascal}
 use Rattle.sp_meaning.specs.Entries.{Happening, Opened, Forked, Offered, Faulted, Laid, Paused}
 use Rattle.sp_journal.specs.Names as happenings
 use Rattle.sp_meaning.specs.Runs.{happening_of}
-use Rattle.sp_witness.proofs.Moving.{Tag, Block}
+use Rattle.sp_witness.proofs.IndependentSteps.{Tag, Block}
 use Rattle.sp_witness.proofs.Ticks.{ticks_by}
 
 module _ (g : RunInput) (turn : ℕ) where

@@ -11,7 +11,7 @@ use Rattle.sp_journal.specs.declared.entry.Event.TheVariants as event
 use Rattle.sp_journal.specs.Births.{Births, births, births_after_entry, births_after_event, CanFollow, GivesNumbers}
 use Rattle.sp_journal.proofs.Facts.{here, between}
 use Rattle.sp_journal.proofs.Walk.{left_is, more_births, any_entry}
-use Rattle.sp_witness.specs.Moved.{Table, table_after, renumbered_entry, renumbered_entries, table_of}
+use Rattle.sp_witness.specs.TableNumbers.{Table, table_after, renumbered_entry, renumbered_entries, table_of}
 use Rattle.sp_witness.specs.Passes.{CanAdd}
 
 pub put_in : (b : Bool) (v d : ℕ) (o : Option ℕ) → unwrap_or (cond b (Some v) o) d ≡ cond b v (unwrap_or o d)

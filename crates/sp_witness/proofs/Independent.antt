@@ -34,7 +34,7 @@ use Rattle.sp_meaning.proofs.Parallel.{parallel}
 use Rattle.sp_race.specs.Notes.{Event, known_to_either, JudgeNotes, Note, Counts, Learns, Records, with_judge_note}
 use Rattle.sp_race.specs.Notes.{with_judge_notes, next_event_of, known_after_event}
 use Rattle.sp_race.specs.Notes.{same_event, notes_to_children, notes_to_parent, other_way, offer_notes, notes_of}
-use Rattle.sp_race.specs.Noting.{WithNotes}
+use Rattle.sp_race.specs.RunNotes.{WithNotes}
 use Rattle.sp_race.proofs.NotesFrames.{event_test, both_right, both_kept}
 use Rattle.sp_race.proofs.GoodSteps.{GoodStep, steps, no_fault_after, leads_on, happens_later, events_kept, past_kept}
 use Rattle.sp_race.proofs.Partners.{TakesPart, writer, part_alone}

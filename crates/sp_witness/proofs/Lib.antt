@@ -1,24 +1,24 @@
 mod Rows
 mod Independent
-mod Moving
+mod IndependentSteps
 mod Pasts
 mod Ticks
 mod Blocks
-mod Walking
+mod JournalSteps
 mod Back
 mod Parts
-mod Contending
+mod Contention
 mod Order
-mod Witnessing
-mod Shown
+mod WitnessRuns
+mod RaceWitness
 mod Real
-mod Standing
-mod Learning
-mod Passing
+mod PastFacts
+mod KnowledgeSteps
+mod BackwardPass
 mod PassLaw
-mod Flagging
-pub mod Finding
-mod Moved
+mod PickedEntries
+pub mod NumberLookups
+mod TableNumbers
 mod Tables
 mod OwnFronts
 mod Pass
@@ -26,5 +26,5 @@ mod Backwards
 mod Forwards
 mod WitnessOfCode
 pub mod Cleanness
-pub mod Deciding
+pub mod VerdictMeaning
 mod Offers

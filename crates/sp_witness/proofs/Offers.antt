@@ -10,7 +10,7 @@ use Rattle.sp_journal.specs.declared.entry.Way.{Way}
 use Rattle.sp_journal.specs.Names.{Channel, Happening, Offered, Occurrence}
 use Rattle.sp_journal.specs.Births.{Births, first_births, births_after_entry, happening, occurrences, occurrences_from}
 use Rattle.sp_judge.specs.Races.{Race}
-use Rattle.sp_witness.specs.Moved.{IsPlain}
+use Rattle.sp_witness.specs.TableNumbers.{IsPlain}
 
 -- the entry of an occurrence
 record OccurrenceEntry (es : List Entry) (i : ℕ) (what : Happening) : Type 0 where

@@ -8,7 +8,7 @@ use Rattle.sp_journal.specs.Names.{Name, Channel, Happening, Offered}
 use Rattle.sp_journal.specs.Names.{Occurrence}
 use Rattle.sp_journal.specs.Past.{Knowledge, knowledge_after, knowledge_of, no_knowledge, KnowsCompletions}
 use Rattle.sp_journal.specs.Past.{CompletedFrom}
-use Rattle.sp_race.specs.Known.{AreKnown}
+use Rattle.sp_race.specs.OfferOrder.{AreKnown}
 use Rattle.sp_race.proofs.Completion.{ordered_known}
 use Rattle.sp_judge.specs.Races.{KnowsCompletion, IsLeastRace}
 use Rattle.sp_witness.proofs.Pasts.{Stage, next_stage, get_at}

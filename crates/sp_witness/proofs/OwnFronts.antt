@@ -15,28 +15,29 @@ use Rattle.sp_journal.specs.Births.{occurrences}
 use Rattle.sp_journal.specs.Past.{Knowledge, knowledge_after, no_knowledge}
 use Rattle.sp_meaning.specs.Along.{IsClean}
 use Rattle.sp_judge.specs.Prefixes.{WaitersSilentFrom, WaitersAreSilent}
-use Rattle.sp_judge.proofs.Prefixing.{nothing_kept}
+use Rattle.sp_judge.proofs.PrefixLaws.{nothing_kept}
 use Rattle.sp_judge.proofs.Numbers.{all_named}
 use Rattle.sp_judge.proofs.Fronts.{silent_front}
 use Rattle.sp_witness.specs.Witness.{witness, is_member, is_among}
-use Rattle.sp_witness.specs.Numbered.{witness_journal}
-use Rattle.sp_witness.specs.Needed.{needed_marks}
+use Rattle.sp_witness.specs.OccurrenceNumbers.{witness_journal}
+use Rattle.sp_witness.specs.NeededEntries.{needed_marks}
 use Rattle.sp_witness.specs.Flags.{flags_before, flags, lines_after, picked_entries, marks}
-use Rattle.sp_witness.specs.Moved.{IsPlain, first_table, renumbered_entry, marked_entries, renumbered_entries, table_of}
-use Rattle.sp_witness.specs.Moved.{IsOwnFront}
-use Rattle.sp_witness.proofs.Moving.{Head, MarkedFree, Cuts}
+use Rattle.sp_witness.specs.TableNumbers.{IsPlain, first_table, renumbered_entry, marked_entries, renumbered_entries}
+use Rattle.sp_witness.specs.TableNumbers.{table_of}
+use Rattle.sp_witness.specs.TableNumbers.{IsOwnFront}
+use Rattle.sp_witness.proofs.IndependentSteps.{Head, MarkedFree, Cuts}
 use Rattle.sp_witness.proofs.Pasts.{heads_from, MarksAre, cuts_from}
 use Rattle.sp_witness.proofs.Parts.{mark_in}
 use Rattle.sp_witness.proofs.Parts as parts
-use Rattle.sp_witness.proofs.Standing.{nothing_stands}
-use Rattle.sp_witness.proofs.Witnessing.{clean_front}
+use Rattle.sp_witness.proofs.PastFacts.{nothing_stands}
+use Rattle.sp_witness.proofs.WitnessRuns.{clean_front}
 use Rattle.sp_witness.proofs.Real.{cut_at}
 use Rattle.sp_witness.proofs.Pass.{member_marks}
 use Rattle.sp_witness.proofs.Pass as pass
 use Rattle.sp_witness.proofs.PassLaw.{below_at}
-use Rattle.sp_witness.proofs.Flagging.{marks_taken, take_map}
-use Rattle.sp_witness.proofs.Finding.{picked_part}
-use Rattle.sp_witness.proofs.Moved.{AreMarks}
+use Rattle.sp_witness.proofs.PickedEntries.{marks_taken, take_map}
+use Rattle.sp_witness.proofs.NumberLookups.{picked_part}
+use Rattle.sp_witness.proofs.TableNumbers.{AreMarks}
 use Rattle.sp_witness.proofs.Tables.{tables_number}
 
 -- the marks are one for each entry, and select what is picked

@@ -13,12 +13,12 @@ use Rattle.sp_meaning.specs.Along.{IsCleanly, IsClean}
 use Rattle.sp_meaning.proofs.Maps.{differs}
 use Rattle.sp_meaning.proofs.Keys.{name_test}
 use Rattle.sp_judge.specs.Prefixes.{is_counted, WaitsForNone}
-use Rattle.sp_judge.proofs.Prefixing.{PrefixesAreKnown}
+use Rattle.sp_judge.proofs.PrefixLaws.{PrefixesAreKnown}
 use Rattle.sp_race.specs.Notes.{Event}
-use Rattle.sp_race.proofs.Linking.{grown_size}
+use Rattle.sp_race.proofs.NoteLaws.{grown_size}
 use Rattle.sp_witness.specs.Witness.{who_at, past_before, is_pause, is_known, offers_after, is_member, is_among}
 use Rattle.sp_witness.specs.Witness.{members}
-use Rattle.sp_witness.proofs.Moving.{Head, Free, MarkedFree, Cuts, Block, heads, kept, left, EachFree}
+use Rattle.sp_witness.proofs.IndependentSteps.{Head, Free, MarkedFree, Cuts, Block, heads, kept, left, EachFree}
 use Rattle.sp_witness.proofs.Pasts.{heads_from, Stage, past_here, MarksAre}
 use Rattle.sp_witness.proofs.Blocks.{Valid, since_after, since_all, AllValid}
 use Rattle.sp_witness.proofs.Back.{entry_of, entries}

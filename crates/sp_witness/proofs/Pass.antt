@@ -13,10 +13,10 @@ use Rattle.sp_meaning.specs.Along.{IsCleanly, IsClean}
 use Rattle.sp_judge.specs.Prefixes.{WaitsForNone, WaitersSilentFrom}
 use Rattle.sp_witness.specs.Witness.{who_of, who_at, past_before, is_pause, is_known, offers_after, is_member, is_among}
 use Rattle.sp_witness.specs.Witness.{members}
-use Rattle.sp_witness.specs.Needed.{needed_before, needed_processes, needed_entries, needed_marks}
+use Rattle.sp_witness.specs.NeededEntries.{needed_before, needed_processes, needed_entries, needed_marks}
 use Rattle.sp_witness.proofs.Pasts.{Stage, next_stage, past_here, get_at}
-use Rattle.sp_witness.proofs.Standing.{KnowledgeFacts, stands_next}
-use Rattle.sp_witness.proofs.Passing.{HasEntry, Someone, IsCounted, more, passed, newly, pends_after, none_yet}
+use Rattle.sp_witness.proofs.PastFacts.{KnowledgeFacts, stands_next}
+use Rattle.sp_witness.proofs.BackwardPass.{HasEntry, Someone, IsCounted, more, passed, newly, pends_after, none_yet}
 
 module _ (es : List Occurrence) (earlier later : ℕ) where
   abbrev among : Name → ℕ → List Occurrence → Bool

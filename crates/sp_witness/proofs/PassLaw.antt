@@ -8,9 +8,9 @@ use Rattle.sp_meaning.specs.Along.{IsClean}
 use Rattle.sp_judge.specs.Prefixes.{WaitersSilentFrom, WaitersAreSilent}
 use Rattle.sp_judge.proofs.Fronts.{silent_front}
 use Rattle.sp_witness.specs.Witness.{who_at, past_before, members, first_part}
-use Rattle.sp_witness.specs.Needed.{needed_entries, backward_pass}
-use Rattle.sp_witness.proofs.Standing.{nothing_stands, stands_from}
-use Rattle.sp_witness.proofs.Witnessing.{clean_front}
+use Rattle.sp_witness.specs.NeededEntries.{needed_entries, backward_pass}
+use Rattle.sp_witness.proofs.PastFacts.{nothing_stands, stands_from}
+use Rattle.sp_witness.proofs.WitnessRuns.{clean_front}
 use Rattle.sp_witness.proofs.Real.{cut_at}
 use Rattle.sp_witness.proofs.Pass.{taken_is}
 

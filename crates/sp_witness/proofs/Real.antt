@@ -12,7 +12,7 @@ use Rattle.sp_judge.specs.Prefixes.{WaitersAreSilent}
 use Rattle.sp_judge.specs.Races.{KnowsCompletion, IsLeastRace}
 use Rattle.sp_witness.specs.Contention.{Shows}
 use Rattle.sp_witness.proofs.Order.{known_front}
-use Rattle.sp_witness.proofs.Shown.{shown}
+use Rattle.sp_witness.proofs.RaceWitness.{shown}
 
 -- a list cut at an index
 pub record Cut (es : List Occurrence) (i : ℕ) (e : Occurrence) : Type 0 where

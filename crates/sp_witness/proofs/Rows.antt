@@ -9,7 +9,7 @@ use Rattle.sp_journal.specs.declared.entry.Event.TheVariants as event
 use Rattle.sp_journal.specs.declared.entry.Entry.{Entry}
 use Rattle.sp_journal.specs.declared.entry.Journal.{Journal}
 use Rattle.sp_witness.specs.Witness.{witness}
-use Rattle.sp_witness.specs.Numbered.{witness_journal}
+use Rattle.sp_witness.specs.OccurrenceNumbers.{witness_journal}
 
 abbrev by : Name → Happening → Occurrence
 by p h = record { who = p; what = h }

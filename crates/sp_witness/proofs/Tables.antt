@@ -16,10 +16,11 @@ use Rattle.sp_journal.proofs.BirthLaws.{Lawful, lawful_start, lawful}
 use Rattle.sp_journal.proofs.Walk.{births_parts}
 use Rattle.sp_judge.proofs.Numbers.{ExtendsBirths, stays, all_named}
 use Rattle.sp_witness.specs.Witness.{who_of, who_at, entry_list, first_part, witness}
-use Rattle.sp_witness.specs.Numbered.{witness_journal}
-use Rattle.sp_witness.specs.Moved.{IsPlain, first_table, renumbered_entry, marked_entries, renumbered_entries, table_of}
-use Rattle.sp_witness.specs.Moved.{IsOwnFront}
-use Rattle.sp_witness.proofs.Moved.{TableFollows, AreMarks, numbers_move, plain_move}
+use Rattle.sp_witness.specs.OccurrenceNumbers.{witness_journal}
+use Rattle.sp_witness.specs.TableNumbers.{IsPlain, first_table, renumbered_entry, marked_entries, renumbered_entries}
+use Rattle.sp_witness.specs.TableNumbers.{table_of}
+use Rattle.sp_witness.specs.TableNumbers.{IsOwnFront}
+use Rattle.sp_witness.proofs.TableNumbers.{TableFollows, AreMarks, numbers_move, plain_move}
 
 follows_start : (t : Births) → Lawful t → TableFollows t first_births first_births first_table (λ q. false)
 follows_start t law = record {

@@ -13,7 +13,7 @@ use Rattle.sp_meaning.proofs.Maps.{itself, differs, at_other}
 use Rattle.sp_meaning.proofs.Keys.{name_test}
 use Rattle.sp_meaning.proofs.Status.{Makes, IsNotWaiting, waits_stands, working_stands}
 use Rattle.sp_meaning.proofs.Meeting.{met, waited, same_changes}
-use Rattle.sp_meaning.proofs.Owned.{puts_condition}
+use Rattle.sp_meaning.proofs.RightsInvariant.{puts_condition}
 
 births_condition : (L : Language) (p : Name) (k i : ℕ) (os : List L.Own) (t : State L)
     → (with_changes (birth_changes {L = L} p k i os) t).condition p ≡ t.condition p

@@ -11,8 +11,8 @@ use Rattle.sp_journal.specs.declared.entry.Journal.{Journal}
 use Rattle.sp_journal.specs.Births.{Births, first_births, births_after_entry, NameableFrom}
 use Rattle.sp_journal.proofs.Walk.{any_entry}
 use Rattle.sp_witness.specs.Flags.{marks, lines_after}
-use Rattle.sp_witness.specs.Moved.{first_table, renumbered_entry, renumbered_entries, table_of, IsPlain}
-use Rattle.sp_witness.specs.Numbered.{witness_journal}
+use Rattle.sp_witness.specs.TableNumbers.{first_table, renumbered_entry, renumbered_entries, table_of, IsPlain}
+use Rattle.sp_witness.specs.OccurrenceNumbers.{witness_journal}
 use Rattle.sp_witness.specs.Passes.{IsFront}
 use Rattle.sp_witness.proofs.Backwards.{nameable_front}
 

@@ -1,7 +1,7 @@
 pub mod Witness
 pub mod Contention
-pub mod Numbered
-pub mod Needed
+pub mod OccurrenceNumbers
+pub mod NeededEntries
 pub mod Flags
-pub mod Moved
+pub mod TableNumbers
 pub mod Passes

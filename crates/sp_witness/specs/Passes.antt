@@ -14,7 +14,7 @@ use Rattle.sp_journal.specs.declared.entry.Birth.{Birth}
 use Rattle.sp_journal.specs.Births.{births}
 use Rattle.sp_witness.specs.declared.numbers.Numbers.{Numbers}
 use Rattle.sp_witness.specs.Flags.{any_flag, parent_flag, flags, flags_before, lines_after, partner_of}
-use Rattle.sp_witness.specs.Moved.{Table}
+use Rattle.sp_witness.specs.TableNumbers.{Table}
 
 -- who waits on each channel, of a map by channels
 abbrev pub waiters : {S : Type 0} → HashMap ℕ ℕ S → ℕ → Option ℕ

@@ -22,10 +22,10 @@ ghost use Rattle.sp_judge.specs.Prefixes.{WaitersAreSilent};
 ghost use Rattle.sp_judge.specs.Races.{IsFault, IsLeastRace, IsVerdict, Race};
 ghost use Rattle.sp_witness.specs.Witness.{first_part, witness};
 ghost use Rattle.sp_witness.specs.Contention.{NeverContends, Shows};
-ghost use Rattle.sp_witness.specs.Needed.{backward_pass};
+ghost use Rattle.sp_witness.specs.NeededEntries.{backward_pass};
 ghost use Rattle.sp_witness.specs.Flags.{picked_first_part, marks};
-ghost use Rattle.sp_witness.specs.Numbered.{entries_by_numbers, witness_journal};
-ghost use Rattle.sp_witness.specs.Moved.{first_table, renumbered_entry, renumbered_entries, table_of, IsPlain};
+ghost use Rattle.sp_witness.specs.OccurrenceNumbers.{entries_by_numbers, witness_journal};
+ghost use Rattle.sp_witness.specs.TableNumbers.{first_table, renumbered_entry, renumbered_entries, table_of, IsPlain};
 
 use sp_judge::{runs_are_silent, runs_without_a_fault_are_clean, verdicts_hold_of_runs};
 

@@ -25,27 +25,27 @@
 //! - `witness`, and the laws of passes and tables, ask that no process of the journal makes an entry while its own
 //!   offer waits, and `witness` that the witness by names is that of a nameable journal, as for the least race of a
 //!   program's run.
-//! - `specs/Witness.antt` is the witness by names, `specs/Numbered.antt` by numbers.
+//! - `specs/Witness.antt` is the witness by names, `specs/OccurrenceNumbers.antt` by numbers.
 //! - The code goes over the run three times: forwards for whom each offer meets (`src/ties.rt`), backwards with the
 //!   set of the processes that are needed (`src/marks.rt`), and forwards for the new numbers (`src/numbers.rt`);
-//!   `src/race.rt` puts them together. `specs/Needed.antt`, `Flags.antt` and `Moved.antt` say the same of lists, and
-//!   `specs/Passes.antt` ties the tables to them.
-//! - That a race is real: `proofs/Independent.antt` and `Moving.antt` (a step that did not know of the one before it
-//!   could have been made first), `Pasts.antt` (who knows an entry knows what its process knew before it),
-//!   `Walking.antt` and `Back.antt` (from a journal to steps and back), `Shown.antt` (the run up to the later offer,
-//!   parted), `Real.antt`.
-//! - That the code's passes give the witness: `proofs/Passing.antt`, `Pass.antt` and `Flagging.antt` backwards;
-//!   `Moved.antt`, `Tables.antt` and `OwnFronts.antt` for the numbers; `Backwards.antt`, `Forwards.antt` and
-//!   `WitnessOfCode.antt` for the code.
+//!   `src/race.rt` puts them together. `specs/NeededEntries.antt`, `Flags.antt` and `TableNumbers.antt` say the same
+//!   of lists, and `specs/Passes.antt` ties the tables to them.
+//! - That a race is real: `proofs/Independent.antt` and `IndependentSteps.antt` (a step that did not know of the one
+//!   before it could have been made first), `Pasts.antt` (who knows an entry knows what its process knew before it),
+//!   `JournalSteps.antt` and `Back.antt` (from a journal to steps and back), `RaceWitness.antt` (the run up to the
+//!   later offer, parted), `Real.antt`.
+//! - That the code's passes give the witness: `proofs/BackwardPass.antt`, `Pass.antt` and `PickedEntries.antt`
+//!   backwards; `TableNumbers.antt`, `Tables.antt` and `OwnFronts.antt` for the numbers; `Backwards.antt`,
+//!   `Forwards.antt` and `WitnessOfCode.antt` for the code.
 //!
 //! Lemmas for others, in `proofs`:
-//! - `Finding`: the numbers of a nameable journal are found again by its names.
+//! - `NumberLookups`: the numbers of a nameable journal are found again by its names.
 //! - `Cleanness`: the witness of a run without a fault is clean but for its last entry.
-//! - `Deciding`: a run without a fault at its end is ordered exactly where no schedule of the program meets
+//! - `VerdictMeaning`: a run without a fault at its end is ordered exactly where no schedule of the program meets
 //!   contention.
 //!
 //! To change:
-//! - Which entries stand in a witness: `specs/Witness.antt`, `specs/Needed.antt`, `specs/Flags.antt` and
+//! - Which entries stand in a witness: `specs/Witness.antt`, `specs/NeededEntries.antt`, `specs/Flags.antt` and
 //!   `src/marks.rt`.
 #![tactic(auto)]
 

@@ -3,7 +3,8 @@
 ghost use Rattle.std.specs.Prelude.{◌≡◌, ◌+◌, ◌<◌, ◌≤◌, ◌++◌, ◌∷◌, [], IfOk, OnOk, ℕ, cond, length, map};
 ghost use Rattle.sp_base.specs.declared.fault.Fault.TheVariants as fault;
 ghost use Rattle.sp_journal.specs.Births.{Births, first_births, births_after_event, NameableFrom};
-ghost use Rattle.sp_witness.specs.Moved.{first_table, table_after, renumbered_entry, renumbered_entries, table_of};
+ghost use Rattle.sp_witness.specs.TableNumbers.{first_table, table_after, renumbered_entry, renumbered_entries};
+ghost use Rattle.sp_witness.specs.TableNumbers.{table_of};
 ghost use Rattle.sp_witness.specs.Passes.{table_in, CanAdd};
 
 use crate::ties::children;

@@ -5,8 +5,8 @@ ghost use Rattle.sp_journal.specs.Births.{occurrences, IsNameable};
 ghost use Rattle.sp_judge.specs.Prefixes.{WaitersAreSilent};
 ghost use Rattle.sp_meaning.specs.Along.{IsClean};
 ghost use Rattle.sp_witness.specs.Witness.{witness as shown};
-ghost use Rattle.sp_witness.specs.Numbered.{witness_journal};
-ghost use Rattle.sp_witness.specs.Moved.{IsPlain};
+ghost use Rattle.sp_witness.specs.OccurrenceNumbers.{witness_journal};
+ghost use Rattle.sp_witness.specs.TableNumbers.{IsPlain};
 
 use crate::laws::tables_number_the_witness;
 use crate::marks::marks_of;

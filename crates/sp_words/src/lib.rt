@@ -12,9 +12,9 @@
 //! To know:
 //! - `specs/Dashes.antt` reads the words from left to right, `Options` has the options with their ranges and defaults,
 //!   `Words` joins them; `Ranges` has the ranges and the default limits that the law cites.
-//! - `src/form.rt` is the pass of the dash rule, `src/parser.rt` the parser, `src/given.rt` takes the values,
-//!   `src/command.rt` has the commands, `src/read.rt` the call. `src/defaults.rt` gives the default limits to a caller
-//!   that has no words for them, as `gen`.
+//! - `src/form.rt` is the pass of the dash rule, `src/parser.rt` the parser, `src/arguments.rt` takes the values,
+//!   `src/command.rt` has the commands, `src/reader.rt` the call. `src/defaults.rt` gives the default limits to a
+//!   caller that has no words for them, as `gen`.
 //! - N of `gen` is the FILE of the definitions, with a condition of its own (`size_named` of `specs/Options.antt`).
 //! - JOURNAL of `replay`, `trace` and `where` is the second of the words that are no options (`with_journal` of
 //!   `specs/Words.antt`); a third one is a second FILE, and so refused.
@@ -24,19 +24,19 @@
 //! To change:
 //! - A command: `CommandName` and `Command`, `option_names`, `command_named`, the parser's subcommands, and `specs/`.
 //! - An option: `specs/Options.antt`, `specs/Parsers.antt`, `run_command` or, of a limit, `with_limits`, `RUN_OPTIONS`,
-//!   and of a limit `LIMIT_OPTIONS` and `WORKER_OPTIONS`, in `src/read.rt`; its range and default also in
+//!   and of a limit `LIMIT_OPTIONS` and `WORKER_OPTIONS`, in `src/reader.rt`; its range and default also in
 //!   `specs/Ranges.antt` and `src/defaults.rt`.
 #![tactic(auto)]
 
+mod arguments;
 mod command;
 mod defaults;
 mod form;
-mod given;
 mod law;
 mod parser;
-mod read;
+mod reader;
 
 pub use command::{Command, View, WordsError};
 pub use defaults::default_limits;
 pub use law::accepted_options_are_in_range;
-pub use read::read_words;
+pub use reader::read_words;

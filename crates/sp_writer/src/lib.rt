@@ -15,12 +15,12 @@
 //!   answer.
 //! - A loop has `Covers l.fn.out l.out REST WHOLE` as its invariant, what is still to come and what there is to write,
 //!   and mostly no answer. `Keeps` says any other fact of that kind.
-//! - `proofs/Adding.antt` has lemmas for answers by hand: take the last fact at `k`, that the writer is not lost, and
-//!   the one before at the first part of it.
+//! - `proofs/Additions.antt` has lemmas for answers by hand: take the last fact at `k`, that the writer is not lost,
+//!   and the one before at the first part of it.
 //! - `items` and `is_lost` are public: another call may write into `items`, and `note` takes what it answers.
 //!
 //! Lemmas for others, in `proofs`:
-//! - `Adding`: for answers by hand: what stands after two parts, and in a loop.
+//! - `Additions`: for answers by hand: what stands after two parts, and in a loop.
 //!
 //! To change:
 //! - One more kind of item for bytes: `src/text.rt`.

@@ -13,7 +13,7 @@
 //!   add.
 //!
 //! To change:
-//! - A law of `Kept`: `specs/Adding.antt`.
+//! - A law of `Kept`: `specs/SumObject.antt`.
 #![tactic(auto)]
 
 ghost use Rattle.std.specs.Prelude.{◌≡◌, ◌+◌, ◌<◌, Some, List, [], ◌∷◌, length};
@@ -32,9 +32,9 @@ mod tests;
 pub use sum::{Ask, Got, Note, Sum};
 
 impl Kept for Sum {
-    ghost use Rattle.sum_room.specs.Adding.{SumSteps, is_leave, Returns, leave_notes, none_same, note_changes};
-    ghost use Rattle.sum_room.specs.Adding.{note_names};
-    ghost use Rattle.sum_room.specs.Adding.{ask_returns, never_full};
+    ghost use Rattle.sum_room.specs.SumObject.{SumSteps, is_leave, Returns, leave_notes, none_same, note_changes};
+    ghost use Rattle.sum_room.specs.SumObject.{note_names};
+    ghost use Rattle.sum_room.specs.SumObject.{ask_returns, never_full};
 
     type Ask = Ask;
 

@@ -13,19 +13,19 @@ use Rattle.sp_front.specs.Codes.{Accepts, IsCompiled}
 use Rattle.sp_front.specs.declared.to_code.CompiledText.{CompiledText}
 use Rattle.sp_execute.specs.declared.execution.Ran.{Ran}
 use Rattle.sp_format.specs.Formats.{Formats}
-use Rattle.sp_gen.specs.Generated.{generated_text}
+use Rattle.sp_gen.specs.GeneratedText.{generated_text}
 use Rattle.sp_outside.specs.Counts.{Rose}
 use Rattle.sp_tree.specs.CheckedOf.{program_of}
 use Rattle.sp_tree.specs.PlainChecked as c
 use Rattle.sp_words.specs.Ranges.{default_limits}
 use Rattle.sp_words.specs.declared.command.Command.{Command}
 use Rattle.sp_words.specs.declared.command.Command.TheVariants as command
-use Rattle.superpascal.specs.declared.asked.Asked.{Asked}
+use Rattle.superpascal.specs.declared.requests.RunRequest.{RunRequest}
 use Rattle.superpascal.specs.declared.ending.Answer.{Answer}
 use Rattle.superpascal.specs.declared.ending.Ending.{Ending}
 use Rattle.superpascal.specs.declared.ending.Ending.TheVariants as e
 use Rattle.superpascal.specs.declared.telling.Telling.{Telling}
-use Rattle.superpascal.specs.Answering.{AnswersEnding, HasCode, ending_answer, ending_of_halt}
+use Rattle.superpascal.specs.AnswerParts.{AnswersEnding, HasCode, ending_answer, ending_of_halt}
 use Rattle.superpascal.specs.Causes.{Cause, by_words, before_words, by_command, Due, by_run, by_generated, by_text}
 use Rattle.superpascal.specs.Causes.{by_code, by_rule, by_library, by_source, by_length, by_memory, Files, IsKnownAs}
 use Rattle.superpascal.specs.Causes.{IsUntouched, ReadsAfterRules, Stream, accepted_answer, answer_without_output}
@@ -212,7 +212,7 @@ text_command_by f s reports d x r h u k = command_by f s reports d x r h
 
 -- ---- `run` and `witness`
 
-module _ (f : Files) (s : Stream) (reports : Reports) (b : Asked) where
+module _ (f : Files) (s : Stream) (reports : Reports) (b : RunRequest) where
   abbrev Due_run : Answer → Type 0
   Due_run a = CommandCause f s reports (command_of_run b) a
 

@@ -7,9 +7,9 @@ use Rattle.sp_base.specs.declared.limits.Limits.{Limits}
 use Rattle.sp_base.specs.declared.limits.Show.{Show}
 use Rattle.sp_words.specs.declared.command.Command.{Command}
 use Rattle.sp_words.specs.declared.command.Command.TheVariants as command
-use Rattle.superpascal.specs.declared.asked.Asked.{Asked}
-use Rattle.superpascal.specs.declared.asked.Executed.{Executed}
-use Rattle.superpascal.specs.declared.asked.Followed.{Followed}
+use Rattle.superpascal.specs.declared.requests.RunRequest.{RunRequest}
+use Rattle.superpascal.specs.declared.requests.ExecRequest.{ExecRequest}
+use Rattle.superpascal.specs.declared.requests.ReplayRequest.{ReplayRequest}
 use Rattle.superpascal.specs.declared.telling.Telling.{Telling}
 use Rattle.superpascal.specs.declared.telling.Telling.TheVariants as told
 use Rattle.superpascal.specs.Texts.{FirstBrokenFor, FirstBroken, CanRead, AcceptedFor, IsAcceptedText}
@@ -18,7 +18,7 @@ use Rattle.superpascal.specs.Texts.{command_of_execution, command_of_replay, tex
 use Rattle.superpascal.proofs.Laws.{IsAbout}
 
 -- what holds of `run` and of `witness` holds of the command
-pub either_command : (P : Command → Type 0) (b : Asked)
+pub either_command : (P : Command → Type 0) (b : RunRequest)
     → ((show : Show) → P (command.Run b.file b.workers b.limits show)) → P (command.Witness b.file b.workers b.limits)
     → P (command_of_run b)
 either_command P b run witness = go b.telling
@@ -27,37 +27,37 @@ either_command P b run witness = go b.telling
     go (told.Reports show) = run show
     go told.Witness = witness
 
-pub asked_text : (held : List ℕ → Option (List ℕ)) (b : Asked) → text_of held (command_of_run b) ≡ held b.file
+pub asked_text : (held : List ℕ → Option (List ℕ)) (b : RunRequest) → text_of held (command_of_run b) ≡ held b.file
 asked_text held b = either_command (λ d. text_of held d ≡ held b.file) b (λ show. refl) refl
 
-pub asked_about : (b : Asked) → IsAbout (command_of_run b) b.file
+pub asked_about : (b : RunRequest) → IsAbout (command_of_run b) b.file
 asked_about b = either_command (λ d. IsAbout d b.file) b (λ show. (refl, λ k. k)) (refl, λ k. k)
 
-pub asked_reads : (held : List ℕ → Option (List ℕ)) (b : Asked) → IfSome (held b.file) IsAcceptedText
+pub asked_reads : (held : List ℕ → Option (List ℕ)) (b : RunRequest) → IfSome (held b.file) IsAcceptedText
     → CanRead held (command_of_run b)
 asked_reads held b h = either_command (λ d. CanRead held d) b (λ show. h) h
 
-pub asked_breaks : (b : Asked) (text : List ℕ) (r : Refusal) → FirstBroken text r
+pub asked_breaks : (b : RunRequest) (text : List ℕ) (r : Refusal) → FirstBroken text r
     → FirstBrokenFor (command_of_run b) text r
 asked_breaks b text r h = either_command (λ d. FirstBrokenFor d text r) b (λ show. h) h
 
-pub breaks_asked : (b : Asked) (text : List ℕ) (r : Refusal) → FirstBrokenFor (command_of_run b) text r
+pub breaks_asked : (b : RunRequest) (text : List ℕ) (r : Refusal) → FirstBrokenFor (command_of_run b) text r
     → FirstBroken text r
 breaks_asked b text r = either_command (λ d. FirstBrokenFor d text r → FirstBroken text r) b (λ show h. h) (λ h. h)
 
-pub asked_keeps : (b : Asked) (text : List ℕ) → IsAcceptedText text → AcceptedFor (command_of_run b) text
+pub asked_keeps : (b : RunRequest) (text : List ℕ) → IsAcceptedText text → AcceptedFor (command_of_run b) text
 asked_keeps b text h = either_command (λ d. AcceptedFor d text) b (λ show. h) h
 
-pub keeps_asked : (b : Asked) (text : List ℕ) → AcceptedFor (command_of_run b) text → IsAcceptedText text
+pub keeps_asked : (b : RunRequest) (text : List ℕ) → AcceptedFor (command_of_run b) text → IsAcceptedText text
 keeps_asked b text = either_command (λ d. AcceptedFor d text → IsAcceptedText text) b (λ show h. h) (λ h. h)
 
-pub asked_makes : (b : Asked) (text out line : List ℕ) → Makes (command_of_run b) text out line → ⊥
+pub asked_makes : (b : RunRequest) (text out line : List ℕ) → Makes (command_of_run b) text out line → ⊥
 asked_makes b text out line = either_command (λ d. Makes d text out line → ⊥) b (λ show h. h) (λ h. h)
 
-pub asked_no_text : (b : Asked) → asks_text (command_of_run b) → ⊥
+pub asked_no_text : (b : RunRequest) → asks_text (command_of_run b) → ⊥
 asked_no_text b = either_command (λ d. asks_text d → ⊥) b (λ show h. h) (λ h. h)
 
-pub asked_no_build : (b : Asked) → asks_build (command_of_run b) → ⊥
+pub asked_no_build : (b : RunRequest) → asks_build (command_of_run b) → ⊥
 asked_no_build b = either_command (λ d. asks_build d → ⊥) b (λ show h. h) (λ h. h)
 
 -- ---- one command asks for one run
@@ -67,23 +67,23 @@ not_generated : (size workers file : _) (n : ℕ) (limits : Limits) (t : Telling
 not_generated size workers file n limits (told.Reports show) h = cc
 not_generated size workers file n limits told.Witness h = cc
 
-pub not_gen : (a : Asked) (size workers : ℕ) → command_of_run a ≡ command.Gen size workers → ⊥
+pub not_gen : (a : RunRequest) (size workers : ℕ) → command_of_run a ≡ command.Gen size workers → ⊥
 not_gen a size workers h = not_generated size workers a.file a.workers a.limits a.telling h
 
-not_replayed : (b : Followed) (file : List ℕ) (n : ℕ) (limits : Limits) (t : Telling)
+not_replayed : (b : ReplayRequest) (file : List ℕ) (n : ℕ) (limits : Limits) (t : Telling)
     → command_of_replay b ≡ command_for_run t file n limits → ⊥
 not_replayed b file n limits (told.Reports show) h = cc
 not_replayed b file n limits told.Witness h = cc
 
-pub not_run : (b : Followed) (a : Asked) → command_of_replay b ≡ command_of_run a → ⊥
+pub not_run : (b : ReplayRequest) (a : RunRequest) → command_of_replay b ≡ command_of_run a → ⊥
 not_run b a h = not_replayed b a.file a.workers a.limits a.telling h
 
-not_executed : (file : List ℕ) (n : ℕ) (limits : Limits) (t : Telling) (b : Executed)
+not_executed : (file : List ℕ) (n : ℕ) (limits : Limits) (t : Telling) (b : ExecRequest)
     → command_for_run t file n limits ≡ command_of_execution b → ⊥
 not_executed file n limits (told.Reports show) b h = cc
 not_executed file n limits told.Witness b h = cc
 
-pub not_exec : (a : Asked) (b : Executed) → command_of_run a ≡ command_of_execution b → ⊥
+pub not_exec : (a : RunRequest) (b : ExecRequest) → command_of_run a ≡ command_of_execution b → ⊥
 not_exec a b h = not_executed a.file a.workers a.limits a.telling b h
 
 one_for : (t u : Telling) (file name : List ℕ) (n m : ℕ) (limits other : Limits)
@@ -109,5 +109,5 @@ one_for told.Witness (told.Reports b) file name n m limits other h = absurd (apa
     apart : command.Run name m other b ≡ command.Witness file n limits → ⊥
     apart h = cc
 
-pub one_asked : (a b : Asked) → command_of_run b ≡ command_of_run a → b ≡ a
+pub one_asked : (a b : RunRequest) → command_of_run b ≡ command_of_run a → b ≡ a
 one_asked a b h = one_for a.telling b.telling a.file b.file a.workers b.workers a.limits b.limits h

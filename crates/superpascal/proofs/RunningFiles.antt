@@ -1,5 +1,5 @@
 -- The run of the code of a file: it is sound, and where `build` wrote the file for a text, it runs as the text's
--- program means. It leads from `run_code` to the run of a code file.
+-- program means. It leads from `run_code_file` to the run of a code file.
 use Rattle.std.proofs.Common.{◌≡◌, ℕ, List, Result, Ok, Err, sym, subst}
 use Rattle.std.specs.Prelude.{IfOk}
 use Rattle.sp_base.specs.declared.halt.Memory.{Memory}
@@ -9,15 +9,15 @@ use Rattle.sp_code.specs.Sizes.{KeepsSizes}
 use Rattle.sp_code.specs.Sound.{IsSound}
 use Rattle.sp_codefile.specs.CodeText.{IsTextOf}
 use Rattle.sp_execute.specs.Machines.{RunsCode}
-use Rattle.sp_generate.specs.Generated.{IsCodeOf}
+use Rattle.sp_generate.specs.GeneratorAnswers.{IsCodeOf}
 use Rattle.sp_kernel.specs.declared.closed.Closed.{Closed}
 use Rattle.sp_verify_rules.specs.Verdict.{IsVerified}
 use Rattle.sp_tree.specs.Bare.{without_places}
 use Rattle.sp_words.specs.Ranges.{IsInRange}
-use Rattle.superpascal.specs.Answering.{HasCode}
+use Rattle.superpascal.specs.AnswerParts.{HasCode}
 use Rattle.superpascal.specs.Executions.{IsExecutionOf, IsMeantBy}
 use Rattle.superpascal.specs.Texts.{IsCodeFile, IsFileOf}
-use Rattle.superpascal.proofs.Running.{ReadyLaw, ready_code}
+use Rattle.superpascal.proofs.RunFacts.{ReadyLaw, ready_code}
 
 -- the law of verified code
 abbrev pub SoundLaw : Type 0

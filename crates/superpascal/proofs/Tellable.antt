@@ -17,7 +17,7 @@ use Rattle.sp_print.specs.OutcomeLines.{HasLines}
 use Rattle.sp_replay.specs.declared.replayer.Replayed.{Replayed}
 use Rattle.sp_runner.specs.Ends.{EndsAt}
 use Rattle.sp_tree.specs.Bare.{without_places}
-use Rattle.superpascal.specs.Answering.{HasEndLines, IsTellable}
+use Rattle.superpascal.specs.AnswerParts.{HasEndLines, IsTellable}
 use Rattle.superpascal.specs.Executions.{IsExecutionOf}
 use Rattle.superpascal.specs.Replays.{IsReplayOf}
 use Rattle.superpascal.specs.Runs.{IsRunOf}

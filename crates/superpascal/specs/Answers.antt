@@ -2,7 +2,7 @@
 -- What a call has to write, and its status: the table of endings. The contracts of `ending` and `writing` promise it,
 -- and the headline and the statuses are said by it.
 use Rattle.std.specs.Prelude.{ℕ, List, [], ◌++◌, Option, Some, None, Bool, true, false, codes, decimal}
-use Rattle.sp_codefile.specs.Verifying.{rule_of}
+use Rattle.sp_codefile.specs.VerifyAnswers.{rule_of}
 use Rattle.sp_execute.specs.declared.execution.Ran.{Ran}
 use Rattle.sp_kernel.specs.declared.closed.Closed.{Closed}
 use Rattle.sp_print.specs.OutcomeLines.{refusal_text}

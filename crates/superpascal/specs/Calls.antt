@@ -6,9 +6,9 @@ use Rattle.sp_outside.specs.Counts.{Rose}
 use Rattle.sp_outside.specs.Visible.{Grows}
 use Rattle.sp_words.specs.Words.{command_of}
 use Rattle.sp_words.specs.declared.command.Command.{Command}
-use Rattle.superpascal.specs.declared.asked.Asked.{Asked}
-use Rattle.superpascal.specs.declared.asked.Executed.{Executed}
-use Rattle.superpascal.specs.declared.asked.Followed.{Followed}
+use Rattle.superpascal.specs.declared.requests.RunRequest.{RunRequest}
+use Rattle.superpascal.specs.declared.requests.ExecRequest.{ExecRequest}
+use Rattle.superpascal.specs.declared.requests.ReplayRequest.{ReplayRequest}
 use Rattle.superpascal.specs.declared.ending.Answer.{Answer}
 use Rattle.superpascal.specs.declared.ending.Ending.{Ending}
 use Rattle.superpascal.specs.declared.outcome.Outcome.{Outcome}
@@ -68,30 +68,31 @@ call words files source reports output notes outcome =
     }
 
 -- of the run that the words ask for, and its text, where the library tells it
-abbrev pub OfRun : Call → (Asked → List ℕ → Type 0) → Type 0
-OfRun c P = (a : Asked) (text : List ℕ) → command_of c.words ≡ Some (command_of_run a) → c.files.held a.file ≡ Some text
+abbrev pub OfRun : Call → (RunRequest → List ℕ → Type 0) → Type 0
+OfRun c P = (a : RunRequest) (text : List ℕ) → command_of c.words ≡ Some (command_of_run a)
+    → c.files.held a.file ≡ Some text
     → P a text
 
 -- the same with the input, where the source tells it
-abbrev pub OfInput : Call → (Asked → List ℕ → List ℕ → Type 0) → Type 0
+abbrev pub OfInput : Call → (RunRequest → List ℕ → List ℕ → Type 0) → Type 0
 OfInput c P = OfRun c (λ a text. (input : List ℕ) → c.source.left ≡ Some input → P a text input)
 
 -- of the journal that the words ask to follow, the bytes of its text and its own, where the library tells both
-abbrev pub OfReplay : Call → (Followed → List ℕ → List ℕ → Type 0) → Type 0
-OfReplay c P = (b : Followed) (text bytes : List ℕ) → command_of c.words ≡ Some (command_of_replay b)
+abbrev pub OfReplay : Call → (ReplayRequest → List ℕ → List ℕ → Type 0) → Type 0
+OfReplay c P = (b : ReplayRequest) (text bytes : List ℕ) → command_of c.words ≡ Some (command_of_replay b)
     → c.files.held b.file ≡ Some text → c.files.held b.journal ≡ Some bytes → P b text bytes
 
 -- the same with the input, where the source tells it
-abbrev pub OfReplayInput : Call → (Followed → List ℕ → List ℕ → List ℕ → Type 0) → Type 0
+abbrev pub OfReplayInput : Call → (ReplayRequest → List ℕ → List ℕ → List ℕ → Type 0) → Type 0
 OfReplayInput c P = OfReplay c (λ b text bytes. (input : List ℕ) → c.source.left ≡ Some input → P b text bytes input)
 
 -- of the execution that the words ask for, and the bytes of its code file, where the library tells them
-abbrev pub OfExecution : Call → (Executed → List ℕ → Type 0) → Type 0
-OfExecution c P = (b : Executed) (bytes : List ℕ) → command_of c.words ≡ Some (command_of_execution b)
+abbrev pub OfExecution : Call → (ExecRequest → List ℕ → Type 0) → Type 0
+OfExecution c P = (b : ExecRequest) (bytes : List ℕ) → command_of c.words ≡ Some (command_of_execution b)
     → c.files.held b.file ≡ Some bytes → P b bytes
 
 -- the same with the input, where the source tells it
-abbrev pub OfExecutionInput : Call → (Executed → List ℕ → List ℕ → Type 0) → Type 0
+abbrev pub OfExecutionInput : Call → (ExecRequest → List ℕ → List ℕ → Type 0) → Type 0
 OfExecutionInput c P = OfExecution c (λ b bytes. (input : List ℕ) → c.source.left ≡ Some input → P b bytes input)
 
 -- of the command that the words ask for, and its text, where that is told

@@ -5,12 +5,12 @@ use Rattle.std.specs.Prelude.{◌≡◌, ◌⊎◌, ℕ, ◌<◌, ◌≤◌, Lis
 use Rattle.sp_base.specs.declared.halt.Refusal.{Refusal}
 use Rattle.sp_code.specs.declared.code.Parts.{Parts}
 use Rattle.sp_codefile.specs.CodeText.{IsFirstBad as IsFirstBadOfCode, IsTextOf as IsTextOfCode}
-use Rattle.sp_codefile.specs.Verifying.{rule_of}
+use Rattle.sp_codefile.specs.VerifyAnswers.{rule_of}
 use Rattle.sp_codefile.specs.declared.verifier.VRule.{VRule}
-use Rattle.sp_gen.specs.Generated.{generated_text}
+use Rattle.sp_gen.specs.GeneratedText.{generated_text}
 use Rattle.sp_execute.specs.declared.execution.Ran.{Ran}
 use Rattle.sp_journal.specs.declared.entry.Journal.{Journal}
-use Rattle.sp_journal.specs.Reading.{IsText}
+use Rattle.sp_journal.specs.ReadAnswers.{IsText}
 use Rattle.sp_journal.specs.Texts.{IsFirstBad}
 use Rattle.sp_kernel.specs.declared.closed.Closed.{Closed}
 use Rattle.sp_outside.specs.Counts.{Rose}
@@ -21,9 +21,9 @@ use Rattle.sp_verify_rules.specs.Verdict.{IsRejected}
 use Rattle.sp_words.specs.Ranges.{default_limits}
 use Rattle.sp_words.specs.declared.command.Command.{Command}
 use Rattle.sp_words.specs.declared.command.Command.TheVariants as command
-use Rattle.superpascal.specs.declared.asked.Asked.{Asked}
-use Rattle.superpascal.specs.declared.asked.Executed.{Executed}
-use Rattle.superpascal.specs.declared.asked.Followed.{Followed}
+use Rattle.superpascal.specs.declared.requests.RunRequest.{RunRequest}
+use Rattle.superpascal.specs.declared.requests.ExecRequest.{ExecRequest}
+use Rattle.superpascal.specs.declared.requests.ReplayRequest.{ReplayRequest}
 use Rattle.superpascal.specs.declared.ending.Ending.{Ending}
 use Rattle.superpascal.specs.declared.ending.Ending.TheVariants as e
 use Rattle.superpascal.specs.declared.ending.Answer.{Answer}
@@ -87,7 +87,7 @@ refusal_answer r = record { ending = e.Refused r; ran = None; executed = None; o
 -- ---- causes
 
 -- the program of the text has run on the whole input, and this is the answer
-pub record HasRun (f : Files) (s : Stream) (reports : Reports) (asked : Asked) (a : Answer) : Type 0 where
+pub record HasRun (f : Files) (s : Stream) (reports : Reports) (asked : RunRequest) (a : Answer) : Type 0 where
   pub text : List ℕ
   pub input : List ℕ
   pub ran : Ran
@@ -147,7 +147,7 @@ pub record IsLongInput (f : Files) (s : Stream) (c : Command) (a : Answer) : Typ
   pub answer : a ≡ answer_without_output e.TooLong
 
 -- what a command that follows a journal reads: its text, its journal and the whole input, as far as they are told
-pub record HasRead (f : Files) (s : Stream) (asked : Followed) : Type 0 where
+pub record HasRead (f : Files) (s : Stream) (asked : ReplayRequest) : Type 0 where
   pub text : List ℕ
   pub bytes : List ℕ
   pub journal : Journal
@@ -160,7 +160,7 @@ pub record HasRead (f : Files) (s : Stream) (asked : Followed) : Type 0 where
   pub at_end : IsAtEnd s.left'
 
 -- the program of the text was followed along the journal on the whole input, and this is the answer
-pub record HasReplayed (f : Files) (s : Stream) (asked : Followed) (a : Answer) : Type 0 where
+pub record HasReplayed (f : Files) (s : Stream) (asked : ReplayRequest) (a : Answer) : Type 0 where
   pub has_read : HasRead f s asked
   pub replayed : Replayed
   pub is_replay : IsReplayOf has_read.text has_read.input asked.limits has_read.journal replayed
@@ -169,13 +169,13 @@ pub record HasReplayed (f : Files) (s : Stream) (asked : Followed) (a : Answer) 
   pub answer : a ≡ replay_answer replayed.end out
 
 -- entry n is the first that the program cannot make there
-pub record IsUnfit (f : Files) (s : Stream) (asked : Followed) (n : ℕ) (a : Answer) : Type 0 where
+pub record IsUnfit (f : Files) (s : Stream) (asked : ReplayRequest) (n : ℕ) (a : Answer) : Type 0 where
   pub has_read : HasRead f s asked
   pub is_unfit : IsUnfitFor has_read.text has_read.input asked.limits has_read.journal n
   pub answer : a ≡ numbered_answer (e.Unfit n)
 
 -- for a text that breaks no rule, line n of the journal is the first that is no text of a next entry
-pub record IsBadJournal (f : Files) (asked : Followed) (n : ℕ) (a : Answer) : Type 0 where
+pub record IsBadJournal (f : Files) (asked : ReplayRequest) (n : ℕ) (a : Answer) : Type 0 where
   pub kept : IfSome (f.held asked.file) IsAcceptedText
   pub short : IfSome (f.held asked.journal) (λ bytes. length bytes ≤ 67108864)
   pub bad : IfSome (f.held asked.journal) (IsFirstBad n)
@@ -183,13 +183,13 @@ pub record IsBadJournal (f : Files) (asked : Followed) (n : ℕ) (a : Answer) : 
   pub answer : a ≡ numbered_answer (e.BadJournal n)
 
 -- for a text that breaks no rule, the journal is longer than the limit
-pub record IsLongJournal (f : Files) (asked : Followed) (a : Answer) : Type 0 where
+pub record IsLongJournal (f : Files) (asked : ReplayRequest) (a : Answer) : Type 0 where
   pub kept : IfSome (f.held asked.file) IsAcceptedText
   pub long : IfSome (f.held asked.journal) (λ bytes. 67108864 < length bytes)
   pub answer : a ≡ answer_without_output e.LongJournal
 
 -- the code file has run on the whole input, and this is the answer
-pub record HasExecuted (f : Files) (s : Stream) (asked : Executed) (a : Answer) : Type 0 where
+pub record HasExecuted (f : Files) (s : Stream) (asked : ExecRequest) (a : Answer) : Type 0 where
   pub bytes : List ℕ
   pub input : List ℕ
   pub run : Closed
@@ -201,12 +201,12 @@ pub record HasExecuted (f : Files) (s : Stream) (asked : Executed) (a : Answer) 
   pub answer : a ≡ execution_answer run
 
 -- the code file is longer than the limit
-pub record IsLongFile (f : Files) (asked : Executed) (a : Answer) : Type 0 where
+pub record IsLongFile (f : Files) (asked : ExecRequest) (a : Answer) : Type 0 where
   pub long : IfSome (f.held asked.file) (λ bytes. 67108864 < length bytes)
   pub answer : a ≡ answer_without_output e.LongFile
 
 -- line n of the code file is the first with which its lines begin no code's text
-pub record IsBadCode (f : Files) (asked : Executed) (n : ℕ) (a : Answer) : Type 0 where
+pub record IsBadCode (f : Files) (asked : ExecRequest) (n : ℕ) (a : Answer) : Type 0 where
   pub bytes : List ℕ
   pub loaded : IsKnownAs (f.held asked.file) bytes
   pub short : length bytes ≤ 67108864
@@ -214,7 +214,7 @@ pub record IsBadCode (f : Files) (asked : Executed) (n : ℕ) (a : Answer) : Typ
   pub answer : a ≡ numbered_answer (e.BadCode n)
 
 -- the code of the file breaks rule v first, and instruction i is the least at which it does
-pub record IsRejectedCode (f : Files) (asked : Executed) (v : VRule) (i : ℕ) (a : Answer) : Type 0 where
+pub record IsRejectedCode (f : Files) (asked : ExecRequest) (v : VRule) (i : ℕ) (a : Answer) : Type 0 where
   pub bytes : List ℕ
   pub code : Parts
   pub loaded : IsKnownAs (f.held asked.file) bytes
@@ -225,7 +225,7 @@ pub record IsRejectedCode (f : Files) (asked : Executed) (v : VRule) (i : ℕ) (
 
 -- Why an answer to a command is due.
 pub data Due (f : Files) (s : Stream) (reports : Reports) (c : Command) (a : Answer) : Type 0 where
-  by_run : (asked : Asked) → c ≡ command_of_run asked → HasRun f s reports asked a → Due f s reports c a
+  by_run : (asked : RunRequest) → c ≡ command_of_run asked → HasRun f s reports asked a → Due f s reports c a
   by_generated : (size workers : ℕ) → c ≡ command.Gen size workers → HasGenerated size workers a → Due f s reports c a
   by_text : HasMadeOutput f c a → Due f s reports c a
   by_code : IsLongCode f c a → Due f s reports c a
@@ -233,15 +233,17 @@ pub data Due (f : Files) (s : Stream) (reports : Reports) (c : Command) (a : Ans
   by_library : IsNotLoaded f c a → Due f s reports c a
   by_source : IsNotRead f s c a → Due f s reports c a
   by_length : IsLongInput f s c a → Due f s reports c a
-  by_replay : (asked : Followed) → c ≡ command_of_replay asked → HasReplayed f s asked a → Due f s reports c a
-  by_entry : (asked : Followed) (n : ℕ) → c ≡ command_of_replay asked → IsUnfit f s asked n a → Due f s reports c a
-  by_line : (asked : Followed) (n : ℕ) → c ≡ command_of_replay asked → IsBadJournal f asked n a → Due f s reports c a
-  by_size : (asked : Followed) → c ≡ command_of_replay asked → IsLongJournal f asked a → Due f s reports c a
-  by_execution : (asked : Executed) → c ≡ command_of_execution asked → HasExecuted f s asked a → Due f s reports c a
-  by_long_file : (asked : Executed) → c ≡ command_of_execution asked → IsLongFile f asked a → Due f s reports c a
-  by_code_line : (asked : Executed) (n : ℕ) → c ≡ command_of_execution asked → IsBadCode f asked n a
+  by_replay : (asked : ReplayRequest) → c ≡ command_of_replay asked → HasReplayed f s asked a → Due f s reports c a
+  by_entry : (asked : ReplayRequest) (n : ℕ) → c ≡ command_of_replay asked → IsUnfit f s asked n a → Due f s reports c a
+  by_line : (asked : ReplayRequest) (n : ℕ) → c ≡ command_of_replay asked → IsBadJournal f asked n a
       → Due f s reports c a
-  by_rejection : (asked : Executed) (v : VRule) (i : ℕ) → c ≡ command_of_execution asked → IsRejectedCode f asked v i a
+  by_size : (asked : ReplayRequest) → c ≡ command_of_replay asked → IsLongJournal f asked a → Due f s reports c a
+  by_execution : (asked : ExecRequest) → c ≡ command_of_execution asked → HasExecuted f s asked a → Due f s reports c a
+  by_long_file : (asked : ExecRequest) → c ≡ command_of_execution asked → IsLongFile f asked a → Due f s reports c a
+  by_code_line : (asked : ExecRequest) (n : ℕ) → c ≡ command_of_execution asked → IsBadCode f asked n a
+      → Due f s reports c a
+  by_rejection : (asked : ExecRequest) (v : VRule) (i : ℕ) → c ≡ command_of_execution asked
+      → IsRejectedCode f asked v i a
       → Due f s reports c a
   by_memory : a ≡ answer_without_output e.OutOfMemory → Due f s reports c a
 

@@ -14,7 +14,7 @@ use Rattle.sp_execute.specs.declared.execution.Ran.{Ran}
 use Rattle.sp_execute.specs.Runs.{Executes, run_input}
 use Rattle.sp_front.specs.Checks.{IsProgramOf}
 use Rattle.sp_tree.specs.Plain.{Program}
-use Rattle.superpascal.specs.declared.asked.Asked.{Asked}
+use Rattle.superpascal.specs.declared.requests.RunRequest.{RunRequest}
 use Rattle.superpascal.specs.declared.ending.Ending.TheVariants as e
 use Rattle.superpascal.specs.Answers.{status_of}
 use Rattle.superpascal.specs.Calls.{WroteAll, Call, OfInput, OfRun, WrotePart, SaysEnding}
@@ -31,7 +31,7 @@ pub record Prints (c : Call) (telling : Telling) (r : Ran) : Type 0 where
 -- the run is one of the program of the text: along its journal the meaning of the program on the input with the limits
 -- is defined, with its output and its end; its verdict is the exact one; where that is `ordered`, every lawful schedule
 -- ends alike
-abbrev pub IsMeant : Asked → List ℕ → List ℕ → Ran → Type 0
+abbrev pub IsMeant : RunRequest → List ℕ → List ℕ → Ran → Type 0
 IsMeant a text input r = (p : Program) × IsProgramOf text p × Executes (run_input p input a.limits) a.workers r
 
 pub record Headline (c : Call) : Type 0 where

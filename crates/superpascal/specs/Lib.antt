@@ -1,11 +1,11 @@
-pub mod Answering
+pub mod AnswerParts
 pub mod Answers
 pub mod Calls
 pub mod Causes
 pub mod Executions
-pub mod Executing
+pub mod ExecPromise
 pub mod Headline
-pub mod Following
+pub mod ReplayPromise
 pub mod Promise
 pub mod Replays
 pub mod Runs
@@ -13,6 +13,6 @@ pub mod Statuses
 pub mod Steps
 pub mod Texts
 pub mod Traces
-pub mod Tracing
-pub mod Witnessing
-pub mod Writing
+pub mod TracePromise
+pub mod WitnessPromise
+pub mod WrittenParts

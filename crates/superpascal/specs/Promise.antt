@@ -3,13 +3,13 @@
 -- file is, what the witness of a race shows, when each status comes, what is written, and which answer was due and why.
 -- It is the contract of the call that the program makes, and nothing else is promised to its user.
 use Rattle.superpascal.specs.Calls.{Call, IsAnswered}
-use Rattle.superpascal.specs.Executing.{Executing}
-use Rattle.superpascal.specs.Following.{Following}
+use Rattle.superpascal.specs.ExecPromise.{Executing}
+use Rattle.superpascal.specs.ReplayPromise.{Following}
 use Rattle.superpascal.specs.Headline.{Headline}
 use Rattle.superpascal.specs.Statuses.{Statuses}
-use Rattle.superpascal.specs.Tracing.{Tracing}
-use Rattle.superpascal.specs.Witnessing.{Witnessing}
-use Rattle.superpascal.specs.Writing.{Writing}
+use Rattle.superpascal.specs.TracePromise.{Tracing}
+use Rattle.superpascal.specs.WitnessPromise.{Witnessing}
+use Rattle.superpascal.specs.WrittenParts.{Writing}
 
 pub record Promise (c : Call) : Type 0 where
   pub headline : Headline c

@@ -4,14 +4,14 @@
 use Rattle.std.specs.Prelude.{◌≡◌, ◌⊎◌, ℕ, ◌≤◌, List, [], Some, None, IfSome, length}
 use Rattle.sp_base.specs.declared.halt.Refusal.{Refusal}
 use Rattle.sp_execute.specs.declared.execution.Ran.{Ran}
-use Rattle.sp_gen.specs.Generated.{generated_text}
+use Rattle.sp_gen.specs.GeneratedText.{generated_text}
 use Rattle.sp_outside.specs.Counts.{Rose}
 use Rattle.sp_outside.specs.Visible.{IsAtEnd}
 use Rattle.sp_words.specs.Ranges.{default_limits}
 use Rattle.sp_words.specs.Words.{command_of}
 use Rattle.sp_words.specs.declared.command.Command.{Command}
 use Rattle.sp_words.specs.declared.command.Command.TheVariants as command
-use Rattle.superpascal.specs.declared.asked.Asked.{Asked}
+use Rattle.superpascal.specs.declared.requests.RunRequest.{RunRequest}
 use Rattle.superpascal.specs.declared.ending.Ending.TheVariants as e
 use Rattle.superpascal.specs.Answers.{status_of}
 use Rattle.superpascal.specs.Calls.{Call, Exactly, Failed, IsFinal, IsOutside, IsUnwritten, OfReplay, OfRun, OfText}
@@ -39,7 +39,7 @@ InputIsTooLong c = (d : Command) × (command_of c.words ≡ Some d) × CanRead c
 -- generated text
 abbrev pub IsRunOfWords : Call → Ran → Type 0
 IsRunOfWords c r =
-    ((a : Asked) × (command_of c.words ≡ Some (command_of_run a)) × IsAtEnd c.source.left'
+    ((a : RunRequest) × (command_of c.words ≡ Some (command_of_run a)) × IsAtEnd c.source.left'
     × (text input : List ℕ) × IsKnownAs (c.files.held a.file) text × IsKnownAs c.source.left input
     × IsRunOf text input a.workers a.limits r)
     ⊎ ((size workers : ℕ) × (command_of c.words ≡ Some (command.Gen size workers))

@@ -12,24 +12,24 @@ use Rattle.sp_base.specs.declared.rule.Rule.TheVariants as rule
 use Rattle.sp_code.specs.declared.code.Parts.{Parts}
 use Rattle.sp_code.specs.Sound.{IsSound, run_of}
 use Rattle.sp_codefile.specs.CodeText.{IsFirstBad as IsFirstBadOfCode, IsTextOf as IsTextOfCode}
-use Rattle.sp_codefile.specs.Verifying.{rule_of}
+use Rattle.sp_codefile.specs.VerifyAnswers.{rule_of}
 use Rattle.sp_codefile.specs.declared.verifier.VRule.{VRule}
 use Rattle.sp_execute.specs.TextTold.{IsToldInText}
 use Rattle.sp_execute.specs.declared.execution.Ran.{Ran}
 use Rattle.sp_front.specs.Checks.{FirstBrokenUpToTypes}
-use Rattle.sp_front.specs.Marked.{IsMarked}
-use Rattle.sp_front.specs.declared.marking.MarkedText.{MarkedText}
+use Rattle.sp_front.specs.TextMarks.{IsMarked}
+use Rattle.sp_front.specs.declared.marks.MarkedText.{MarkedText}
 use Rattle.sp_journal.specs.declared.entry.Journal.{Journal}
 use Rattle.sp_journal.specs.declared.version.Version.{Version}
-use Rattle.sp_journal.specs.Reading.{IsText}
+use Rattle.sp_journal.specs.ReadAnswers.{IsText}
 use Rattle.sp_journal.specs.Texts.{IsFirstBad, IsTextOf}
 use Rattle.sp_kernel.specs.declared.closed.Closed.{Closed}
 use Rattle.sp_outside.specs.Counts.{Rose}
 use Rattle.sp_outside.specs.Visible.{IsAtEnd}
 use Rattle.sp_lines.specs.Marks.{marks}
 use Rattle.sp_replay.specs.declared.replayer.Replayed.{Replayed}
-use Rattle.sp_replay.specs.Tracing.{TracedTo}
-use Rattle.sp_replay.specs.declared.tracing.Traced.{Traced}
+use Rattle.sp_replay.specs.TraceAnswers.{TracedTo}
+use Rattle.sp_replay.specs.declared.trace.Traced.{Traced}
 use Rattle.sp_verify_rules.specs.Verdict.{IsRejected, IsVerified}
 use Rattle.sp_shown.specs.Constants.{by_kind, constants_of}
 use Rattle.sp_tree.specs.Breaches.{IsTree}
@@ -49,7 +49,7 @@ use Rattle.superpascal.specs.declared.teller.Ready.{Ready}
 use Rattle.superpascal.specs.declared.teller.Teller.{Teller}
 use Rattle.superpascal.specs.declared.teller.Teller.TheVariants as teller
 use Rattle.superpascal.specs.declared.telling.Telling.{Telling}
-use Rattle.superpascal.specs.Answering.{HasCode, ending_answer}
+use Rattle.superpascal.specs.AnswerParts.{HasCode, ending_answer}
 use Rattle.superpascal.specs.Causes.{Cause, Due, Files, HasMadeOutput, IsLongCode, IsNotLoaded, IsRefusedFor, IsKnownAs}
 use Rattle.superpascal.specs.Causes.{IsTooLong, ReadsAfterRules, Stream, answer_without_output}
 use Rattle.superpascal.specs.Executions.{execution_answer}

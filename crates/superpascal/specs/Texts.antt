@@ -13,9 +13,9 @@ use Rattle.sp_front.specs.Codes.{BreaksLength, HasListing}
 use Rattle.sp_format.specs.Formats.{HasLayout, HasNoLayout}
 use Rattle.sp_front.specs.Checks.{FirstBrokenUpToTypes, IsChecked, IsProgramOf}
 use Rattle.sp_front.specs.Compiles.{FirstBrokenOfPhases, IsAccepted}
-use Rattle.sp_gen.specs.Generated.{generated_text}
-use Rattle.sp_generate.specs.Generated.{IsCodeOf}
-use Rattle.sp_journal.specs.Reading.{IsText}
+use Rattle.sp_gen.specs.GeneratedText.{generated_text}
+use Rattle.sp_generate.specs.GeneratorAnswers.{IsCodeOf}
+use Rattle.sp_journal.specs.ReadAnswers.{IsText}
 use Rattle.sp_meaning.specs.LocalWork.{RunInput}
 use Rattle.sp_meaning.specs.Runs.{IsDisjointRun}
 use Rattle.sp_verify_rules.specs.Verdict.{IsVerified}
@@ -27,9 +27,9 @@ use Rattle.sp_varsets.specs.AreSets.{AreSets}
 use Rattle.sp_varsets.specs.declared.sets.Sets.{Sets}
 use Rattle.sp_words.specs.declared.command.Command.{Command}
 use Rattle.sp_words.specs.declared.command.Command.TheVariants as command
-use Rattle.superpascal.specs.declared.asked.Asked.{Asked}
-use Rattle.superpascal.specs.declared.asked.Executed.{Executed}
-use Rattle.superpascal.specs.declared.asked.Followed.{Followed}
+use Rattle.superpascal.specs.declared.requests.RunRequest.{RunRequest}
+use Rattle.superpascal.specs.declared.requests.ExecRequest.{ExecRequest}
+use Rattle.superpascal.specs.declared.requests.ReplayRequest.{ReplayRequest}
 use Rattle.superpascal.specs.declared.telling.Telling.{Telling}
 use Rattle.superpascal.specs.declared.telling.Telling.TheVariants as told
 
@@ -80,7 +80,7 @@ abbrev pub IsDisjointText : List ℕ → Type 0
 IsDisjointText text = (p : m.Program) → IsProgramOf text p → (g : RunInput) → g.program ≡ p → IsDisjointRun g
 
 -- the run that words ask for, and how it is told, by its parts
-abbrev pub asked_run : List ℕ → ℕ → Limits → Telling → Asked
+abbrev pub asked_run : List ℕ → ℕ → Limits → Telling → RunRequest
 asked_run file workers limits telling =
     record { file = file; workers = workers; limits = limits; telling = telling }
 
@@ -89,13 +89,13 @@ abbrev pub command_for_run : Telling → List ℕ → ℕ → Limits → Command
 command_for_run (told.Reports show) file workers limits = command.Run file workers limits show
 command_for_run told.Witness file workers limits = command.Witness file workers limits
 
-abbrev pub command_of_run : Asked → Command
+abbrev pub command_of_run : RunRequest → Command
 command_of_run a = command_for_run a.telling a.file a.workers a.limits
 
-abbrev pub command_of_replay : Followed → Command
+abbrev pub command_of_replay : ReplayRequest → Command
 command_of_replay b = command.Replay b.file b.journal b.limits b.view
 
-abbrev pub command_of_execution : Executed → Command
+abbrev pub command_of_execution : ExecRequest → Command
 command_of_execution b = command.Exec b.file b.workers b.limits
 
 -- the file that a command loads first: its text, or its code file

@@ -15,19 +15,19 @@ use Rattle.sp_code.specs.System.{System, Working}
 use Rattle.sp_code.specs.Turns.{frames_fit}
 use Rattle.sp_journal.specs.Births.{births}
 use Rattle.sp_lines.specs.AtTurn.{next_of}
-use Rattle.sp_generate.specs.Generated.{IsCodeOf}
+use Rattle.sp_generate.specs.GeneratorAnswers.{IsCodeOf}
 use Rattle.sp_execute.specs.TextTold.{HasMark}
 use Rattle.sp_journal.specs.declared.entry.Entry.{Entry}
 use Rattle.sp_journal.specs.declared.entry.Event.TheVariants as event
 use Rattle.sp_journal.specs.declared.entry.Journal.{Journal}
-use Rattle.sp_lines.specs.declared.told.Told.{Told}
+use Rattle.sp_lines.specs.declared.entry_place.Told.{Told}
 use Rattle.sp_lines.specs.Kinds.{HasStatement}
 use Rattle.sp_lines.specs.Marks.{marks}
-use Rattle.sp_lines.specs.Telling.{IsTold, lasts_after}
-use Rattle.sp_lines.specs.Waiting.{IsShown}
-use Rattle.sp_replay.specs.Tracing.{never}
+use Rattle.sp_lines.specs.EntryPlaces.{DescribesEntries, lasts_after}
+use Rattle.sp_lines.specs.WaitPlaces.{IsShown}
+use Rattle.sp_replay.specs.TraceAnswers.{never}
 use Rattle.sp_shown.specs.Constants.{by_kind, constants_of}
-use Rattle.sp_shown.specs.Landing.{landing}
+use Rattle.sp_shown.specs.JumpTargets.{landing}
 use Rattle.sp_tree.specs.Bare.{without_places}
 use Rattle.sp_tree.specs.Breaches.{IsTree}
 use Rattle.sp_tree.specs.PlainChecked as c
@@ -55,7 +55,7 @@ pub record IsToldOf (text input : List ℕ) (limits : Limits) (j : Journal) (tol
   pub code : Parts
   pub is_code : IsCodeOf (without_places tree) code
   pub state : System Plain
-  pub is_told : IsTold (run_of code input limits) j.entries told state
+  pub is_told : DescribesEntries (run_of code input limits) j.entries told state
   pub placed : ArePlaced tree j.entries told
 
 -- The text of the entries: each with its place, by the marks of the tree, and with its message, by the types of the

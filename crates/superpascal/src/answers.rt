@@ -1,9 +1,9 @@
 //! The answers of calls that end without a run, with their lines.
 
 ghost use Rattle.std.specs.Prelude.{◌≡◌, ◌++◌, IfOk, codes, decimal};
-ghost use Rattle.sp_codefile.specs.Verifying.{rule_of};
+ghost use Rattle.sp_codefile.specs.VerifyAnswers.{rule_of};
 ghost use Rattle.sp_verify_rules.specs.Verdict.{number};
-ghost use Rattle.superpascal.specs.Answering.{AnswersEnding, own_line};
+ghost use Rattle.superpascal.specs.AnswerParts.{AnswersEnding, own_line};
 ghost use Rattle.superpascal.specs.Answers.{line_of};
 ghost use Rattle.superpascal.specs.Causes.{accepted_answer, answer_without_output};
 ghost use Rattle.superpascal.specs.declared.ending.Ending.TheVariants as variants;

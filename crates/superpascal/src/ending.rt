@@ -1,7 +1,7 @@
 //! How a call ends (`Ending`), and what it has to write (`Answer`), with statuses and lines.
 
 ghost use Rattle.std.specs.Prelude.{◌≡◌};
-ghost use Rattle.superpascal.specs.Answering.{ending_of_error, ending_of_halt};
+ghost use Rattle.superpascal.specs.AnswerParts.{ending_of_error, ending_of_halt};
 ghost use Rattle.superpascal.specs.Answers.{has_output, notes_by, output_of, status_of};
 ghost use Rattle.superpascal.specs.declared.ending.Ending.TheVariants as variants;
 

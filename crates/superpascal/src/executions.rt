@@ -9,15 +9,15 @@ ghost use Rattle.superpascal.specs.Runs.{Reports};
 ghost use Rattle.superpascal.specs.Steps.{AnswersCommand, TellsExecution};
 ghost use Rattle.superpascal.specs.Texts.{IsFileOf, command_of_execution};
 
-use crate::asked::Executed;
 use crate::ending::{Answer, Ending};
 use crate::host::Host;
 use crate::notes::ending_of;
 use crate::prepare::{prepare_file, read_input};
+use crate::requests::ExecRequest;
 use sp_base::{Limits, Memory, Text};
 use sp_code::Code;
 use sp_codefile::laws::a_text_is_of_one_code;
-use sp_execute::{accepted_programs_are_ready, run_code};
+use sp_execute::{accepted_programs_are_ready, run_code_file};
 use sp_kernel::Closed;
 use sp_outside::{Gate, Library, Source};
 use sp_print::end_lines;
@@ -44,7 +44,7 @@ fn run_file<R: Threads + Wait + Sync, G: Gate>(
     a_text_is_of_one_code();
     let code = Arc::new(host.alloc, code)?;
     let input = Arc::new(host.alloc, input)?;
-    run_code(host.rt, host.alloc, code, input, workers, limits, host.gate)
+    run_code_file(host.rt, host.alloc, code, input, workers, limits, host.gate)
 }
 
 // Tells of a run by its output and its end.
@@ -65,9 +65,9 @@ fn tell_execution(alloc: Global, closed: Closed) -> Result<Answer, Ending>
 }
 
 /// Runs the code file that is asked for on the input, where its code breaks no rule, and tells of the run.
-pub(crate) fn execute<R: Threads + Wait + Sync, L: Library, I: Source, G: Gate>(
+pub(crate) fn exec_file<R: Threads + Wait + Sync, L: Library, I: Source, G: Gate>(
     host: &Host<R, G>,
-    asked: &Executed,
+    asked: &ExecRequest,
     library: &mut L,
     input: &mut I,
 ) -> Result<Answer, Ending>

@@ -17,7 +17,8 @@
 //!   `sp_kernel`.
 //!
 //! To know:
-//! - `src/top.rt` is the call: the words, the command that they ask for (`src/asked.rt`), its answer, and the writing.
+//! - `src/top.rt` is the call: the words, the command that they ask for (`src/requests.rt`), its answer, and the
+//!   writing.
 //! - A command is a row of steps, each on a line of its own with `?`, as `run` there: load and compilation (`prepare`),
 //!   input, run with verdict, texts. A step gives what the next needs, or the `Ending` of the call. The steps that
 //!   commands share are `src/prepare.rt`.
@@ -25,16 +26,16 @@
 //!   `src/telling.rt` says, and `gen`, `src/replays.rt` the commands that follow a journal, with what they tell it by
 //!   (`src/teller.rt`), `src/executions.rt` the one that runs a code file. `src/notes.rt` is what is told of a run,
 //!   `src/answers.rt` makes the answer of an ending without a run.
-//! - `src/ending.rt` is how a call ends (`Ending`) and what it has to write (`Answer`), `src/writing.rt` writes it,
+//! - `src/ending.rt` is how a call ends (`Ending`) and what it has to write (`Answer`), `src/writer.rt` writes it,
 //!   `src/outcome.rt` is what is given back. `src/host.rt` is what the steps take of the system (`Host`).
 //! - The contract speaks of a call as `specs/Calls.antt` describes it (`Call`). What each step answers stands in
-//!   `specs/Steps.antt`, what its answer is made of in `specs/Answering.antt`, why an answer is due in
+//!   `specs/Steps.antt`, what its answer is made of in `specs/AnswerParts.antt`, why an answer is due in
 //!   `specs/Causes.antt` (`Cause`), what it has to write in `specs/Answers.antt`.
-//! - Of the proofs, `Running` and `RunningFiles` lead from `sp_execute` to a text's program and to a code file,
-//!   `Marking` from the tree and the marks of a text to the texts of its entries and of its state, `Parts`, `Replaying`
-//!   and `Executed` from the steps of a command to the cause of its answer, `Why` from an ending to its cause,
-//!   `FromEnding` from both to what is due, `Calling` and `Executing` from cause and writing to the contract;
-//!   `Promising` puts the parts together.
+//! - Of the proofs, `RunFacts` and `RunningFiles` lead from `sp_execute` to a text's program and to a code file,
+//!   `MarkFacts` from the tree and the marks of a text to the texts of its entries and of its state, `Parts`,
+//!   `ReplayFacts` and `ExecCauses` from the steps of a command to the cause of its answer, `Why` from an ending to
+//!   its cause, `EndingFacts` from both to what is due, `CallFacts` and `Executing` from cause and writing to the
+//!   contract; `PromiseParts` puts the parts together.
 //! - The rules of the text come before its input, so `run`, `check` and `code` name the first broken rule of all;
 //!   `sets` looks up to types and `format` at characters and grammar. A text longer than the library's limit is never
 //!   seen whole; that it is longer is all that L1 says, so its refusal needs no bytes.
@@ -52,10 +53,10 @@
 //!   its own that workers are in turns at once.
 //!
 //! To change:
-//! - A status or a line: `Ending` in `src/ending.rt`, `specs/Answers.antt`, `own_line` of `specs/Answering.antt` and of
-//!   `src/answers.rt`, its cause in `Due` of `specs/Causes.antt`, the step that it ends in `specs/Steps.antt`, its
-//!   clause in `specs/Statuses.antt`, `proofs/Why.antt`, `proofs/FromEnding.antt` and `proofs/Calling.antt`.
-//! - A command: its variant in `sp_words`; what it asks for in `src/asked.rt`; `file_of`, `text_of`, `FollowsUnder`,
+//! - A status or a line: `Ending` in `src/ending.rt`, `specs/Answers.antt`, `own_line` of `specs/AnswerParts.antt` and
+//!   of `src/answers.rt`, its cause in `Due` of `specs/Causes.antt`, the step that it ends in `specs/Steps.antt`, its
+//!   clause in `specs/Statuses.antt`, `proofs/Why.antt`, `proofs/EndingFacts.antt` and `proofs/CallFacts.antt`.
+//! - A command: its variant in `sp_words`; what it asks for in `src/requests.rt`; `file_of`, `text_of`, `FollowsUnder`,
 //!   `FirstBrokenFor`, `AcceptedFor`, `asks_text`, `asks_run`, `asks_replay`, `asks_build`, `asks_execution`,
 //!   `CanRead`, `Makes` and `asks_all` of `specs/Texts.antt`; its function in `src/texts.rt`, `src/runs.rt`,
 //!   `src/replays.rt` or `src/executions.rt`, its arm in `src/top.rt`.
@@ -66,7 +67,6 @@
 #![tactic(auto)]
 
 mod answers;
-mod asked;
 mod ending;
 mod executions;
 mod host;
@@ -74,12 +74,13 @@ mod notes;
 mod outcome;
 mod prepare;
 mod replays;
+mod requests;
 mod runs;
 mod teller;
 mod telling;
 mod texts;
 mod top;
-mod writing;
+mod writer;
 
 pub use outcome::Outcome;
 pub use sp_execute::Ran;

@@ -6,17 +6,17 @@ ghost use Rattle.sp_tree.specs.PlainChecked.{Program as Checked};
 ghost use Rattle.sp_words.specs.Ranges.{IsInRange};
 ghost use Rattle.sp_words.specs.declared.command.View.{View as AView};
 ghost use Rattle.sp_words.specs.declared.command.View.TheVariants as view;
-ghost use Rattle.superpascal.specs.Answering.{HasCode, HasEndLines};
+ghost use Rattle.superpascal.specs.AnswerParts.{HasCode, HasEndLines};
 ghost use Rattle.superpascal.specs.Causes.{files_of, stream_of};
 ghost use Rattle.superpascal.specs.Runs.{Reports};
 ghost use Rattle.superpascal.specs.Steps.{AccountsFor, AnswersCommand, GivesReady, GivesSymbols, HasSymbols, HasTeller};
 ghost use Rattle.superpascal.specs.Steps.{TellsReplay, TracesTo};
 ghost use Rattle.superpascal.specs.Texts.{command_of_replay};
 
-use crate::asked::Followed;
 use crate::ending::{Answer, Ending};
 use crate::notes::{ending_of_replay, replay_notes};
 use crate::prepare::{prepare, prepare_journal, prepare_marked, read_input};
+use crate::requests::ReplayRequest;
 use crate::teller::{Account, Ready, Teller};
 use sp_base::{Limits, Text, Word};
 use sp_code::Code;
@@ -195,7 +195,7 @@ fn ready<L: Library>(
     rt: &impl Threads,
     alloc: Global,
     library: &mut L,
-    asked: &Followed,
+    asked: &ReplayRequest,
 ) -> Result<Ready, Ending>
     ensures ready { GivesReady (files_of L.held L.faults library.old library.new) asked.now.file asked.now.view
         result }
@@ -227,7 +227,7 @@ fn ready<L: Library>(
 pub(crate) fn replay<L: Library, I: Source>(
     rt: &impl Threads,
     alloc: Global,
-    asked: &Followed,
+    asked: &ReplayRequest,
     library: &mut L,
     input: &mut I,
 ) -> Result<Answer, Ending>

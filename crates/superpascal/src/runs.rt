@@ -2,11 +2,11 @@
 
 ghost use Rattle.std.specs.Prelude.{ℕ, ◌≤◌, List, IfOk};
 ghost use Rattle.sp_execute.specs.Witnesses.{IsReadyRun};
-ghost use Rattle.sp_report.specs.Telling.{AreFresh, reports};
+ghost use Rattle.sp_report.specs.WatcherReports.{AreFresh, reports};
 ghost use Rattle.sp_tree.specs.PlainChecked.{Program as Checked};
 ghost use Rattle.sp_words.specs.Ranges.{IsInRange};
 ghost use Rattle.sp_words.specs.declared.command.Command.TheVariants.{Gen};
-ghost use Rattle.superpascal.specs.Answering.{HasCode};
+ghost use Rattle.superpascal.specs.AnswerParts.{HasCode};
 ghost use Rattle.superpascal.specs.Causes.{Files, IsUntouched, Stream};
 ghost use Rattle.superpascal.specs.Runs.{IsRunOf, Reports as AReports};
 ghost use Rattle.superpascal.specs.Steps.{AnswersCommand, ReportsGenerated, ReportsRun};
@@ -19,7 +19,7 @@ use crate::prepare::compile;
 use crate::telling::Telling;
 use sp_base::{Limits, Memory, Show, Text};
 use sp_code::Code;
-use sp_execute::{Ran, accepted_programs_are_ready, execute, races_are_shown};
+use sp_execute::{Ran, accepted_programs_are_ready, races_are_shown, run_program};
 use sp_gen::generated;
 use sp_outside::Gate;
 use sp_report::Watcher;
@@ -29,7 +29,7 @@ use std::sync::{Arc, Wait};
 use std::thread::Threads;
 
 /// Runs the code of a text that breaks no rule, with the verdict on the run.
-pub(crate) fn run_code<R: Threads + Wait + Sync, G: Gate>(
+pub(crate) fn run_prepared<R: Threads + Wait + Sync, G: Gate>(
     host: &Host<R, G>,
     code: Code,
     input: Text,
@@ -46,7 +46,7 @@ pub(crate) fn run_code<R: Threads + Wait + Sync, G: Gate>(
     races_are_shown();
     let code = Arc::new(host.alloc, code)?;
     let input = Arc::new(host.alloc, input)?;
-    execute(host.rt, host.alloc, code, input, workers, limits, host.gate)
+    run_program(host.rt, host.alloc, code, input, workers, limits, host.gate)
 }
 
 // Tells of a run by its output and its end, its verdict and these reports, or by its journal.
@@ -141,6 +141,6 @@ pub(crate) fn run_generated<R: Threads + Wait + Sync, G: Gate>(
     let text = generated(host.alloc, size)?;
     let code = compile(host.rt, host.alloc, text.as_slice())?;
     let input = Text::of(Vec::new(host.alloc));
-    let ran = run_code(host, code, input, workers, &default_limits())?;
+    let ran = run_prepared(host, code, input, workers, &default_limits())?;
     tell_generated(host.alloc, size, ran)
 }

@@ -2,7 +2,7 @@
 
 ghost use Rattle.std.specs.Prelude.{◌≡◌, List, ℕ, Some, map};
 ghost use Rattle.std.specs.String.{string_bytes};
-ghost use Rattle.sp_report.specs.Telling.{AreFresh, reports};
+ghost use Rattle.sp_report.specs.WatcherReports.{AreFresh, reports};
 ghost use Rattle.sp_words.specs.Ranges.{IsInRange};
 ghost use Rattle.sp_words.specs.Words.{command_of};
 ghost use Rattle.superpascal.specs.Calls.{call, sink_of};
@@ -12,17 +12,17 @@ ghost use Rattle.superpascal.specs.Steps.{AnswersCommand, AnswersWords, ReadsCom
 ghost use Rattle.superpascal.specs.Texts.{command_of_run};
 
 use crate::answers::ended;
-use crate::asked::{Asked, Executed, Followed};
 use crate::ending::{Answer, Ending};
-use crate::executions::execute;
+use crate::executions::exec_file;
 use crate::host::Host;
 use crate::outcome::Outcome;
 use crate::prepare::{prepare, read_input};
 use crate::replays::replay;
-use crate::runs::{run_code, run_generated, tell_run};
+use crate::requests::{ExecRequest, ReplayRequest, RunRequest};
+use crate::runs::{run_generated, run_prepared, tell_run};
 use crate::telling::Telling;
 use crate::texts::{build, check, lay_out, list, one_code_text, tell_sets};
-use crate::writing::write;
+use crate::writer::write;
 use sp_codefile::laws::a_text_is_of_one_code;
 use sp_execute::one_unfit_entry;
 use sp_format::one_layout;
@@ -50,7 +50,7 @@ fn read_command(alloc: Global, words: &[String]) -> Result<Command, Ending>
 // Does what `run` or `witness` asks: the way of a text, as the table of docs/ARCHITECTURE.md has it.
 fn run<R: Threads + Wait + Sync, L: Library, I: Source, G: Gate>(
     host: &Host<R, G>,
-    asked: &Asked,
+    asked: &RunRequest,
     library: &mut L,
     input: &mut I,
     watchers: Vec<Box<dyn Watcher>>,
@@ -63,7 +63,7 @@ fn run<R: Threads + Wait + Sync, L: Library, I: Source, G: Gate>(
 {
     let code = prepare(host.rt, host.alloc, library, &asked.file)?;
     let input = read_input(host.alloc, input)?;
-    let ran = run_code(host, code, input, asked.workers, &asked.limits)?;
+    let ran = run_prepared(host, code, input, asked.workers, &asked.limits)?;
     tell_run(host.alloc, watchers, asked.telling, ran)
 }
 
@@ -95,7 +95,7 @@ fn dispatch<R: Threads + Wait + Sync, L: Library, I: Source, G: Gate>(
             show,
         } => {
             let telling = Telling::Reports(show);
-            let asked = Asked {
+            let asked = RunRequest {
                 file,
                 workers,
                 limits,
@@ -109,7 +109,7 @@ fn dispatch<R: Threads + Wait + Sync, L: Library, I: Source, G: Gate>(
             limits,
         } => {
             let telling = Telling::Witness;
-            let asked = Asked {
+            let asked = RunRequest {
                 file,
                 workers,
                 limits,
@@ -124,7 +124,7 @@ fn dispatch<R: Threads + Wait + Sync, L: Library, I: Source, G: Gate>(
             limits,
             view,
         } => {
-            let asked = Followed {
+            let asked = ReplayRequest {
                 file,
                 journal,
                 limits,
@@ -137,12 +137,12 @@ fn dispatch<R: Threads + Wait + Sync, L: Library, I: Source, G: Gate>(
             workers,
             limits,
         } => {
-            let asked = Executed {
+            let asked = ExecRequest {
                 file,
                 workers,
                 limits,
             };
-            execute(host, &asked, library, input)
+            exec_file(host, &asked, library, input)
         }
     }
 }

@@ -1,7 +1,7 @@
 //! Calls over a library, a source and sinks in memory.
 
 ghost use Rattle.std.specs.Prelude.{◌≤◌};
-ghost use Rattle.sp_report.specs.Telling.{AreFresh};
+ghost use Rattle.sp_report.specs.WatcherReports.{AreFresh};
 
 use sp_base::{List, Text};
 use sp_outside::{Gate, MemoryLibrary, MemorySink, MemorySource, OpenGate};

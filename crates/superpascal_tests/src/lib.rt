@@ -3,22 +3,22 @@
 //! To know:
 //! - `src/calls.rt` makes the top call over a library, a source and sinks in memory; the other files are tests of it.
 //! - `src/outside.rt`: libraries, sources and sinks that fail, and what is left of the input.
-//! - `src/damaged.rt`: texts that are cut or have a byte of no text, an input byte by byte, and outputs that fail at
+//! - `src/bad_texts.rt`: texts that are cut or have a byte of no text, an input byte by byte, and outputs that fail at
 //!   each byte.
 //! - `src/files.rt`: code files and journals with streams that fail, and damaged code files.
-//! - `src/workers.rt`: turns of several workers at once. `src/followed.rt`: journals and witnesses of runs with
+//! - `src/workers.rt`: turns of several workers at once. `src/journals.rt`: journals and witnesses of runs with
 //!   several workers, which are followed.
 //! - All other calls on texts, code files and journals are rows of `gallery/data/rows/`.
 #![tactic(auto)]
 
 #[cfg(test)]
-mod calls;
+mod bad_texts;
 #[cfg(test)]
-mod damaged;
+mod calls;
 #[cfg(test)]
 mod files;
 #[cfg(test)]
-mod followed;
+mod journals;
 #[cfg(test)]
 mod outside;
 #[cfg(test)]

@@ -11,7 +11,7 @@ ghost use Rattle.sp_machine.specs.Answers.{CanResume, state_after_answer};
 ghost use Rattle.sp_machine.specs.Children.{AreNewborn, plan_by};
 ghost use Rattle.sp_machine.specs.Procs.{KeepsNumberAndInput, CanTurn, IsAtFork, IsRankedFrom, IsTurnOf};
 ghost use Rattle.sp_kernel.specs.Fits.{FitsHanded};
-ghost use Rattle.sp_kernel.specs.Kernels.{IsKernel, Gave, Takes, control_of, stands_as};
+ghost use Rattle.sp_kernel.specs.Kernels.{IsKernel, IsAfterGive, Takes, control_of, stands_as};
 
 use sp_base::{Limits, List, Memory};
 use sp_channel::{Channels, Offer, Way};
@@ -113,7 +113,7 @@ pub fn take(kernel: &mut Kernel, worker: u32) -> Option<Proc>
 pub fn give(kernel: &mut Kernel, worker: u32, handed: Handed) -> Result<(), Handed>
     requires whole { IsKernel kernel.old }
     requires fits { FitsHanded kernel.old worker handed }
-    ensures ok { OnOk result (Gave kernel.old handed.proc.number handed kernel.new) }
+    ensures ok { OnOk result (IsAfterGive kernel.old handed.proc.number handed kernel.new) }
     ensures err { OnErr result (kernel.new ≡ kernel.old) }
     ensures returned { IfErr result (λ h. h ≡ handed) }
 {

@@ -13,7 +13,7 @@ mod verdicts;
 
 pub use kernels::{give, join_child, offer, open, resume, split_process, standing, take, turn};
 pub use rooms::{new_room, serve};
-pub use runs::{execute, follow, replay, replay_told, run};
+pub use runs::{follow, replay, replay_told, run, run_program};
 pub use stores::{copy, join, split};
 pub use values::{binary, number_in};
 pub use verdicts::{merge, verdict_of, witness, witness_of_run};

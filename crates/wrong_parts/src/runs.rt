@@ -6,7 +6,7 @@ ghost use Rattle.sp_code.specs.Sound.{IsSound, AreLimits, run_of};
 ghost use Rattle.sp_journal.specs.Births.{IsNameable};
 ghost use Rattle.sp_runner.specs.Runs.{IsRun};
 ghost use Rattle.sp_replay.specs.Replays.{Replays};
-ghost use Rattle.sp_replay.specs.Tracing.{Traces, replayed_of};
+ghost use Rattle.sp_replay.specs.TraceAnswers.{Traces, replayed_of};
 ghost use Rattle.sp_execute.specs.Follows.{FollowsTo};
 ghost use Rattle.sp_execute.specs.Runs.{run_input, IsCodeOf, Executes};
 
@@ -73,8 +73,8 @@ pub fn replay_told(
     traced
 }
 
-/// `sp_execute::execute`.
-pub fn execute<R: Threads + Wait + Sync, G: Gate>(
+/// `sp_execute::run_program`.
+pub fn run_program<R: Threads + Wait + Sync, G: Gate>(
     rt: &R,
     alloc: Global,
     code: Arc<Code>,
@@ -91,7 +91,7 @@ pub fn execute<R: Threads + Wait + Sync, G: Gate>(
         → IsCodeOf (run_input p input.value limits.now) moves shares code.value
         → Executes (run_input p input.value limits.now) workers e) }
 {
-    let executed = sp_execute::execute(rt, alloc, code, input, workers, limits, gate);
+    let executed = sp_execute::run_program(rt, alloc, code, input, workers, limits, gate);
     executed
 }
 

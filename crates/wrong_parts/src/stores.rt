@@ -4,7 +4,7 @@ ghost use Rattle.std.specs.Prelude.{◌≡◌, [], IfOk, OnOk, OnErr};
 ghost use Rattle.sp_cell.specs.Fork.{children_of, map_after_fork, map_after_join, map_after_joins, with_shared};
 ghost use Rattle.sp_cell.specs.Fork.{moved_of, shared_of, HasIndex};
 ghost use Rattle.sp_cell.specs.Frame.{HasNextFrame};
-ghost use Rattle.sp_cell.specs.Held.{KeepsPartition, RejoinsPartition};
+ghost use Rattle.sp_cell.specs.Holders.{KeepsPartition, RejoinsPartition};
 ghost use Rattle.sp_cell.specs.Map.{with_map, HasCells, with_copied_cells};
 ghost use Rattle.sp_cell.specs.Spots.{IsDistinct, In, NotIn, AllHeld, AllPieces, AllAway};
 

@@ -6,8 +6,8 @@ ghost use Rattle.sp_meaning.specs.Along.{IsClean};
 ghost use Rattle.sp_judge.specs.Clocks.{count_of};
 ghost use Rattle.sp_judge.specs.Prefixes.{WaitersAreSilent};
 ghost use Rattle.sp_judge.specs.Races.{IsVerdict};
-ghost use Rattle.sp_witness.specs.Moved.{IsPlain};
-ghost use Rattle.sp_witness.specs.Numbered.{witness_journal};
+ghost use Rattle.sp_witness.specs.TableNumbers.{IsPlain};
+ghost use Rattle.sp_witness.specs.OccurrenceNumbers.{witness_journal};
 ghost use Rattle.sp_witness.specs.Witness.{witness as shown};
 ghost use Rattle.sp_execute.specs.Witnesses.{IsReadyRun, witness_of};
 

@@ -22,7 +22,7 @@ ghost use Rattle.sp_interfere.specs.Verdict.{IsVerdict};
 ghost use Rattle.sp_code.specs.Lengths.{tree_length};
 ghost use Rattle.sp_length.specs.CappedLength.{capped_length};
 ghost use Rattle.sp_lines.specs.Marks.{marks};
-ghost use Rattle.sp_generate.specs.Generated.{Answered};
+ghost use Rattle.sp_generate.specs.GeneratorAnswers.{Answered};
 ghost use Rattle.sp_front.specs.Codes.{Codes};
 
 use sp_base::{Halt, List, Memory, Refusal};

@@ -4,8 +4,8 @@ ghost use Rattle.std.specs.Prelude.{◌≡◌, IfOk};
 ghost use Rattle.sp_tree.specs.CheckedOf.{program_of};
 ghost use Rattle.sp_code.specs.Listing.{listing_text};
 ghost use Rattle.sp_codefile.specs.CodeText.{IsTextOf};
-ghost use Rattle.sp_codefile.specs.Decoding.{Decodes};
-ghost use Rattle.sp_codefile.specs.Verifying.{Verifies};
+ghost use Rattle.sp_codefile.specs.DecodeAnswers.{Decodes};
+ghost use Rattle.sp_codefile.specs.VerifyAnswers.{Verifies};
 ghost use Rattle.sp_sets.specs.SetsText.{IsSetsText};
 ghost use Rattle.sp_format.specs.Formats.{Formats};
 

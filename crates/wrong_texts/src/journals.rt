@@ -3,10 +3,10 @@
 ghost use Rattle.std.specs.Prelude.{◌≡◌, ◌<◌, ℕ, IfOk};
 ghost use Rattle.sp_journal.specs.Births.{births, IsNameable};
 ghost use Rattle.sp_journal.specs.Names.{proc_name};
-ghost use Rattle.sp_journal.specs.Reading.{ReadsJournal, ReadsAlone};
+ghost use Rattle.sp_journal.specs.ReadAnswers.{ReadsJournal, ReadsAlone};
 ghost use Rattle.sp_journal.specs.Texts.{journal_text};
 ghost use Rattle.sp_journal.specs.declared.version.Version.TheVariants as version;
-ghost use Rattle.sp_report.specs.Telling.{AreFresh, reports};
+ghost use Rattle.sp_report.specs.WatcherReports.{AreFresh, reports};
 
 use sp_base::{Memory, ProcName, Show};
 use sp_journal::{Journal, ReadError};

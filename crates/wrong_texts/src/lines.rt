@@ -4,7 +4,7 @@ ghost use Rattle.std.specs.Prelude.{◌≡◌, ◌≤◌, IfErr, IfOk, None, Som
 ghost use Rattle.sp_print.specs.OutcomeLines.{end_text, refusal_text, verdict_text, HasLines};
 ghost use Rattle.sp_words.specs.Ranges.{default_limits};
 ghost use Rattle.sp_words.specs.Words.{command_of};
-ghost use Rattle.sp_gen.specs.Generated.{generated_text};
+ghost use Rattle.sp_gen.specs.GeneratedText.{generated_text};
 
 use sp_base::{Limits, Memory, Refusal};
 use sp_journal::{End, Verdict};

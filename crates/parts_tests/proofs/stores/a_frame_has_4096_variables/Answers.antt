@@ -1,5 +1,5 @@
 use Rattle.std.proofs.Common.{[], arith}
-use Rattle.parts_tests.proofs.Rooted.{next_root}
+use Rattle.parts_tests.proofs.FreshStores.{next_root}
 use Rattle.parts_tests.proofs.stores.a_frame_has_4096_variables.Goals as goal
 
 pub push_frame-requires-clause-number : goal.push_frame-requires-clause-number

@@ -4,7 +4,7 @@ use Rattle.std.specs.FinMap as map
 use Rattle.sp_cell.specs.declared.spot.Spot.{Spot}
 use Rattle.sp_cell.specs.Frame.{last_own_frame}
 use Rattle.sp_cell.specs.Map.{Plain, Away}
-use Rattle.parts_tests.proofs.Rooted.{none_without}
+use Rattle.parts_tests.proofs.FreshStores.{none_without}
 use Rattle.parts_tests.proofs.stores.pop_all.Goals as goal
 
 pub loop-preserved : goal.loop-preserved

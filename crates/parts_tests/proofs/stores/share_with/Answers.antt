@@ -5,7 +5,7 @@ use Rattle.sp_cell.specs.declared.spot.Handing.{Handing}
 use Rattle.sp_cell.specs.Fork.{moved_of, shared_of, HasIndex}
 use Rattle.sp_cell.specs.Map.{IsPiece}
 use Rattle.sp_cell.specs.Spots.{In, IsDistinct}
-use Rattle.parts_tests.proofs.Rooted.{none_moved, all_share, no_index}
+use Rattle.parts_tests.proofs.FreshStores.{none_moved, all_share, no_index}
 use Rattle.parts_tests.proofs.stores.share_with.Goals as goal
 
 pub split-requires-clause-held : goal.split-requires-clause-held

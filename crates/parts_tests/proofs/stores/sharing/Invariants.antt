@@ -1,5 +1,5 @@
 use Rattle.std.proofs.Common.{◌≡◌, replicate}
-use Rattle.parts_tests.proofs.Rooted.{sharer}
+use Rattle.parts_tests.proofs.FreshStores.{sharer}
 use Rattle.parts_tests.proofs.stores.sharing.Given as goal
 
 abbrev pub invariant-loop : goal.invariant-loop

@@ -1,5 +1,5 @@
 use Rattle.std.proofs.Common.{[], ◌∷◌}
-use Rattle.parts_tests.proofs.Rooted.{next_root, none_root}
+use Rattle.parts_tests.proofs.FreshStores.{next_root, none_root}
 use Rattle.parts_tests.proofs.stores.ten_thousand_frames_are_pushed_and_popped.Goals as goal
 
 pub push_all-requires-clause-number : goal.push_all-requires-clause-number

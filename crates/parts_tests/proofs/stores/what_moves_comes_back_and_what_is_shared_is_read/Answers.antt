@@ -1,5 +1,5 @@
 use Rattle.std.proofs.Common.{[], ◌∷◌, arith}
-use Rattle.parts_tests.proofs.Rooted.{next_root}
+use Rattle.parts_tests.proofs.FreshStores.{next_root}
 use Rattle.parts_tests.proofs.stores.what_moves_comes_back_and_what_is_shared_is_read.Goals as goal
 
 pub split-requires-clause-number : goal.split-requires-clause-number

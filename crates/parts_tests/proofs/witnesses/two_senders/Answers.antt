@@ -3,7 +3,7 @@ use Rattle.sp_base.specs.declared.fault.Fault.TheVariants as fault
 use Rattle.sp_journal.specs.declared.entry.Entry.{Entry}
 use Rattle.sp_journal.specs.declared.entry.Event.TheVariants as event
 use Rattle.sp_journal.specs.Births.{first_births, IsNameable, NameableFrom}
-use Rattle.sp_witness.specs.Numbered.{witness_journal}
+use Rattle.sp_witness.specs.OccurrenceNumbers.{witness_journal}
 use Rattle.parts_tests.proofs.witnesses.two_senders.Goals as goal
 
 abbrev ran : List Entry

@@ -1,6 +1,6 @@
 use Rattle.sp_code.specs.Memory.{memory}
 use Rattle.sp_code.specs.PlainStore.{plain}
-use Rattle.sp_code.proofs.Turning.{same_config, turn_same, within_ended}
+use Rattle.sp_code.proofs.OneTurn.{same_config, turn_same, within_ended}
 use Rattle.sp_code.proofs.laws.turns_are_functions.Goals as goal
 
 pub returns-clause-instruction : goal.returns-clause-instruction

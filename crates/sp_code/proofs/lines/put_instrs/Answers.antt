@@ -1,6 +1,6 @@
 use Rattle.std.proofs.Common.{arith}
 use Rattle.sp_code.specs.Listing.{instr_line}
-use Rattle.sp_code.proofs.Numbered.{numbered_next}
+use Rattle.sp_code.proofs.LineNumbers.{numbered_next}
 use Rattle.sp_code.proofs.lines.put_instrs.Goals as goal
 
 pub loop-number-preserved : goal.loop-number-preserved

@@ -1,7 +1,7 @@
 use Rattle.std.proofs.Common.{List, ◌++◌, arith, ap, ◌∙◌}
 use Rattle.sp_code.specs.declared.code.ChildTable.{ChildTable}
 use Rattle.sp_code.specs.Listing.{numbered_texts, child_line, table_lines}
-use Rattle.sp_code.proofs.Numbered.{numbered_step}
+use Rattle.sp_code.proofs.LineNumbers.{numbered_step}
 use Rattle.sp_code.proofs.lines.put_tables.Goals as goal
 
 pub loop-number-preserved : goal.loop-number-preserved

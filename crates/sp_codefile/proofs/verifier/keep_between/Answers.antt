@@ -1,5 +1,5 @@
 use Rattle.std.proofs.Common.{arith}
-use Rattle.sp_codefile.proofs.Judging.{no_v1}
+use Rattle.sp_codefile.proofs.KeptRules.{no_v1}
 use Rattle.sp_codefile.proofs.verifier.keep_between.Goals as goal
 
 pub keep_shaped-requires-clause-known : goal.keep_shaped-requires-clause-known

@@ -1,5 +1,5 @@
 use Rattle.std.proofs.Common.{arith}
-use Rattle.sp_codefile.proofs.Judging.{no_v2, no_v3, no_v4, no_v5}
+use Rattle.sp_codefile.proofs.KeptRules.{no_v2, no_v3, no_v4, no_v5}
 use Rattle.sp_codefile.proofs.verifier.keep_effects.Goals as goal
 
 pub first_clash-requires-clause-v2 : goal.first_clash-requires-clause-v2

@@ -1,5 +1,5 @@
 use Rattle.std.proofs.Common.{arith}
-use Rattle.sp_codefile.proofs.Judging.{no_v1, refused, shaped}
+use Rattle.sp_codefile.proofs.KeptRules.{no_v1, refused, shaped}
 use Rattle.sp_codefile.proofs.verifier.keep_shapes.Goals as goal
 
 pub shapes_of-requires-clause-kept : goal.shapes_of-requires-clause-kept

@@ -1,4 +1,4 @@
-use Rattle.sp_execute.proofs.Concluding.{concluded}
+use Rattle.sp_execute.proofs.Conclusions.{concluded}
 use Rattle.sp_execute.proofs.conclusion.conclude.Goals as goal
 
 pub returns-clause-about : goal.returns-clause-about

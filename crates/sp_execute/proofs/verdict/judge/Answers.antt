@@ -8,7 +8,7 @@ use Rattle.sp_judge.specs.Prefixes.{WaitersAreSilent}
 use Rattle.sp_tree.specs.Interference.{IsFreeOfInterference}
 use Rattle.sp_judge.specs.Races.{IsVerdict}
 use Rattle.sp_execute.specs.Runs.{IsAbout, Promises}
-use Rattle.sp_execute.proofs.Judged.{alike, if_judged}
+use Rattle.sp_execute.proofs.VerdictFacts.{alike, if_judged}
 use Rattle.sp_execute.proofs.verdict.judge.Goals as goal
 
 pub verdict_of-requires-clause-silent : goal.verdict_of-requires-clause-silent

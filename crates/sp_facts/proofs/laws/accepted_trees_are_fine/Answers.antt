@@ -1,4 +1,4 @@
-use Rattle.sp_facts.proofs.Joining.{accepted_formed, accepted_small, accepted_free, accepted_fine}
+use Rattle.sp_facts.proofs.AcceptedFacts.{accepted_formed, accepted_small, accepted_free, accepted_fine}
 use Rattle.sp_facts.proofs.laws.accepted_trees_are_fine.Goals as goal
 
 pub returns-clause-formed : goal.returns-clause-formed

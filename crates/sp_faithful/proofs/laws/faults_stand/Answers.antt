@@ -1,4 +1,4 @@
-use Rattle.sp_faithful.proofs.Standing.{faults_are_true}
+use Rattle.sp_faithful.proofs.ProcessPairs.{faults_are_true}
 use Rattle.sp_faithful.proofs.laws.faults_stand.Goals as goal
 
 pub returns : goal.returns

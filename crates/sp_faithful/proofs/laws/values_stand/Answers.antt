@@ -1,5 +1,5 @@
 use Rattle.std.proofs.Common.{refl}
-use Rattle.sp_faithful.proofs.Standing.{process_is_true}
+use Rattle.sp_faithful.proofs.ProcessPairs.{process_is_true}
 use Rattle.sp_faithful.proofs.laws.values_stand.Goals as goal
 
 pub returns : goal.returns

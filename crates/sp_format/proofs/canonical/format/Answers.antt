@@ -1,5 +1,5 @@
 use Rattle.std.proofs.lemmas.Result.{err_from_is_err_and}
-use Rattle.sp_format.proofs.Joining.{no_tokens, no_tree, tree_of, by_layout}
+use Rattle.sp_format.proofs.TextAnswers.{no_tokens, no_tree, tree_of, by_layout}
 use Rattle.sp_format.proofs.canonical.format.Goals as goal
 
 pub returns-in_err-tokens : goal.returns-in_err-tokens

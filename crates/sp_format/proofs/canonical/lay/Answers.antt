@@ -1,5 +1,5 @@
 use Rattle.std.proofs.Common.{length, arith, refl, sym, ap, ◌∙◌}
-use Rattle.sp_format.proofs.Walking.{lay_start, lay_blank, lay_kept, lay_item, lay_less, lay_long, lay_done}
+use Rattle.sp_format.proofs.ItemLists.{lay_start, lay_blank, lay_kept, lay_item, lay_less, lay_long, lay_done}
 use Rattle.sp_format.proofs.canonical.lay.Goals as goal
 
 pub items-init : goal.items-init

@@ -1,5 +1,5 @@
 use Rattle.std.proofs.Common.{◌<◌, length}
-use Rattle.sp_format.proofs.Walking.{LaidSoFar}
+use Rattle.sp_format.proofs.ItemLists.{LaidSoFar}
 use Rattle.sp_format.proofs.canonical.lay.Given as goal
 
 abbrev pub invariant-items : goal.invariant-items

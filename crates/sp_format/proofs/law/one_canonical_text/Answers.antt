@@ -1,4 +1,4 @@
-use Rattle.sp_format.proofs.Walking.{one_items, one_text, same_text}
+use Rattle.sp_format.proofs.ItemLists.{one_items, one_text, same_text}
 use Rattle.sp_format.proofs.law.one_canonical_text.Goals as goal
 
 pub returns-clause-items : goal.returns-clause-items

@@ -1,5 +1,5 @@
 use Rattle.std.proofs.Common.{◌∷◌, [], ◌++◌, ap, ◌∙◌, arith}
-use Rattle.sp_format.proofs.Walking.{indent_more}
+use Rattle.sp_format.proofs.ItemLists.{indent_more}
 use Rattle.sp_format.proofs.put.put_indentation.Goals as goal
 
 pub more-preserved : goal.more-preserved

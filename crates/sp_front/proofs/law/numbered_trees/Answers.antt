@@ -1,4 +1,4 @@
-use Rattle.sp_front.proofs.Accepting.{numbers, parents}
+use Rattle.sp_front.proofs.PhaseAnswers.{numbers, parents}
 use Rattle.sp_front.proofs.law.numbered_trees.Goals as goal
 
 pub returns-clause-parents : goal.returns-clause-parents

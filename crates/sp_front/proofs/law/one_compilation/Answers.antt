@@ -1,4 +1,4 @@
-use Rattle.sp_front.proofs.Accepting.{accepted_apart, first_once}
+use Rattle.sp_front.proofs.PhaseAnswers.{accepted_apart, first_once}
 use Rattle.sp_front.proofs.law.one_compilation.Goals as goal
 
 pub returns-clause-refusal : goal.returns-clause-refusal

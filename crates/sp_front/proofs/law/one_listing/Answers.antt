@@ -2,7 +2,7 @@ use Rattle.std.proofs.Common.{sym, ap, ◌∙◌, subst}
 use Rattle.sp_tree.specs.PlainChecked as placed
 use Rattle.sp_tree.specs.Bare.{without_places}
 use Rattle.sp_code.specs.Listing.{listing_text}
-use Rattle.sp_generate.specs.Generated.{IsCodeOf}
+use Rattle.sp_generate.specs.GeneratorAnswers.{IsCodeOf}
 use Rattle.sp_front.proofs.law.one_listing.Goals as goal
 
 pub returns : goal.returns

@@ -1,5 +1,5 @@
 use Rattle.std.proofs.lemmas.Result.{err_from_is_err_and}
-use Rattle.sp_front.proofs.Phasing.{by_types, keeps, no_names, no_tree, programs}
+use Rattle.sp_front.proofs.TypedAnswers.{by_types, keeps, no_names, no_tree, programs}
 use Rattle.sp_front.proofs.phases.typed.Goals as goal
 
 pub returns-in_err-syntax : goal.returns-in_err-syntax

@@ -1,7 +1,7 @@
 use Rattle.std.proofs.Common.{subst}
 use Rattle.std.proofs.lemmas.Result.{err_from_is_err_and}
 use Rattle.sp_parse.specs.Parses.{Parsed}
-use Rattle.sp_front.proofs.Joining.{no_tokens, by_tokens}
+use Rattle.sp_front.proofs.ParseAnswers.{no_tokens, by_tokens}
 use Rattle.sp_front.proofs.reader.read_text.Goals as goal
 
 pub returns-in_err-tokens : goal.returns-in_err-tokens

@@ -1,6 +1,6 @@
 use denote.Exit.{yes}
 use denote.Param.Send.{param_send, arg_send}
-use Rattle.sp_front.proofs.Crossing.{compiled_send}
+use Rattle.sp_front.proofs.ThreadBounds.{compiled_send}
 use Rattle.sp_front.proofs.to_code.compiled_apart.Goals as goal
 
 pub apart-requires-send-T : goal.apart-requires-send-T

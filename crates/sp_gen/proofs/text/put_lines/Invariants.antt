@@ -1,6 +1,6 @@
 use Rattle.std.proofs.Common.{◌≡◌, ◌++◌, drop}
 use Rattle.std.specs.List.{flat_map}
-use Rattle.sp_gen.specs.Generated.{line_text}
+use Rattle.sp_gen.specs.GeneratedText.{line_text}
 use Rattle.sp_gen.proofs.text.put_lines.Given as goal
 
 abbrev pub invariant-loop-line : goal.invariant-loop-line

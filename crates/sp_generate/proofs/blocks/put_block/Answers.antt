@@ -2,11 +2,11 @@ use Rattle.std.proofs.Common.{List, [], ◌∷◌, ◌++◌, ap, ◌∙◌}
 use Rattle.sp_tree.specs.Around as around
 use Rattle.sp_tree.specs.CheckedOf.{block_of, statement_of}
 use Rattle.sp_code.specs.declared.instr.Instr.{Instr}
-use Rattle.sp_code.specs.Emitted.{end_instr}
+use Rattle.sp_code.specs.TreeCode.{end_instr}
 use Rattle.sp_generate.specs.BuffersAfter.{written}
 use Rattle.sp_generate.specs.Handings.{moved_of, shared_of}
 use Rattle.sp_generate.specs.Views.{plain_program, scopes}
-use Rattle.sp_generate.specs.Written.{WrittenCode, buffer_of, with_code, buffer_after}
+use Rattle.sp_generate.specs.CodeBuffers.{WrittenCode, buffer_of, with_code, buffer_after}
 use Rattle.sp_generate.proofs.WrittenProgram.{block_is}
 use Rattle.sp_generate.proofs.blocks.put_block.Goals as goal
 

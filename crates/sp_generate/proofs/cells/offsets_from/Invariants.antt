@@ -1,5 +1,5 @@
 use Rattle.std.proofs.Common.{◌≡◌, ◌++◌, drop}
-use Rattle.sp_generate.specs.Tabled.{offsets_from}
+use Rattle.sp_generate.specs.CodeTables.{offsets_from}
 use Rattle.sp_generate.proofs.cells.offsets_from.Given as goal
 
 abbrev pub invariant-loop-f : goal.invariant-loop-f

@@ -1,5 +1,5 @@
 use Rattle.std.proofs.Common.{◌≡◌, ◌++◌, map, drop}
-use Rattle.sp_generate.specs.Tabled.{offsets_by}
+use Rattle.sp_generate.specs.CodeTables.{offsets_by}
 use Rattle.sp_generate.proofs.cells.table_offsets.Given as goal
 
 abbrev pub invariant-loop-k : goal.invariant-loop-k

@@ -1,5 +1,5 @@
 use Rattle.std.proofs.Common.{◌≡◌, drop}
-use Rattle.sp_generate.specs.Written.{filled_ends}
+use Rattle.sp_generate.specs.CodeBuffers.{filled_ends}
 use Rattle.sp_generate.proofs.choices.fill_ends.Given as goal
 
 abbrev pub invariant-loop-at : goal.invariant-loop-at

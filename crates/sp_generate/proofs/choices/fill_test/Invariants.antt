@@ -1,5 +1,5 @@
 use Rattle.std.proofs.Common.{◌≡◌, ◌+◌, length, drop}
-use Rattle.sp_generate.specs.Written.{filled_test}
+use Rattle.sp_generate.specs.CodeBuffers.{filled_test}
 use Rattle.sp_generate.proofs.choices.fill_test.Given as goal
 
 abbrev pub invariant-loop-m : goal.invariant-loop-m

@@ -1,7 +1,7 @@
 use Rattle.std.proofs.Common.{◌≡◌, map, drop}
 use Rattle.sp_tree.specs.CheckedOf.{arms, arm_of}
 use Rattle.sp_tree.specs.Bare.{bare_arms}
-use Rattle.sp_generate.specs.Written.{filled_tests}
+use Rattle.sp_generate.specs.CodeBuffers.{filled_tests}
 use Rattle.sp_generate.proofs.choices.fill_tests.Given as goal
 
 abbrev pub invariant-loop-n : goal.invariant-loop-n

@@ -1,5 +1,5 @@
 use Rattle.std.proofs.Common.{drop}
-use Rattle.sp_code.specs.Emitted.{test_code}
+use Rattle.sp_code.specs.TreeCode.{test_code}
 use Rattle.sp_writer.specs.Adds.{Covers}
 use Rattle.sp_generate.proofs.choices.put_blank.Given as goal
 

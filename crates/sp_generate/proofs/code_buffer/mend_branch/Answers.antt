@@ -1,6 +1,6 @@
 use Rattle.std.proofs.Common.{◌∷◌, ◌++◌, ◌+◌, ap, ◌∙◌, ℕ}
 use Rattle.sp_code.specs.declared.instr.Instr.TheVariants as i
-use Rattle.sp_generate.proofs.Patched.{patched}
+use Rattle.sp_generate.proofs.Patches.{patched}
 use Rattle.sp_generate.proofs.code_buffer.mend_branch.Goals as goal
 
 pub returns : goal.returns

@@ -9,11 +9,11 @@ use Rattle.sp_tree.specs.CheckedOf.{actual_of, expressions}
 use Rattle.sp_tree.specs.Bare.{bare_expression, bare_variable, bare_selectors, bare_actuals}
 use Rattle.sp_code.specs.declared.instr.Instr.{Instr}
 use Rattle.sp_code.specs.Scopes.{selected_type}
-use Rattle.sp_code.specs.Emitted.{value_code, var_code, selectors_code, actuals_code, addr_code}
+use Rattle.sp_code.specs.TreeCode.{value_code, var_code, selectors_code, actuals_code, addr_code}
 use Rattle.sp_generate.specs.Views.{plain_program, scopes}
-use Rattle.sp_varsets.proofs.Adding.{selectors_on, selectors_end, actuals_on, actuals_end}
-use Rattle.sp_generate.proofs.Emitting.{select_code, select_type, pass_code}
-use Rattle.sp_writer.proofs.Adding.{joined, goes_on, ends}
+use Rattle.sp_varsets.proofs.AddedSets.{selectors_on, selectors_end, actuals_on, actuals_end}
+use Rattle.sp_generate.proofs.PartCode.{select_code, select_type, pass_code}
+use Rattle.sp_writer.proofs.Additions.{joined, goes_on, ends}
 use Rattle.sp_generate.proofs.expressions.+value.Goals as goal
 
 pub put_value-returns : goal.put_value-returns

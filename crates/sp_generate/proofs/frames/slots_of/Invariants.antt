@@ -1,7 +1,7 @@
 use Rattle.std.proofs.Common.{◌≡◌, ◌++◌, map, drop}
 use Rattle.sp_tree.specs.Bare.{without_places, variable_of}
 use Rattle.sp_tree.specs.CheckedOf.{program_of}
-use Rattle.sp_generate.specs.Tabled.{slots_from, slots_of}
+use Rattle.sp_generate.specs.CodeTables.{slots_from, slots_of}
 use Rattle.sp_generate.proofs.frames.slots_of.Given as goal
 
 abbrev pub invariant-loop-x : goal.invariant-loop-x

@@ -1,6 +1,6 @@
 use Rattle.std.proofs.Common.{◌≡◌, drop}
 use Rattle.sp_tree.specs.Around.{is_index, level}
-use Rattle.sp_generate.specs.Tabled.{outer_level}
+use Rattle.sp_generate.specs.CodeTables.{outer_level}
 use Rattle.sp_generate.specs.Views.{scopes}
 use Rattle.sp_generate.proofs.levels.index_level.Given as goal
 

@@ -4,7 +4,7 @@ use Rattle.sp_tree.specs.Bare.{without_places}
 use Rattle.sp_code.specs.Lengths.{tree_length}
 use Rattle.sp_length.specs.CappedLength.{capped_length}
 use Rattle.sp_generate.proofs.Limits.{not_long, told_within}
-use Rattle.sp_generate.proofs.Telling.{is_code}
+use Rattle.sp_generate.proofs.StatementCode.{is_code}
 use Rattle.sp_generate.proofs.program.generate.Goals as goal
 
 pub returns : goal.returns

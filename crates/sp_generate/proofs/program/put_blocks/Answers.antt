@@ -2,11 +2,11 @@ use Rattle.std.proofs.Common.{List, ◌++◌, ◌+◌, length, map, drop, refl, 
 use Rattle.sp_tree.specs.PlainChecked as placed
 use Rattle.sp_tree.specs.CheckedOf.{block_of}
 use Rattle.sp_tree.specs.Bare.{bare_block}
-use Rattle.sp_code.specs.Emitted.{layout_of, layouts_from}
+use Rattle.sp_code.specs.TreeCode.{layout_of, layouts_from}
 use Rattle.sp_generate.specs.BuffersAfter.{written}
 use Rattle.sp_generate.specs.Handings.{moved_of, shared_of}
 use Rattle.sp_generate.specs.Views.{plain_program}
-use Rattle.sp_generate.specs.Written.{buffer_of, written_block, written_blocks}
+use Rattle.sp_generate.specs.CodeBuffers.{buffer_of, written_block, written_blocks}
 use Rattle.sp_generate.proofs.WrittenProgram.{blocks_none, blocks_on, blocks_end, block_next, layout_next}
 use Rattle.sp_generate.proofs.program.put_blocks.Goals as goal
 

@@ -10,20 +10,21 @@ use Rattle.sp_tree.specs.Bare.{bare_expression, bare_arms, bare_statement}
 use Rattle.sp_code.specs.declared.instr.Instr.{Instr}
 use Rattle.sp_code.specs.declared.instr.Instr.TheVariants as i
 use Rattle.sp_code.specs.Places.{after_statement}
-use Rattle.sp_code.specs.Emitted.{value_code}
+use Rattle.sp_code.specs.TreeCode.{value_code}
 use Rattle.sp_generate.specs.Handings.{moved_of, shared_of}
 use Rattle.sp_generate.specs.Steps.{for_instr, next_instr}
 use Rattle.sp_generate.specs.Tables.{child, children}
 use Rattle.sp_generate.specs.declared.levels.Scope.{Scope}
 use Rattle.sp_generate.specs.BuffersAfter.{written, child_of, index_table}
-use Rattle.sp_generate.specs.Written.{buffer_of, with_code, buffer_after, buffer_after_all}
-use Rattle.sp_generate.specs.Written.{buffer_after_children, buffer_after_arms, starts_of, ends_of}
-use Rattle.sp_generate.specs.Written.{buffer_after_branch, buffer_after_loop, buffer_after_forall, buffer_after_case}
-use Rattle.sp_generate.specs.Written.{buffer_after_passed, filled_ends, filled_tests}
+use Rattle.sp_generate.specs.CodeBuffers.{buffer_of, with_code, buffer_after, buffer_after_all}
+use Rattle.sp_generate.specs.CodeBuffers.{buffer_after_children, buffer_after_arms, starts_of, ends_of}
+use Rattle.sp_generate.specs.CodeBuffers.{buffer_after_branch, buffer_after_loop, buffer_after_forall}
+use Rattle.sp_generate.specs.CodeBuffers.{buffer_after_case}
+use Rattle.sp_generate.specs.CodeBuffers.{buffer_after_passed, filled_ends, filled_tests}
 use Rattle.sp_generate.specs.Views.{plain_program, scopes}
-use Rattle.sp_varsets.proofs.Walking.{statements_on, statements_end, arms_on, arms_end}
-use Rattle.sp_writer.proofs.Adding.{noted}
-use Rattle.sp_generate.proofs.Patched.{patched}
+use Rattle.sp_varsets.proofs.StatementRecords.{statements_on, statements_end, arms_on, arms_end}
+use Rattle.sp_writer.proofs.Additions.{noted}
+use Rattle.sp_generate.proofs.Patches.{patched}
 use Rattle.sp_generate.proofs.Forms.{wrote, went, empty_is, statement_is, all_step, sequence_done, else_is}
 use Rattle.sp_generate.proofs.Forms.{child_next, ended_by}
 use Rattle.sp_generate.proofs.Forms.{if_is, while_is, repeat_is, for_is, forall_is, case_is, assign_is, call_is}

@@ -3,11 +3,11 @@ use Rattle.sp_tree.specs.CheckedOf.{width_of}
 use Rattle.sp_tree.specs.Bare.{bare_width}
 use Rattle.sp_code.specs.declared.instr.Instr.TheVariants as i
 use Rattle.sp_code.specs.Scopes.{is_given}
-use Rattle.sp_code.specs.Emitted.{width_code}
+use Rattle.sp_code.specs.TreeCode.{width_code}
 use Rattle.sp_generate.specs.BuffersAfter.{written}
 use Rattle.sp_generate.specs.Handings.{moved_of, shared_of}
 use Rattle.sp_generate.specs.Views.{plain_program, scopes}
-use Rattle.sp_generate.specs.Written.{buffer_of}
+use Rattle.sp_generate.specs.CodeBuffers.{buffer_of}
 use Rattle.sp_generate.proofs.Forms.{text_is}
 use Rattle.sp_generate.proofs.statements.put_written.Goals as goal
 

@@ -1,7 +1,7 @@
 use Rattle.sp_code.specs.PlainStore.{plain}
 use Rattle.sp_code.specs.Control.{control, control_at_start}
 use Rattle.sp_code.specs.System.{opening_system}
-use Rattle.sp_history.proofs.Agreeing.{orderly_start, agrees_start}
+use Rattle.sp_history.proofs.ControlAgreement.{orderly_start, agrees_start}
 use Rattle.sp_history.proofs.Families.{parent_joins, children_start, children_all}
 use Rattle.sp_history.proofs.InTurn.{first_in_first_out}
 use Rattle.sp_history.proofs.laws.histories_keep_turns.Goals as goal

@@ -3,7 +3,7 @@ use Rattle.std.proofs.Common.{subst, sym}
 use Rattle.sp_code.specs.PlainStore.{plain}
 use Rattle.sp_code.specs.Control.{Control, Out, control, control_at_start}
 use Rattle.sp_code.specs.System.{opening_system}
-use Rattle.sp_history.proofs.Agreeing.{orderly_start, agrees_start}
+use Rattle.sp_history.proofs.ControlAgreement.{orderly_start, agrees_start}
 use Rattle.sp_history.proofs.Legal.{reaches_keeps, stays, noted_more}
 use Rattle.sp_history.proofs.Outs.{outs_start, outs_all, over_all, nobody_runs}
 use Rattle.sp_history.proofs.laws.histories_keep_what_is_out.Goals as goal

@@ -1,7 +1,7 @@
 use Rattle.sp_code.specs.PlainStore.{plain}
 use Rattle.sp_code.specs.Control.{control_at_start}
 use Rattle.sp_code.specs.System.{opening_system}
-use Rattle.sp_history.proofs.Agreeing.{orderly_start, agrees_start}
+use Rattle.sp_history.proofs.ControlAgreement.{orderly_start, agrees_start}
 use Rattle.sp_history.proofs.Legal.{legal_reaches, reaches_legal, reaches_leads, reaches_same, reaches_keeps}
 use Rattle.sp_history.proofs.Outs.{outs_start, outs_all}
 use Rattle.sp_history.proofs.laws.histories_lead_to_systems.Goals as goal

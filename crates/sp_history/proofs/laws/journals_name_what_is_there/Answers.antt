@@ -1,7 +1,7 @@
 use Rattle.sp_code.specs.PlainStore.{plain}
 use Rattle.sp_code.specs.System.{opening_system}
-use Rattle.sp_history.proofs.Speaking.{system_spoken, offer_there}
-use Rattle.sp_history.proofs.Naming.{system_nameable}
+use Rattle.sp_history.proofs.KnownChannels.{system_spoken, offer_there}
+use Rattle.sp_history.proofs.NameableRuns.{system_nameable}
 use Rattle.sp_history.proofs.OneFault.{one_fault}
 use Rattle.sp_history.proofs.laws.journals_name_what_is_there.Goals as goal
 

@@ -18,7 +18,7 @@ each-preserved c =
           (c.add_part.ensures.used before c.each.invariant.1)),
       ap (parts_first c.args.s.now (numbers_of (statements (map statement_of (take (c.each.i + 1) c.args.parts.now))))
           (statements (map statement_of (drop (c.each.i + 1) c.args.parts.now))))
-          (c.lesser-first.ensures ∙ ap (earlier_refusal c.each.first) c.part_rule.ensures)
+          (c.earlier_refusal-first.ensures ∙ ap (earlier_refusal c.each.first) c.part_rule.ensures)
           ∙ (more_parts c.args.s.now c.args.parts.now c.each.i c.index-parts-i.result c.each.first c.each-test.true
           c.index-parts-i.is ∙ c.each.invariant.2),
     )

@@ -1,4 +1,4 @@
-use Rattle.sp_judge.proofs.Prefixing.{prefixes, counted_alone}
+use Rattle.sp_judge.proofs.PrefixLaws.{prefixes, counted_alone}
 use Rattle.sp_judge.proofs.laws.knows_prefixes.Goals as goal
 
 pub returns-clause-prefixes : goal.returns-clause-prefixes

@@ -4,11 +4,11 @@ use Rattle.std.specs.Result.{IfOk}
 use Rattle.sp_journal.specs.declared.entry.Journal.{Journal}
 use Rattle.sp_journal.specs.Births.{births, occurrences}
 use Rattle.sp_journal.proofs.Walk.{any_entry}
-use Rattle.sp_race.specs.Known.{AreKnown}
+use Rattle.sp_race.specs.OfferOrder.{AreKnown}
 use Rattle.sp_judge.specs.JudgeTables.{entries_by_names, IsNameableAndSilent, IsBlank, TablesHold}
 use Rattle.sp_judge.specs.Races.{IsJudged}
 use Rattle.sp_judge.proofs.Numbers.{all_named}
-use Rattle.sp_judge.proofs.Judging.{nameable_and_silent_of, blank_holds, known_next, all_ordered, none_racing}
+use Rattle.sp_judge.proofs.VerdictSteps.{nameable_and_silent_of, blank_holds, known_next, all_ordered, none_racing}
 use Rattle.sp_judge.proofs.verdict.judged_entries.Goals as goal
 
 pub loop-at-init : goal.loop-at-init

@@ -1,6 +1,6 @@
 use Rattle.std.proofs.Common.{take}
 use Rattle.sp_journal.specs.Births.{births}
-use Rattle.sp_race.specs.Known.{AreKnown}
+use Rattle.sp_race.specs.OfferOrder.{AreKnown}
 use Rattle.sp_judge.specs.JudgeTables.{entries_by_names, TablesHold}
 use Rattle.sp_judge.proofs.verdict.judged_entries.Given as goal
 

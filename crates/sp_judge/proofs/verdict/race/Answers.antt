@@ -1,7 +1,7 @@
 use Rattle.std.proofs.Common.{◌<◌, sym, ap, ◌∙◌, subst}
 use Rattle.sp_journal.specs.Names.{chan_name}
 use Rattle.sp_journal.specs.Births.{births, channel}
-use Rattle.sp_judge.proofs.Judging.{channel_inside, not_unknown, race_judged}
+use Rattle.sp_judge.proofs.VerdictSteps.{channel_inside, not_unknown, race_judged}
 use Rattle.sp_judge.proofs.verdict.race.Goals as goal
 
 pub first_unknown-requires-clause-here : goal.first_unknown-requires-clause-here

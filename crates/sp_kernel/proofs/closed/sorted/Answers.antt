@@ -2,7 +2,7 @@ use Rattle.std.proofs.Common.{rules, List, sym, subst}
 use Rattle.std.specs.List.Sorted.{IsSortedByKey}
 use Rattle.sp_base.specs.Order.{name_cmp, name_total}
 use Rattle.sp_journal.specs.declared.outcome.Waiter.{Waiter}
-use Rattle.sp_kernel.proofs.Sorting.{sorted_by}
+use Rattle.sp_kernel.proofs.SortedWaiters.{sorted_by}
 use Rattle.sp_kernel.proofs.closed.sorted.Goals as goal
 
 pub returns-clause-sorted : goal.returns-clause-sorted

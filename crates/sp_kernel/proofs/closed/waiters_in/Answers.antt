@@ -2,7 +2,7 @@ use Rattle.std.proofs.Common.{◌≡◌, ◌+◌, ◌++◌, [], ℕ, length, ref
 use Rattle.std.proofs.lemmas.Option.{slice_get_read}
 use Rattle.sp_journal.specs.Births.{Births, births}
 use Rattle.sp_kernel.specs.Closes.{with_waiter}
-use Rattle.sp_kernel.proofs.Sorting.{waiters_more}
+use Rattle.sp_kernel.proofs.SortedWaiters.{waiters_more}
 use Rattle.sp_kernel.proofs.closed.waiters_in.Goals as goal
 
 pub loop-number-preserved : goal.loop-number-preserved

@@ -1,5 +1,5 @@
 use Rattle.std.proofs.Common.{length}
-use Rattle.sp_kernel.proofs.Seating.{SoFar}
+use Rattle.sp_kernel.proofs.ChildSlots.{SoFar}
 use Rattle.sp_kernel.proofs.slot.seat.Given as goal
 
 abbrev pub invariant-loop-child : goal.invariant-loop-child

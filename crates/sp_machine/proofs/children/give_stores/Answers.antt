@@ -1,6 +1,6 @@
 use Rattle.std.proofs.Common.{◌≡◌, ◌≢◌, ◌+◌, ℕ, length, get_or, arith, subst, ◌∙◌}
 use Rattle.sp_machine.specs.declared.state.State.{State}
-use Rattle.sp_machine.proofs.Giving.{one_fewer, rest_popped, last_is, done_more, left_more}
+use Rattle.sp_machine.proofs.ChildStores.{one_fewer, rest_popped, last_is, done_more, left_more}
 use Rattle.sp_machine.proofs.children.give_stores.Goals as goal
 
 pub loop-store-preserved : goal.loop-store-preserved

@@ -1,5 +1,5 @@
 use Rattle.sp_meaning.proofs.laws.rule_keepers_are_disjoint.Goals as goal
-use Rattle.sp_meaning.proofs.Started.{disjoint}
+use Rattle.sp_meaning.proofs.RuleKeepers.{disjoint}
 
 pub returns : goal.returns
 returns c = disjoint

@@ -1,5 +1,5 @@
 use Rattle.sp_journal.specs.Births.{occurrences}
-use Rattle.sp_witness.proofs.Deciding.{reached}
+use Rattle.sp_witness.proofs.VerdictMeaning.{reached}
 use Rattle.sp_numbered.proofs.Ends.{witness_ends}
 use Rattle.sp_numbered.proofs.laws.witnesses_end_in_contention.Goals as goal
 

@@ -1,5 +1,5 @@
 use Rattle.std.proofs.Common.{length}
-use Rattle.sp_parse.proofs.Parsing.{PlaceSoFar}
+use Rattle.sp_parse.proofs.TreeAnswers.{PlaceSoFar}
 use Rattle.sp_parse.proofs.parser.end_of.Given as goal
 
 abbrev pub invariant-more : goal.invariant-more

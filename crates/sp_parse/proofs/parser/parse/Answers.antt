@@ -1,6 +1,6 @@
 use Rattle.std.proofs.lemmas.Result.{err_from_is_err_and}
-use Rattle.sp_parse.proofs.Fitting.{short}
-use Rattle.sp_parse.proofs.Parsing.{is_ready, refused, too_long, none_left, is_tree}
+use Rattle.sp_parse.proofs.TokenBounds.{short}
+use Rattle.sp_parse.proofs.TreeAnswers.{is_ready, refused, too_long, none_left, is_tree}
 use Rattle.sp_parse.proofs.parser.parse.Goals as goal
 
 pub end_of-end-requires : goal.end_of-end-requires

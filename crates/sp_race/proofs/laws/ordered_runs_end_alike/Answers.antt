@@ -1,5 +1,5 @@
 use Rattle.sp_race.proofs.laws.ordered_runs_end_alike.Goals as goal
-use Rattle.sp_meaning.proofs.Started.{disjoint}
+use Rattle.sp_meaning.proofs.RuleKeepers.{disjoint}
 use Rattle.sp_race.proofs.Verdict.{each_ends_alike}
 
 pub returns : goal.returns

@@ -1,6 +1,6 @@
 use Rattle.std.proofs.Common.{◌∙◌, ap, Some}
-use Rattle.sp_replay.specs.Held.{held_at}
-use Rattle.sp_replay.proofs.Holding.{held_then}
+use Rattle.sp_replay.specs.HeldProcesses.{held_at}
+use Rattle.sp_replay.proofs.HeldLists.{held_then}
 use Rattle.sp_replay.proofs.held.hold.Goals as goal
 
 pub returns : goal.returns

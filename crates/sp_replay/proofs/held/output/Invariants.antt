@@ -1,5 +1,5 @@
 use Rattle.std.proofs.Common.{◌≡◌, drop}
-use Rattle.sp_replay.specs.Held.{outputs}
+use Rattle.sp_replay.specs.HeldProcesses.{outputs}
 use Rattle.sp_replay.proofs.held.output.Given as goal
 
 abbrev pub invariant-loop-proc : goal.invariant-loop-proc

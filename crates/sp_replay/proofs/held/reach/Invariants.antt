@@ -1,5 +1,5 @@
 use Rattle.std.proofs.Common.{◌≡◌, ◌+◌, ◌-◌, ℕ, length}
-use Rattle.sp_replay.specs.Held.{held_at}
+use Rattle.sp_replay.specs.HeldProcesses.{held_at}
 use Rattle.sp_replay.proofs.held.reach.Given as goal
 
 abbrev pub invariant-loop-held : goal.invariant-loop-held

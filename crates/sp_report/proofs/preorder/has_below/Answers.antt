@@ -1,4 +1,4 @@
-use Rattle.sp_report.proofs.Rising.{has_more}
+use Rattle.sp_report.proofs.NameOrder.{has_more}
 use Rattle.sp_report.proofs.preorder.has_below.Goals as goal
 
 pub loop-process-preserved : goal.loop-process-preserved

@@ -1,4 +1,4 @@
-use Rattle.sp_report.specs.Rising.{HasBelow}
+use Rattle.sp_report.specs.GuessedOrder.{HasBelow}
 use Rattle.sp_report.proofs.preorder.has_below.Given as goal
 
 -- the processes so far

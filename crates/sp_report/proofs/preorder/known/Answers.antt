@@ -3,8 +3,8 @@ use Rattle.std.specs.Option.{option_copied}
 use Rattle.sp_base.specs.declared.name.ProcName.{ProcName}
 use Rattle.sp_journal.specs.Births.{Births}
 use Rattle.sp_journal.specs.Names.{proc_name}
-use Rattle.sp_report.specs.Rising.{names_of}
-use Rattle.sp_report.proofs.Rising.{at_name}
+use Rattle.sp_report.specs.GuessedOrder.{names_of}
+use Rattle.sp_report.proofs.NameOrder.{at_name}
 use Rattle.sp_report.proofs.preorder.known.Goals as goal
 
 pub returns-then-found-process : goal.returns-then-found-process

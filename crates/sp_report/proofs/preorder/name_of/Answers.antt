@@ -1,7 +1,7 @@
 use Rattle.std.proofs.Common.{sym, ◌∙◌}
 use Rattle.sp_journal.specs.Births.{births}
 use Rattle.sp_journal.proofs.BirthLaws.{lawful, name_by_birth}
-use Rattle.sp_report.proofs.Rising.{ok_child}
+use Rattle.sp_report.proofs.NameOrder.{ok_child}
 use Rattle.sp_report.proofs.preorder.name_of.Goals as goal
 
 pub returns-in-Some-known : goal.returns-in-Some-known

@@ -2,8 +2,8 @@ use Rattle.std.proofs.Common.{◌≡◌, ◌∙◌, ap, ◌+◌, ◌++◌, ◌�
 use Rattle.std.proofs.Common.{slice_index_or}
 use Rattle.std.proofs.lemmas.List.{take_more}
 use Rattle.sp_journal.specs.Births.{births}
-use Rattle.sp_report.specs.Rising.{AreForked}
-use Rattle.sp_report.proofs.Rising.{names_more, forked_more, names_front}
+use Rattle.sp_report.specs.GuessedOrder.{AreForked}
+use Rattle.sp_report.proofs.NameOrder.{names_more, forked_more, names_front}
 use Rattle.sp_report.proofs.preorder.names_of.Goals as goal
 
 pub loop-process-preserved : goal.loop-process-preserved

@@ -1,6 +1,6 @@
 use Rattle.std.proofs.Common.{◌≡◌, take}
 use Rattle.sp_journal.specs.Births.{births}
-use Rattle.sp_report.specs.Rising.{AreForked, names_of}
+use Rattle.sp_report.specs.GuessedOrder.{AreForked, names_of}
 use Rattle.sp_report.proofs.preorder.names_of.Given as goal
 
 -- the processes so far

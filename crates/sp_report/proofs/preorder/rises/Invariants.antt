@@ -1,4 +1,4 @@
-use Rattle.sp_report.specs.Rising.{RisesTo}
+use Rattle.sp_report.specs.GuessedOrder.{RisesTo}
 use Rattle.sp_report.proofs.preorder.rises.Given as goal
 
 -- the names so far

@@ -1,7 +1,7 @@
 use Rattle.std.proofs.Common.{◌≡◌, subst, ℕ, List, MatchOption}
 use Rattle.sp_journal.specs.Births.{births}
-use Rattle.sp_report.specs.Rising.{AreForked, Rises, names_of}
-use Rattle.sp_report.proofs.Rising.{lines_rise}
+use Rattle.sp_report.specs.GuessedOrder.{AreForked, Rises, names_of}
+use Rattle.sp_report.proofs.NameOrder.{lines_rise}
 use Rattle.sp_report.proofs.preorder.rising_names.Goals as goal
 
 pub returns-then-rises : goal.returns-then-rises

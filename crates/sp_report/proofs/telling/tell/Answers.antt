@@ -1,6 +1,6 @@
 use Rattle.std.proofs.Common.{◌≡◌, ◌∙◌, ◌++◌, ◌∷◌, [], List, Vec, Global, ℕ, append_assoc, ap, sym}
 use Rattle.sp_report.proofs.Prefixes.{text_added, text_kept}
-use Rattle.sp_report.specs.Telling.{is_chosen}
+use Rattle.sp_report.specs.WatcherReports.{is_chosen}
 use Rattle.sp_report.proofs.telling.tell.Goals as goal
 use Rattle.sp_report.proofs.telling.tell.Goals.{then-is_chosen+in-Ok, else-is_chosen}
 

@@ -1,6 +1,6 @@
 use Rattle.std.proofs.Common.{◌≡◌, ◌++◌, filter}
 use Rattle.std.specs.List.{flat_map}
-use Rattle.sp_report.specs.Telling.{is_chosen}
+use Rattle.sp_report.specs.WatcherReports.{is_chosen}
 use Rattle.sp_report.proofs.telling.tell.Given as goal
 
 -- the texts of the chosen watchers so far

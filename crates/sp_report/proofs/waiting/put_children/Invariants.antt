@@ -1,7 +1,7 @@
 use Rattle.std.proofs.Common.{◌-◌}
 use Rattle.sp_journal.specs.Births.{births}
 use Rattle.sp_report.specs.Fits.{table_conditions}
-use Rattle.sp_report.specs.Waiting.{children_text, unended_children}
+use Rattle.sp_report.specs.WaitingText.{children_text, unended_children}
 use Rattle.sp_writer.specs.Adds.{Adds}
 use Rattle.sp_report.proofs.waiting.put_children.Given as goal
 

@@ -1,6 +1,6 @@
 use Rattle.sp_journal.specs.Births.{births}
 use Rattle.sp_report.specs.Fits.{table_conditions}
-use Rattle.sp_report.specs.Waiting.{waiting_lines}
+use Rattle.sp_report.specs.WaitingText.{waiting_lines}
 use Rattle.sp_writer.specs.Adds.{Covers}
 use Rattle.sp_report.proofs.waiting.put_lines.Given as goal
 

@@ -1,7 +1,7 @@
 use Rattle.std.proofs.Common.{◌≡◌, ◌∙◌, sym, ap}
 use Rattle.sp_journal.specs.Births.{births}
 use Rattle.sp_report.specs.Fits.{table_conditions}
-use Rattle.sp_report.specs.Waiting.{is_waiting}
+use Rattle.sp_report.specs.WaitingText.{is_waiting}
 use Rattle.sp_report.proofs.Orders.{one_fails, one_passes}
 use Rattle.sp_report.proofs.waiting.waiting_processes.Goals as goal
 use Rattle.sp_report.proofs.waiting.waiting_processes.Goals.{then-is_waiting+in-Ok+in-Ok-insert, else-is_waiting}

@@ -3,7 +3,7 @@ use Rattle.sp_journal.specs.Births.{births}
 use Rattle.sp_journal.specs.Queue.{numbers}
 use Rattle.sp_report.specs.Fits.{table_conditions}
 use Rattle.sp_report.specs.InOrder.{sorted_by_name}
-use Rattle.sp_report.specs.Waiting.{is_waiting}
+use Rattle.sp_report.specs.WaitingText.{is_waiting}
 use Rattle.sp_report.proofs.waiting.waiting_processes.Given as goal
 
 -- those so far that wait

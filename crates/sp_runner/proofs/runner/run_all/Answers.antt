@@ -3,13 +3,13 @@ use denote.Param.Send.{param_send, arg_send}
 use Rattle.sp_base.proofs.limits.Limits.TheSendSync as limits
 use Rattle.sp_base.proofs.Facts.{item_there, none_if_not_above}
 use Rattle.sp_code.proofs.code.Code.TheSendSync as code
-use Rattle.sp_kernel.proofs.Crossing.{seat_send, room_sync}
+use Rattle.sp_kernel.proofs.ThreadBounds.{seat_send, room_sync}
 use Rattle.std.proofs.Common.{◌≡◌, ◌∙◌, sym, ap, subst, Some, None, slice_get, refl, length, arith, ◌<◌, ◌≤◌}
 use Rattle.std.proofs.lemmas.Option.{slice_get_read, slice_get_within, get_or_from_slice_get}
 use Rattle.sp_room.specs.Seats.{IsSeatAt, SamePlace, seen_by, own_of}
 use Rattle.sp_room.proofs.Places.{stays_of, stays_at}
 use Rattle.sp_history.specs.WorkerHistory.{OneByOne}
-use Rattle.sp_runner.proofs.Seating.{new_seat}
+use Rattle.sp_runner.proofs.FreshSeats.{new_seat}
 use Rattle.sp_runner.specs.Works.{IsRunOf, LeftAfter}
 use Rattle.sp_kernel.specs.Asks.{KernelSteps}
 use Rattle.sp_kernel.specs.declared.kernel.Kernel.{Kernel}

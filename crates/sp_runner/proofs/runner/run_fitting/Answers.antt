@@ -3,13 +3,13 @@ use Rattle.sp_code.specs.declared.code.Parts.{Parts}
 use Rattle.sp_code.specs.Control.{entries_of}
 use Rattle.sp_code.specs.Memory.{CodeRun}
 use Rattle.sp_code.specs.Sound.{run_of}
-use Rattle.sp_history.specs.Holding.{IsOutputOf}
+use Rattle.sp_history.specs.OutputHolder.{IsOutputOf}
 use Rattle.sp_room.specs.Ends.{object_of, notes_of}
 use Rattle.sp_kernel.specs.declared.kernel.Kernel.{Kernel}
 use Rattle.sp_kernel.specs.Closes.{EndIs}
 use Rattle.sp_kernel.specs.Kernels.{code_run_of, system_of}
 use Rattle.sp_runner.specs.Runs.{IsRun}
-use Rattle.sp_runner.proofs.Closing.{closed_run, if_closed}
+use Rattle.sp_runner.proofs.RunResults.{closed_run, if_closed}
 use Rattle.sp_runner.proofs.runner.run_fitting.Goals as goal
 
 pub returns : goal.returns

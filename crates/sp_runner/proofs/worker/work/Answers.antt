@@ -11,9 +11,9 @@ use Rattle.sp_kernel.specs.declared.ask.Got.{Got}
 use Rattle.sp_kernel.specs.declared.ask.Got.TheVariants as got
 use Rattle.sp_kernel.specs.Asks.{KernelSteps, refusal, is_abandon, MayAsk}
 use Rattle.sp_runner.specs.Works.{IsNextAsk}
-use Rattle.sp_runner.proofs.Handing.{IsAfter, after, gives_up_next, starts_next}
-use Rattle.sp_runner.proofs.Working.{HasProcessOut, got_work_so, is_ranked, may_hand_in, may_turn, may_lose}
-use Rattle.sp_runner.proofs.Working.{may_give_up}
+use Rattle.sp_runner.proofs.WorkerCalls.{IsAfter, after, gives_up_next, starts_next}
+use Rattle.sp_runner.proofs.WorkInHand.{HasProcessOut, got_work_so, is_ranked, may_hand_in, may_turn, may_lose}
+use Rattle.sp_runner.proofs.WorkInHand.{may_give_up}
 use Rattle.sp_runner.proofs.Ending.{finished, gave_up}
 use Rattle.sp_runner.proofs.worker.work.Goals as goal
 
@@ -23,7 +23,7 @@ loop-init g c = record {
     table = refl;
     opening = refl;
     number = refl;
-    dealt = refl;
+    seats_made = refl;
     from = refl;
     joined = refl;
     looked = refl;

@@ -1,6 +1,7 @@
 use Rattle.std.proofs.Common.{arith, refl}
-use Rattle.sp_scan.proofs.Scanning.{scan_shorter, scan_line, scan_column, scan_done, too_long, scan_breaks, pass_start}
-use Rattle.sp_scan.proofs.Scanning.{pass_item, item_shorter}
+use Rattle.sp_scan.proofs.TokenPrefixes.{scan_shorter, scan_line, scan_column, scan_done, too_long, scan_breaks}
+use Rattle.sp_scan.proofs.TokenPrefixes.{pass_start}
+use Rattle.sp_scan.proofs.TokenPrefixes.{pass_item, item_shorter}
 use Rattle.sp_scan.proofs.scanner.first_breach.Goals as goal
 
 pub returns-then-text-gt-MAX_TEXT : goal.returns-then-text-gt-MAX_TEXT

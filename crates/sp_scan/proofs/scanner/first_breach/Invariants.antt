@@ -1,5 +1,5 @@
 use Rattle.std.proofs.Common.{length}
-use Rattle.sp_scan.proofs.Scanning.{PassedSoFar}
+use Rattle.sp_scan.proofs.TokenPrefixes.{PassedSoFar}
 use Rattle.sp_scan.proofs.scanner.first_breach.Given as goal
 
 -- the text in front of the rest has tokens, and no rule is broken there

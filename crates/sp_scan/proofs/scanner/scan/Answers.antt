@@ -1,7 +1,8 @@
 use Rattle.std.proofs.Common.{arith, refl}
-use Rattle.sp_grammar.proofs.Rising.{lexeme_length}
-use Rattle.sp_scan.proofs.Scanning.{scan_start, scan_shorter, scan_line, scan_column, scan_gap, scan_token, scan_done}
-use Rattle.sp_scan.proofs.Scanning.{too_long, scan_breaks, gap_shorter, as_gap, as_token}
+use Rattle.sp_grammar.proofs.TokenOrder.{lexeme_length}
+use Rattle.sp_scan.proofs.TokenPrefixes.{scan_start, scan_shorter, scan_line, scan_column, scan_gap, scan_token}
+use Rattle.sp_scan.proofs.TokenPrefixes.{scan_done}
+use Rattle.sp_scan.proofs.TokenPrefixes.{too_long, scan_breaks, gap_shorter, as_gap, as_token}
 use Rattle.sp_scan.proofs.scanner.scan.Goals as goal
 
 pub returns-then-text-gt-MAX_TEXT : goal.returns-then-text-gt-MAX_TEXT

@@ -1,5 +1,5 @@
 use Rattle.std.proofs.Common.{length}
-use Rattle.sp_scan.proofs.Scanning.{ScannedSoFar}
+use Rattle.sp_scan.proofs.TokenPrefixes.{ScannedSoFar}
 use Rattle.sp_scan.proofs.scanner.scan.Given as goal
 
 -- the tokens so far are those of the text in front of the rest, and no rule is broken there

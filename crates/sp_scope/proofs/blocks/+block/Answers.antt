@@ -9,7 +9,7 @@ use Rattle.sp_tree.specs.Scopes.{inner_env}
 use Rattle.sp_tree.specs.NameWalk.{title_local}
 use Rattle.sp_scope.specs.Walks.{seen_block}
 use Rattle.sp_scope.proofs.Tables.{beside_beside, beside_nothing}
-use Rattle.sp_scope.proofs.Found.{titled_found, part_found, block_found}
+use Rattle.sp_scope.proofs.PartBreaches.{titled_found, part_found, block_found}
 use Rattle.sp_scope.proofs.blocks.+block.Goals as goal
 
 pub name_procedure-returns-clause-found : goal.name_procedure-returns-clause-found

@@ -1,6 +1,6 @@
 use Rattle.std.proofs.Common.{ap, ◌∙◌}
 use Rattle.sp_tree.specs.SyntaxOf.{block_of}
-use Rattle.sp_scope.proofs.Found.{program_found}
+use Rattle.sp_scope.proofs.PartBreaches.{program_found}
 use Rattle.sp_scope.proofs.program.name_program.Goals as goal
 
 pub returns : goal.returns

@@ -1,6 +1,6 @@
 use Rattle.sp_tree.specs.NamedOf as named
 use Rattle.sp_scope.specs.Walks.{seen_block}
-use Rattle.sp_scope.proofs.Found.{tables_found}
+use Rattle.sp_scope.proofs.PartBreaches.{tables_found}
 use Rattle.sp_scope.proofs.program.program_tables.Goals as goal
 
 pub returns : goal.returns

@@ -2,7 +2,7 @@ use Rattle.std.proofs.Common.{◌∙◌, ap, [], None}
 use Rattle.sp_tree.specs.SyntaxOf as plain
 use Rattle.sp_scope.specs.Walks.{seen_block}
 use Rattle.sp_scope.specs.Firsts.{files_first}
-use Rattle.sp_scope.proofs.Found.{resolved_found}
+use Rattle.sp_scope.proofs.PartBreaches.{resolved_found}
 use Rattle.sp_scope.proofs.program.resolve.Goals as goal
 
 pub returns : goal.returns

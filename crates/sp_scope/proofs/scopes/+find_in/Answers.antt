@@ -1,5 +1,5 @@
 use Rattle.std.proofs.Common.{rules}
-use Rattle.sp_scope.proofs.Scoped.{find_last}
+use Rattle.sp_scope.proofs.ScopeTables.{find_last}
 use Rattle.sp_scope.proofs.scopes.+find_in.Goals as goal
 
 pub returns-in-Some-look_in : goal.returns-in-Some-look_in

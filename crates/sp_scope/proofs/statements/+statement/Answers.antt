@@ -2,7 +2,7 @@ use Rattle.std.proofs.Common.{map, arith}
 use Rattle.std.proofs.lemmas.Grind.{common_steps}
 use Rattle.sp_tree.specs.NamedOf as named
 use Rattle.sp_tree.specs.SyntaxOf.{expression_of}
-use Rattle.sp_scope.proofs.Found.{repeat_found}
+use Rattle.sp_scope.proofs.PartBreaches.{repeat_found}
 use Rattle.sp_scope.proofs.statements.+statement.Goals as goal
 
 pub name_repeat-returns-clause-found : goal.name_repeat-returns-clause-found

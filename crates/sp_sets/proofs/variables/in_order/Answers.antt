@@ -2,7 +2,7 @@ use Rattle.std.proofs.Common.{ap, rules}
 use Rattle.std.specs.Ordering.{is_lt}
 use Rattle.std.proofs.lemmas.Fn.{always_returns_same}
 use Rattle.sp_sets.specs.Orders.{variable_cmp}
-use Rattle.sp_sets.proofs.Ordering.{variable_total, ranks}
+use Rattle.sp_sets.proofs.LineOrders.{variable_total, ranks}
 use Rattle.sp_sets.proofs.variables.in_order.Goals as goal
 
 pub returns : goal.returns

@@ -1,6 +1,6 @@
 use Rattle.std.proofs.Common.{rules}
 use Rattle.sp_tree.specs.declared.checked.Form.TheFolds as folds
-use Rattle.sp_sets.proofs.Walked.{no_sends, no_receives}
+use Rattle.sp_sets.proofs.StatementLines.{no_sends, no_receives}
 use Rattle.sp_sets.proofs.walk.+walk.Goals as goal
 
 pub form_lines-returns-in-SendEach : goal.form_lines-returns-in-SendEach

@@ -2,7 +2,7 @@ use Rattle.std.proofs.Common.{ap, rules}
 use Rattle.std.specs.Ordering.{is_lt}
 use Rattle.std.proofs.lemmas.List.Sorted.{answers_always}
 use Rattle.sp_sets.specs.Orders.{line_cmp}
-use Rattle.sp_sets.proofs.Ordering.{line_total, ranks}
+use Rattle.sp_sets.proofs.LineOrders.{line_total, ranks}
 use Rattle.sp_sets.proofs.walk.ordered_lines.Goals as goal
 
 pub returns : goal.returns

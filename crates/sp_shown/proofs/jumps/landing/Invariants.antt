@@ -1,5 +1,5 @@
 use Rattle.std.proofs.Common.{◌≡◌}
-use Rattle.sp_shown.specs.Landing.{landing, landing_within}
+use Rattle.sp_shown.specs.JumpTargets.{landing, landing_within}
 use Rattle.sp_shown.proofs.jumps.landing.Given as goal
 
 abbrev pub invariant-loop-left : goal.invariant-loop-left

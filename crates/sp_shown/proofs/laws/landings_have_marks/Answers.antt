@@ -7,7 +7,7 @@ use Rattle.sp_code.specs.Turns.{IsSafe, frames_fit}
 use Rattle.sp_lines.specs.AtTurn.{next_of}
 use Rattle.sp_lines.specs.declared.mark.Mark.{Mark}
 use Rattle.sp_lines.specs.Marks.{marks}
-use Rattle.sp_shown.specs.Landing.{landing}
+use Rattle.sp_shown.specs.JumpTargets.{landing}
 use Rattle.sp_shown.proofs.Landings.{landing_marked}
 use Rattle.sp_shown.proofs.laws.landings_have_marks.Goals as goal
 

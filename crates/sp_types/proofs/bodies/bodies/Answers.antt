@@ -6,7 +6,7 @@ use Rattle.sp_tree.specs.declared.named.NamedBlock.{NamedBlock}
 use Rattle.sp_tree.specs.declared.named.NamedStmt as stmt
 use Rattle.sp_tree.specs.NamedOf.{block_of, statement_of}
 use Rattle.sp_types.specs.TypeWalk.{bodies, statement_counted, statement_place}
-use Rattle.sp_types.proofs.Declared.{ok, ok_injective, drop_head}
+use Rattle.sp_types.proofs.DeclarationRules.{ok, ok_injective, drop_head}
 use Rattle.sp_types.proofs.bodies.bodies.Goals as goal
 
 place_is : (s : stmt.NamedStmt) → statement_place (statement_of s) ≡ s.at

@@ -1,6 +1,6 @@
 use Rattle.std.proofs.Common.{arith}
 use Rattle.std.proofs.lemmas.Grind.{common_steps}
-use Rattle.sp_types.proofs.Wanting.{no_part, one_part}
+use Rattle.sp_types.proofs.ExpectedTypes.{no_part, one_part}
 use Rattle.sp_types.proofs.calls.type_parts.Goals as goal
 
 pub loop-x-preserved : goal.loop-x-preserved

@@ -2,7 +2,7 @@ use Rattle.std.proofs.Common.{◌≡◌, ◌++◌, map}
 use Rattle.std.specs.Vec.Iter.{into_iter_items}
 use Rattle.sp_tree.specs.NamedOf.{arguments, argument_of}
 use Rattle.sp_tree.specs.CheckedOf as checked
-use Rattle.sp_types.specs.Wanted.{part_forms, part_first}
+use Rattle.sp_types.specs.Expectations.{part_forms, part_first}
 use Rattle.sp_types.specs.Firsts.{each_first}
 use Rattle.sp_types.proofs.calls.type_parts.Given as goal
 

@@ -6,4 +6,4 @@ use Rattle.sp_types.proofs.checks.type_width.Goals as goal
 
 pub returns : goal.returns
 returns c = ruled (λ (e : k.Expression). e) (λ (j : Option ℕ). j) width_rule c.args.at c.args.at _ _ _ _ _ _ _ _ refl
-    c.in-Ok.ensures c.width_rule.ensures c.lesser.ensures
+    c.in-Ok.ensures c.width_rule.ensures c.earlier_refusal.ensures

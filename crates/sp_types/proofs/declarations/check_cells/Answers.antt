@@ -1,4 +1,4 @@
-use Rattle.sp_types.proofs.Declared.{cells_step}
+use Rattle.sp_types.proofs.DeclarationRules.{cells_step}
 use Rattle.sp_types.proofs.declarations.check_cells.Goals as goal
 
 pub loop-i-preserved : goal.loop-i-preserved

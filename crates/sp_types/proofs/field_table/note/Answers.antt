@@ -1,5 +1,5 @@
 use Rattle.std.proofs.Common.{rules}
-use Rattle.sp_types.proofs.Noting.{put}
+use Rattle.sp_types.proofs.FieldTables.{put}
 use Rattle.sp_types.proofs.field_table.note.Goals as goal
 
 pub returns-in_ok-insert : goal.returns-in_ok-insert

@@ -1,7 +1,7 @@
 use Rattle.std.proofs.Common.{◌∙◌, ap, sym, ◌||◌, ◌+◌, ℕ, List, drop, get_or, nat_eq}
 use Rattle.std.specs.List.{list_any}
-use Rattle.sp_types.proofs.Declared.{drop_head}
-use Rattle.sp_types.proofs.Noting.{counted, has}
+use Rattle.sp_types.proofs.DeclarationRules.{drop_head}
+use Rattle.sp_types.proofs.FieldTables.{counted, has}
 use Rattle.sp_types.proofs.field_table.numbers_of.Goals as goal
 
 pub loop-k-preserved : goal.loop-k-preserved

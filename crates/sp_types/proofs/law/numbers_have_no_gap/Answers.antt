@@ -1,4 +1,4 @@
-use Rattle.sp_types.proofs.Numbering.{statement_next}
+use Rattle.sp_types.proofs.NextNumbers.{statement_next}
 use Rattle.sp_types.proofs.law.numbers_have_no_gap.Goals as goal
 
 pub returns : goal.returns

@@ -3,7 +3,7 @@ use Rattle.std.specs.Prelude.{◌≢◌}
 use Rattle.sp_tree.specs.declared.checked.Var.{Var}
 use Rattle.sp_tree.specs.declared.checked.Form.TheVariants as form
 use Rattle.sp_tree.specs.CheckedOf as checked
-use Rattle.sp_types.proofs.EachReceived.{each_received}
+use Rattle.sp_types.proofs.SeveralOnChannel.{each_received}
 use Rattle.sp_types.proofs.performs.received.Goals as goal
 
 pub returns-in_ok-push-in-Some : goal.returns-in_ok-push-in-Some

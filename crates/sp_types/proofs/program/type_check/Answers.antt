@@ -14,8 +14,8 @@ use Rattle.sp_types.specs.AfterTables.{tables_by_names, kinds_outcome}
 use Rattle.sp_tree.specs.PlainChecked as k
 use Rattle.sp_types.specs.Tables.{numbers_from, constants_from, kinds_from}
 use Rattle.sp_types.specs.TypeWalk.{places_of}
-use Rattle.sp_types.proofs.Declared.{ok}
-use Rattle.sp_types.proofs.ProgramTyped.{program_typed}
+use Rattle.sp_types.proofs.DeclarationRules.{ok}
+use Rattle.sp_types.proofs.TypePhase.{program_typed}
 use Rattle.sp_types.proofs.program.type_check.Goals as goal
 
 pub returns : goal.returns

@@ -6,13 +6,13 @@ use Rattle.sp_tree.specs.declared.checked.Variable as variable
 use Rattle.sp_tree.specs.declared.named.NamedBlock.{NamedBlock}
 use Rattle.sp_tree.specs.PhaseResults.{AnswersAs}
 use Rattle.sp_tree.specs.NamedOf as plain
-use Rattle.sp_types.specs.Capped.{capped_sizes}
+use Rattle.sp_types.specs.CellCaps.{capped_sizes}
 use Rattle.sp_tree.specs.CheckedOf as checked
 use Rattle.sp_types.specs.DeclarationFirsts.{cells_first}
 use Rattle.sp_types.specs.AfterTables.{tables_by_names, blocks_outcome}
 use Rattle.sp_tree.specs.PlainChecked as k
-use Rattle.sp_types.proofs.Declared.{ok}
-use Rattle.sp_types.proofs.ProgramTyped.{kinds_typed}
+use Rattle.sp_types.proofs.DeclarationRules.{ok}
+use Rattle.sp_types.proofs.TypePhase.{kinds_typed}
 use Rattle.sp_types.proofs.program.type_kinds.Goals as goal
 
 pub returns : goal.returns

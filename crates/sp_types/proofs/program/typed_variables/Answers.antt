@@ -1,5 +1,5 @@
 use Rattle.std.specs.Vec.Iter.{into_iter_items}
-use Rattle.sp_types.proofs.Declared.{variables_step}
+use Rattle.sp_types.proofs.DeclarationRules.{variables_step}
 use Rattle.sp_types.proofs.program.typed_variables.Goals as goal
 
 pub loop-x-preserved : goal.loop-x-preserved

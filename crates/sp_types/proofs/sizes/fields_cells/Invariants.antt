@@ -1,7 +1,7 @@
 use Rattle.std.proofs.Common.{◌≡◌, ◌≤◌, ◌+◌, ℕ, List, map, drop}
 use Rattle.std.specs.Prelude.{sum, slice_get}
 use Rattle.sp_tree.specs.Cells.{first_or}
-use Rattle.sp_types.specs.Capped.{capped_count}
+use Rattle.sp_types.specs.CellCaps.{capped_count}
 use Rattle.sp_types.proofs.sizes.fields_cells.Given as goal
 
 abbrev pub invariant-loop-f : goal.invariant-loop-f

@@ -1,6 +1,6 @@
 use Rattle.std.proofs.Common.{◌≡◌, ◌≤◌, ◌+◌, drop}
 use Rattle.sp_types.specs.TypeRules.{frame_cells}
-use Rattle.sp_types.specs.Capped.{capped_count}
+use Rattle.sp_types.specs.CellCaps.{capped_count}
 use Rattle.sp_types.proofs.sizes.frame_cells.Given as goal
 
 abbrev pub invariant-loop-x : goal.invariant-loop-x

@@ -1,6 +1,6 @@
 use Rattle.std.proofs.Common.{◌≡◌, [], drop}
 use Rattle.sp_tree.specs.Cells.{table}
-use Rattle.sp_types.specs.Capped.{capped_by}
+use Rattle.sp_types.specs.CellCaps.{capped_by}
 use Rattle.sp_types.proofs.sizes.sizes_of.Given as goal
 
 abbrev pub invariant-loop-k : goal.invariant-loop-k

@@ -2,7 +2,7 @@ use Rattle.std.proofs.Common.{rules, ◌≡◌, ◌∙◌, length, map, arith, s
 use Rattle.sp_base.proofs.Facts.{get_of_map, length_of_map, no_get_of_map}
 use Rattle.sp_tree.specs.Bare.{without_places, bare_block}
 use Rattle.sp_tree.specs.CheckedOf.{block_of, program_of}
-use Rattle.sp_varsets.proofs.Gathering.{in_put, declares_none, declares_top, declares_more}
+use Rattle.sp_varsets.proofs.BlockRows.{in_put, declares_none, declares_top, declares_more}
 use Rattle.sp_varsets.proofs.bodies.+declare.Goals as goal
 
 pub returns : goal.returns

@@ -5,7 +5,7 @@ use Rattle.sp_tree.specs.declared.checked.Variable.{Variable}
 use Rattle.sp_tree.specs.Bare.{without_places, variable_of}
 use Rattle.sp_tree.specs.CheckedOf.{program_of}
 use Rattle.sp_varsets.specs.Bodies.{Declares}
-use Rattle.sp_varsets.proofs.Gathering.{declared_more}
+use Rattle.sp_varsets.proofs.BlockRows.{declared_more}
 use Rattle.sp_varsets.proofs.bodies.declared.Goals as goal
 
 pub variables-preserved : goal.variables-preserved

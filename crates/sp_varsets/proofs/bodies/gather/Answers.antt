@@ -1,9 +1,9 @@
 use Rattle.std.proofs.Common.{◌≡◌, arith, length, map, subst}
 use Rattle.sp_tree.specs.CheckedOf.{block_of}
 use Rattle.sp_varsets.specs.Bodies.{AreBodies}
-use Rattle.sp_varsets.proofs.Adding.{from_empty}
-use Rattle.sp_varsets.proofs.Gathering.{bodies_more, block_at, blocks_on, blocks_end}
-use Rattle.sp_varsets.proofs.Walking.{writes_then, writes_none}
+use Rattle.sp_varsets.proofs.AddedSets.{from_empty}
+use Rattle.sp_varsets.proofs.BlockRows.{bodies_more, block_at, blocks_on, blocks_end}
+use Rattle.sp_varsets.proofs.StatementRecords.{writes_then, writes_none}
 use Rattle.sp_varsets.proofs.bodies.gather.Goals as goal
 
 pub loop-block-preserved : goal.loop-block-preserved

@@ -1,7 +1,7 @@
 use Rattle.std.proofs.Common.{◌∙◌, ◌++◌, ◌∷◌, [], ◌+◌, false, length, get_or, arith, refl, ap}
 use Rattle.std.proofs.lemmas.Option.{slice_get_read}
-use Rattle.sp_varsets.proofs.Gathering.{length_more}
-use Rattle.sp_varsets.proofs.Totalling.{flag_more, flags_are}
+use Rattle.sp_varsets.proofs.BlockRows.{length_more}
+use Rattle.sp_varsets.proofs.CallSets.{flag_more, flags_are}
 use Rattle.sp_varsets.proofs.totals.flags.Goals as goal
 
 pub rows-preserved : goal.rows-preserved

@@ -1,7 +1,7 @@
 use Rattle.std.proofs.Common.{◌+◌, length, arith, refl, sym, subst}
 use Rattle.std.proofs.lemmas.Option.{slice_get_read}
 use Rattle.sp_varsets.specs.Totals.{AreRowEntries}
-use Rattle.sp_varsets.proofs.Totalling.{row_entries_more}
+use Rattle.sp_varsets.proofs.CallSets.{row_entries_more}
 use Rattle.sp_varsets.proofs.totals.row_entries.Goals as goal
 
 pub rows-preserved : goal.rows-preserved

@@ -1,7 +1,7 @@
 use Rattle.std.proofs.Common.{◌∙◌, ◌+◌, sym, ap, subst}
 use Rattle.sp_varsets.specs.Records.{slot_at}
 use Rattle.sp_varsets.specs.Totals.{AreEntries}
-use Rattle.sp_varsets.proofs.Totalling.{entries_more}
+use Rattle.sp_varsets.proofs.CallSets.{entries_more}
 use Rattle.sp_varsets.proofs.totals.statement_entries.Goals as goal
 
 pub slots-preserved : goal.slots-preserved

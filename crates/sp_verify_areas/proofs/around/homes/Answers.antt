@@ -1,6 +1,6 @@
 use Rattle.std.proofs.Common.{◌≡◌, length, replicate, None, ap, ◌∙◌, refl}
 use Rattle.sp_code.specs.declared.code.Parts.{Parts}
-use Rattle.sp_verify_areas.proofs.Surrounding.{homes_are, attached_start}
+use Rattle.sp_verify_areas.proofs.Surroundings.{homes_are, attached_start}
 use Rattle.sp_verify_areas.proofs.around.homes.Goals as goal
 
 pub hang_all-requires-clause-just : goal.hang_all-requires-clause-just

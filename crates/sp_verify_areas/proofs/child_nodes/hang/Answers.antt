@@ -8,10 +8,10 @@ use Rattle.sp_verify_rules.specs.Areas.{instr_at, table_named}
 use Rattle.sp_verify_areas.specs.Around.{AreAttached, AttachesChildren, IsAttachedBy, node_of}
 use Rattle.sp_verify_areas.specs.Grown.{node_at}
 use Rattle.sp_verify_areas.specs.Owners.{Owns}
-use Rattle.sp_verify_areas.proofs.Growing.{steps_none}
-use Rattle.sp_verify_areas.proofs.Leading.{is_none}
-use Rattle.sp_verify_areas.proofs.Owned.{named_within}
-use Rattle.sp_verify_areas.proofs.Surrounding.{attached_has, attached_past, attached_step, owner_there}
+use Rattle.sp_verify_areas.proofs.TreeGrowth.{steps_none}
+use Rattle.sp_verify_areas.proofs.BlockNodes.{is_none}
+use Rattle.sp_verify_areas.proofs.OwnerClosure.{named_within}
+use Rattle.sp_verify_areas.proofs.Surroundings.{attached_has, attached_past, attached_step, owner_there}
 use Rattle.sp_verify_areas.proofs.child_nodes.hang.Goals as goal
 
 pub returns-then-is_some : goal.returns-then-is_some

@@ -1,6 +1,6 @@
 use Rattle.std.proofs.Common.{◌+◌, ℕ, List, Option, length, ap, sym, ◌∙◌, subst}
 use Rattle.sp_verify_areas.specs.Around.{AreNodes, node_of}
-use Rattle.sp_verify_areas.proofs.Surrounding.{nodes_more}
+use Rattle.sp_verify_areas.proofs.Surroundings.{nodes_more}
 use Rattle.sp_verify_areas.proofs.child_nodes.nodes_of.Goals as goal
 
 pub loop-p-preserved : goal.loop-p-preserved

@@ -1,4 +1,4 @@
-use Rattle.sp_verify_areas.proofs.Surrounding.{all_attached}
+use Rattle.sp_verify_areas.proofs.Surroundings.{all_attached}
 use Rattle.sp_verify_areas.proofs.child_nodes.search.Goals as goal
 
 pub returns-then-not-found : goal.returns-then-not-found

@@ -1,5 +1,5 @@
 use Rattle.sp_verify_areas.specs.Around.{AreAttached, IsAttachedBy}
-use Rattle.sp_verify_areas.proofs.Growing.{items_more}
+use Rattle.sp_verify_areas.proofs.TreeGrowth.{items_more}
 use Rattle.sp_verify_areas.proofs.child_nodes.sweep.Goals as goal
 
 pub loop-q-preserved : goal.loop-q-preserved

@@ -1,7 +1,7 @@
 use Rattle.std.proofs.Common.{◌+◌, None, Some}
-use Rattle.sp_verify_rules.specs.Named.{OfChild}
+use Rattle.sp_verify_rules.specs.NameRules.{OfChild}
 use Rattle.sp_verify_areas.specs.Twice.{SeenBefore, NotesVariable}
-use Rattle.sp_verify_areas.proofs.Declaring.{if_ok, noted, passes, next_child, index_of}
+use Rattle.sp_verify_areas.proofs.DeclarationSteps.{if_ok, noted, passes, next_child, index_of}
 use Rattle.sp_verify_areas.proofs.declarations.note_child.Goals as goal
 
 pub returns-in-None : goal.returns-in-None

@@ -3,8 +3,8 @@ use Rattle.std.specs.Prelude.{slice_get}
 use Rattle.std.proofs.lemmas.Option.{slice_get_read, slice_get-get_or}
 use Rattle.sp_code.specs.declared.code.Layout.{Layout}
 use Rattle.sp_code.specs.declared.code.Parts.{Parts}
-use Rattle.sp_verify_rules.specs.Named.{InLayout}
-use Rattle.sp_verify_areas.proofs.Declaring.{noted, next_layout, variable_of, layout_ends}
+use Rattle.sp_verify_rules.specs.NameRules.{InLayout}
+use Rattle.sp_verify_areas.proofs.DeclarationSteps.{noted, next_layout, variable_of, layout_ends}
 use Rattle.sp_verify_areas.proofs.declarations.note_layout.Goals as goal
 
 pub loop-x-preserved : goal.loop-x-preserved

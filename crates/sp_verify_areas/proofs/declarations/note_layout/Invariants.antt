@@ -1,4 +1,4 @@
-use Rattle.sp_verify_rules.specs.Named.{InLayout}
+use Rattle.sp_verify_rules.specs.NameRules.{InLayout}
 use Rattle.sp_verify_areas.specs.Twice.{SeenBefore}
 use Rattle.sp_verify_areas.proofs.declarations.note_layout.Given as goal
 

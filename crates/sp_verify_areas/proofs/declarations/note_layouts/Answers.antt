@@ -1,6 +1,6 @@
 use Rattle.std.proofs.Common.{◌≤◌, ◌∙◌, length, ap, subst}
 use Rattle.sp_code.specs.declared.code.Parts.{Parts}
-use Rattle.sp_verify_areas.proofs.Declaring.{begins, layouts_end}
+use Rattle.sp_verify_areas.proofs.DeclarationSteps.{begins, layouts_end}
 use Rattle.sp_verify_areas.proofs.declarations.note_layouts.Goals as goal
 
 pub loop-place-init : goal.loop-place-init

@@ -4,7 +4,7 @@ use Rattle.std.proofs.lemmas.Option.{slice_get_read}
 use Rattle.sp_code.specs.declared.code.ChildTable.{ChildTable}
 use Rattle.sp_code.specs.declared.code.ForkTable.{ForkTable}
 use Rattle.sp_code.specs.declared.code.Parts.{Parts}
-use Rattle.sp_verify_areas.proofs.Declaring.{table_ends}
+use Rattle.sp_verify_areas.proofs.DeclarationSteps.{table_ends}
 use Rattle.sp_verify_areas.proofs.declarations.note_table.Goals as goal
 
 pub returns : goal.returns

@@ -1,4 +1,4 @@
-use Rattle.sp_verify_rules.specs.Named.{OfChild}
+use Rattle.sp_verify_rules.specs.NameRules.{OfChild}
 use Rattle.sp_verify_areas.specs.Twice.{SeenBefore}
 use Rattle.sp_verify_areas.proofs.declarations.note_table.Given as goal
 

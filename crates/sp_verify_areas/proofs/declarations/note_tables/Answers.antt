@@ -1,6 +1,6 @@
 use Rattle.std.proofs.Common.{◌≤◌, ◌∙◌, length, ap, subst}
 use Rattle.sp_code.specs.declared.code.Parts.{Parts}
-use Rattle.sp_verify_areas.proofs.Declaring.{ends}
+use Rattle.sp_verify_areas.proofs.DeclarationSteps.{ends}
 use Rattle.sp_verify_areas.proofs.declarations.note_tables.Goals as goal
 
 pub returns : goal.returns

@@ -1,5 +1,5 @@
 use Rattle.std.proofs.Common.{rules, ◌∙◌, sym, arith}
-use Rattle.sp_verify_rules.specs.Named.{answer_cells}
+use Rattle.sp_verify_rules.specs.NameRules.{answer_cells}
 use Rattle.sp_verify_areas.proofs.Beginnings.{ends_before}
 use Rattle.std.proofs.lemmas.Grind.{common_steps}
 use Rattle.sp_verify_areas.proofs.layouts.begins_with.Goals as goal

@@ -1,5 +1,5 @@
 use Rattle.std.proofs.Common.{◌≡◌, ◌++◌, drop}
-use Rattle.sp_verify_rules.specs.Named.{answer_cells, begins_with, formals_cells}
+use Rattle.sp_verify_rules.specs.NameRules.{answer_cells, begins_with, formals_cells}
 use Rattle.sp_verify_areas.proofs.layouts.begins_with.Given as goal
 
 -- it is as from here on

@@ -3,7 +3,7 @@ use Rattle.std.proofs.lemmas.Option.{slice_get_read}
 use Rattle.sp_verify_areas.specs.Alone.{LayoutFails, layout_fails}
 use Rattle.sp_verify_areas.specs.LeastPlaces.{IsLeast, Upto}
 use Rattle.sp_verify_areas.proofs.Leasts.{more}
-use Rattle.sp_verify_areas.proofs.Failing.{one_layout}
+use Rattle.sp_verify_areas.proofs.FirstFailures.{one_layout}
 use Rattle.sp_verify_areas.proofs.layouts.first_layout.Goals as goal
 
 pub loop-l-preserved : goal.loop-l-preserved

@@ -1,6 +1,6 @@
 use Rattle.std.proofs.Common.{◌≡◌, ℕ, ◌<◌, true}
 use Rattle.sp_verify_rules.specs.Areas.{instr_at}
-use Rattle.sp_verify_rules.specs.Named.{names_there}
+use Rattle.sp_verify_rules.specs.NameRules.{names_there}
 use Rattle.sp_verify_areas.proofs.names.first_misnaming.Given as goal
 
 -- what the instructions so far name is there

@@ -1,7 +1,7 @@
 use Rattle.std.proofs.Common.{◌≡◌, ◌∙◌, ap, sym, subst, Some}
 use Rattle.std.specs.Option.{is_some}
 use Rattle.sp_code.specs.declared.instr.Instr.{Instr}
-use Rattle.sp_verify_rules.specs.Named.{names_there}
+use Rattle.sp_verify_rules.specs.NameRules.{names_there}
 use Rattle.sp_verify_areas.proofs.BlockLaws.{has_layout}
 use Rattle.sp_verify_areas.proofs.names.names_there.Goals as goal
 

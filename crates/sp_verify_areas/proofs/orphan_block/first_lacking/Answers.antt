@@ -5,7 +5,7 @@ use Rattle.sp_code.specs.declared.code.Layout.{Layout}
 use Rattle.sp_code.specs.declared.code.Parts.{Parts}
 use Rattle.sp_verify_areas.specs.OrphanBlock.{OrphanBlockAt}
 use Rattle.sp_verify_areas.specs.LeastPlaces.{IsLeast, Upto}
-use Rattle.sp_verify_areas.proofs.Lacking.{all_orphan_blocks, one_orphan_block}
+use Rattle.sp_verify_areas.proofs.OrphanLayouts.{all_orphan_blocks, one_orphan_block}
 use Rattle.sp_verify_areas.proofs.Leasts.{more}
 use Rattle.sp_verify_areas.proofs.orphan_block.first_lacking.Goals as goal
 

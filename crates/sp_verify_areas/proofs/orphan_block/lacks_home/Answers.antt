@@ -1,7 +1,7 @@
 use Rattle.std.proofs.Common.{ap, sym, ◌∙◌}
 use Rattle.sp_verify_areas.specs.Blocks.{number_from}
 use Rattle.sp_verify_areas.specs.OrphanBlock.{is_place}
-use Rattle.sp_verify_areas.proofs.Lacking.{lacks_elsewhere, lacks_none, lacks_not, lacks_twice}
+use Rattle.sp_verify_areas.proofs.OrphanLayouts.{lacks_elsewhere, lacks_none, lacks_not, lacks_twice}
 use Rattle.sp_verify_areas.proofs.orphan_block.lacks_home.Goals as goal
 
 pub returns-then-not-is_first : goal.returns-then-not-is_first

@@ -1,8 +1,8 @@
 use Rattle.std.proofs.Common.{ap, sym, ◌∙◌}
 use Rattle.sp_verify_areas.specs.Blocks.{number_from}
 use Rattle.sp_verify_areas.specs.OrphanBlock.{is_place}
-use Rattle.sp_verify_areas.proofs.Lacking.{note_first, note_other}
-use Rattle.sp_verify_areas.proofs.Leading.{place_there}
+use Rattle.sp_verify_areas.proofs.OrphanLayouts.{note_first, note_other}
+use Rattle.sp_verify_areas.proofs.BlockNodes.{place_there}
 use Rattle.sp_verify_areas.proofs.orphan_block.note.Goals as goal
 
 pub returns-then-is_first : goal.returns-then-is_first

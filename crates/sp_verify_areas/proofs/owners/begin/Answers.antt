@@ -5,7 +5,7 @@ use Rattle.sp_code.specs.declared.code.Layout.{Layout}
 use Rattle.sp_code.specs.declared.code.Parts.{Parts}
 use Rattle.sp_code.specs.Machine.{layout_of}
 use Rattle.sp_verify_areas.specs.Owners.{entry_at}
-use Rattle.sp_verify_areas.proofs.Handing.{begun_more, entry_true}
+use Rattle.sp_verify_areas.proofs.OwnerSteps.{begun_more, entry_true}
 use Rattle.sp_verify_areas.proofs.owners.begin.Goals as goal
 
 pub hand-changed-requires-clause-owner : goal.hand-changed-requires-clause-owner

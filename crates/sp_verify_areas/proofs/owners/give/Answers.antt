@@ -3,7 +3,7 @@ use Rattle.std.specs.Prelude.{slice_set}
 use Rattle.std.proofs.lemmas.Option.{slice_get_within}
 use Rattle.sp_verify_areas.specs.declared.owners.Owner.{Owner}
 use Rattle.sp_verify_areas.specs.Owners.{HandsOwner, is_same}
-use Rattle.sp_verify_areas.proofs.Handing.{gives_old, gives_new}
+use Rattle.sp_verify_areas.proofs.OwnerSteps.{gives_old, gives_new}
 use Rattle.sp_verify_areas.proofs.owners.give.Goals as goal
 
 pub returns-then-is_same : goal.returns-then-is_same

@@ -1,7 +1,7 @@
 use Rattle.std.proofs.Common.{◌<◌, ℕ, length, Option, ap, sym, ◌∙◌, subst}
 use Rattle.sp_code.specs.declared.code.Parts.{Parts}
 use Rattle.sp_verify_areas.specs.Owners.{KnowsAt, Propagates}
-use Rattle.sp_verify_areas.proofs.Handing.{hand_given}
+use Rattle.sp_verify_areas.proofs.OwnerSteps.{hand_given}
 use Rattle.sp_verify_areas.proofs.owners.hand.Goals as goal
 
 pub returns-then-q-len : goal.returns-then-q-len

@@ -1,7 +1,7 @@
 use Rattle.std.proofs.Common.{◌≡◌, ◌+◌, ◌<◌, length, ap, sym, ◌∙◌, subst}
 use Rattle.sp_code.specs.declared.code.Parts.{Parts}
 use Rattle.sp_verify_areas.specs.Owners.{HandsOwner}
-use Rattle.sp_verify_areas.proofs.Handing.{table_given}
+use Rattle.sp_verify_areas.proofs.OwnerSteps.{table_given}
 use Rattle.sp_verify_areas.proofs.owners.hand_table.Goals as goal
 
 pub returns-then-t-len : goal.returns-then-t-len

@@ -1,4 +1,4 @@
-use Rattle.sp_verify_areas.proofs.Handing.{any_more}
+use Rattle.sp_verify_areas.proofs.OwnerSteps.{any_more}
 use Rattle.sp_verify_areas.proofs.owners.hurry.Goals as goal
 
 pub visit_one-changed-requires : goal.visit_one-changed-requires

@@ -1,7 +1,7 @@
 use Rattle.std.proofs.Common.{◌≡◌, length, take, ap, sym, ◌∙◌, subst}
 use Rattle.sp_code.specs.declared.code.Parts.{Parts}
 use Rattle.sp_verify_areas.specs.Owners.{AreOwners}
-use Rattle.sp_verify_areas.proofs.Owned.{are_owners}
+use Rattle.sp_verify_areas.proofs.OwnerClosure.{are_owners}
 use Rattle.sp_verify_areas.proofs.owners.owners.Goals as goal
 
 pub returns : goal.returns

@@ -1,4 +1,4 @@
-use Rattle.sp_verify_areas.proofs.Handing.{swept}
+use Rattle.sp_verify_areas.proofs.OwnerSteps.{swept}
 use Rattle.sp_verify_areas.proofs.owners.sweep.Goals as goal
 
 pub returns : goal.returns

@@ -1,5 +1,5 @@
 use Rattle.std.proofs.Common.{sym, ◌∙◌}
-use Rattle.sp_verify_areas.proofs.Handing.{an_owner, first_true, second_true, visited}
+use Rattle.sp_verify_areas.proofs.OwnerSteps.{an_owner, first_true, second_true, visited}
 use Rattle.sp_verify_areas.proofs.owners.visit.Goals as goal
 
 pub hand-first-requires-clause-some : goal.hand-first-requires-clause-some

@@ -1,5 +1,5 @@
 use Rattle.sp_verify_areas.specs.Owners.{IsSpread}
-use Rattle.sp_verify_areas.proofs.Handing.{each_more}
+use Rattle.sp_verify_areas.proofs.OwnerSteps.{each_more}
 use Rattle.sp_verify_areas.proofs.owners.visit_all.Goals as goal
 
 pub visit-changed-requires-clause-just : goal.visit-changed-requires-clause-just

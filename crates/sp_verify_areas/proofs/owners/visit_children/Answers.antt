@@ -1,7 +1,7 @@
 use Rattle.std.proofs.Common.{◌≡◌, ◌<◌, length, refl, sym, subst, arith}
 use Rattle.std.proofs.lemmas.Option.{slice_get_read, same_Some}
 use Rattle.sp_verify_areas.specs.Owners.{IsHanded, IsOwner, IsTrueOf, Propagates}
-use Rattle.sp_verify_areas.proofs.Handing.{handed_more, some_of_child}
+use Rattle.sp_verify_areas.proofs.OwnerSteps.{handed_more, some_of_child}
 use Rattle.sp_verify_areas.proofs.owners.visit_children.Goals as goal
 
 pub hand-changed-requires-clause-just : goal.hand-changed-requires-clause-just

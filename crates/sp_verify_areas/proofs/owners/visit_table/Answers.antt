@@ -1,7 +1,7 @@
 use Rattle.std.proofs.Common.{◌≡◌, ◌+◌, length, Some, ap, sym, ◌∙◌, subst, arith}
 use Rattle.std.specs.Prelude.{slice_get}
 use Rattle.sp_code.specs.declared.code.Parts.{Parts}
-use Rattle.sp_verify_areas.proofs.Handing.{child_true, spread_by}
+use Rattle.sp_verify_areas.proofs.OwnerSteps.{child_true, spread_by}
 use Rattle.std.proofs.lemmas.Grind.{common_steps}
 use Rattle.sp_verify_areas.proofs.owners.visit_table.Goals as goal
 

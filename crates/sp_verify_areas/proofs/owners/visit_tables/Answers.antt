@@ -1,5 +1,5 @@
 use Rattle.sp_verify_areas.specs.Owners.{IsSpreadBy}
-use Rattle.sp_verify_areas.proofs.Handing.{each_more}
+use Rattle.sp_verify_areas.proofs.OwnerSteps.{each_more}
 use Rattle.sp_verify_areas.proofs.owners.visit_tables.Goals as goal
 
 pub visit_table-changed-requires-clause-just : goal.visit_table-changed-requires-clause-just

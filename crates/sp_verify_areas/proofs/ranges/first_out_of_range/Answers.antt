@@ -1,8 +1,8 @@
 use Rattle.std.proofs.Common.{◌≡◌, ◌<◌, length, ⊎_elim, ap, ◌∙◌, subst, arith}
 use Rattle.sp_base.proofs.Facts.{below_or_last}
 use Rattle.sp_code.specs.declared.code.Parts.{Parts}
-use Rattle.sp_verify_areas.specs.Misnamed.{MisnamesOnly}
-use Rattle.sp_verify_areas.proofs.Misnaming.{misnames_within}
+use Rattle.sp_verify_areas.specs.WrongNames.{MisnamesOnly}
+use Rattle.sp_verify_areas.proofs.WrongNames.{misnames_within}
 use Rattle.sp_verify_areas.proofs.ranges.first_out_of_range.Goals as goal
 
 pub loop-p-preserved : goal.loop-p-preserved

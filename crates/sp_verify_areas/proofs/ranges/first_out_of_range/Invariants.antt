@@ -1,5 +1,5 @@
 use Rattle.std.proofs.Common.{◌<◌, ℕ}
-use Rattle.sp_verify_areas.specs.Misnamed.{MisnamesOnly}
+use Rattle.sp_verify_areas.specs.WrongNames.{MisnamesOnly}
 use Rattle.sp_verify_areas.proofs.ranges.first_out_of_range.Given as goal
 
 -- none so far

@@ -1,8 +1,8 @@
 use Rattle.std.proofs.Common.{ap, sym, ◌∙◌, subst}
 use Rattle.sp_verify_areas.specs.declared.owners.Owner.TheVariants as owner
-use Rattle.sp_verify_areas.specs.Misnamed.{fits}
+use Rattle.sp_verify_areas.specs.WrongNames.{fits}
 use Rattle.sp_verify_areas.specs.Owners.{Owns}
-use Rattle.sp_verify_areas.proofs.Misnaming.{decides_nobody, decides_one, decides_several}
+use Rattle.sp_verify_areas.proofs.WrongNames.{decides_nobody, decides_one, decides_several}
 use Rattle.sp_verify_areas.proofs.ranges.misnames.Goals as goal
 
 pub returns-in-Nobody : goal.returns-in-Nobody

@@ -1,5 +1,5 @@
 use Rattle.std.proofs.Common.{sym, ◌∙◌}
-use Rattle.sp_verify_areas.proofs.Rounding.{not_broken, broken_is}
+use Rattle.sp_verify_areas.proofs.CycleFreedom.{not_broken, broken_is}
 use Rattle.sp_verify_areas.proofs.rounds.breaks.Goals as goal
 
 pub returns-then-not-has_owner : goal.returns-then-not-has_owner

@@ -2,8 +2,8 @@ use Rattle.std.proofs.Common.{◌≡◌, true}
 use Rattle.std.specs.Prelude.{IsTrue, ◌↔◌}
 use Rattle.sp_verify_rules.specs.Rules.{BreaksV9}
 use Rattle.sp_verify_areas.specs.Rounds.{BreaksAt}
-use Rattle.sp_verify_areas.proofs.Handing.{ok_map}
-use Rattle.sp_verify_areas.proofs.Rounding.{broken_at}
+use Rattle.sp_verify_areas.proofs.OwnerSteps.{ok_map}
+use Rattle.sp_verify_areas.proofs.CycleFreedom.{broken_at}
 use Rattle.sp_verify_areas.proofs.rounds.breaks_at.Goals as goal
 
 pub returns-in-Some : goal.returns-in-Some

@@ -1,9 +1,9 @@
 use Rattle.std.proofs.Common.{◌≡◌, ◌<◌, length, ⊎_elim, ap, sym, ◌∙◌, subst, arith}
 use Rattle.sp_base.proofs.Facts.{below_or_last, not_true_and_false}
 use Rattle.sp_code.specs.declared.code.Parts.{Parts}
-use Rattle.sp_verify_rules.specs.Named.{LiesIn}
+use Rattle.sp_verify_rules.specs.NameRules.{LiesIn}
 use Rattle.sp_verify_areas.specs.Rounds.{FallsFrom, has_owner}
-use Rattle.sp_verify_areas.proofs.Rounding.{has_there, leads_within}
+use Rattle.sp_verify_areas.proofs.CycleFreedom.{has_there, leads_within}
 use Rattle.sp_verify_areas.proofs.rounds.fall.Goals.{else-has_owner-via-then-has_owner+else-not-falls_from}
 use Rattle.sp_verify_areas.proofs.rounds.fall.Goals.{else-has_owner-via-else-has_owner}
 use Rattle.sp_verify_areas.proofs.rounds.fall.Goals as goal

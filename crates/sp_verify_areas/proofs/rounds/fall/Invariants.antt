@@ -1,6 +1,6 @@
 use Rattle.std.proofs.Common.{ℕ, ◌<◌}
 use Rattle.sp_verify_rules.specs.Areas.{Area}
-use Rattle.sp_verify_rules.specs.Named.{LiesIn}
+use Rattle.sp_verify_rules.specs.NameRules.{LiesIn}
 use Rattle.sp_verify_areas.specs.Rounds.{FallsFrom}
 use Rattle.sp_verify_areas.proofs.rounds.fall.Given as goal
 

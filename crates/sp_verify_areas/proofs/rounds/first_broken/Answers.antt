@@ -2,7 +2,7 @@ use Rattle.std.proofs.Common.{◌≡◌, ◌<◌, length, ⊎_elim, ap, ◌∙�
 use Rattle.sp_base.proofs.Facts.{below_or_last, not_true_and_false}
 use Rattle.sp_code.specs.declared.code.Parts.{Parts}
 use Rattle.sp_verify_rules.specs.Rules.{BreaksV9}
-use Rattle.sp_verify_areas.proofs.Rounding.{lies_back}
+use Rattle.sp_verify_areas.proofs.CycleFreedom.{lies_back}
 use Rattle.sp_verify_areas.proofs.rounds.first_broken.Goals as goal
 
 pub returns-then-broken : goal.returns-then-broken

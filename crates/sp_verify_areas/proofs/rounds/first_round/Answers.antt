@@ -1,4 +1,4 @@
-use Rattle.sp_verify_areas.proofs.Rounding.{first_is}
+use Rattle.sp_verify_areas.proofs.CycleFreedom.{first_is}
 use Rattle.sp_verify_areas.proofs.rounds.first_round.Goals as goal
 
 pub returns-then-broken : goal.returns-then-broken

@@ -1,6 +1,6 @@
 use Rattle.std.proofs.Common.{◌≡◌, ℕ, Option, sym, ◌∙◌, subst}
 use Rattle.sp_verify_areas.specs.Rounds.{with_flag}
-use Rattle.sp_verify_areas.proofs.Rounding.{set_old}
+use Rattle.sp_verify_areas.proofs.CycleFreedom.{set_old}
 use Rattle.sp_verify_areas.proofs.rounds.flag.Goals as goal
 
 pub returns-then-flag_at : goal.returns-then-flag_at

@@ -1,6 +1,6 @@
 use Rattle.std.proofs.Common.{List, Bool, sym, subst}
 use Rattle.sp_verify_areas.specs.Rounds.{AreFlagsReached, Widens}
-use Rattle.sp_verify_areas.proofs.Rounding.{led_flag, less_flag}
+use Rattle.sp_verify_areas.proofs.CycleFreedom.{led_flag, less_flag}
 use Rattle.sp_verify_areas.proofs.rounds.go_on.Goals as goal
 
 pub returns : goal.returns

@@ -1,4 +1,4 @@
-use Rattle.sp_verify_areas.proofs.Rounding.{widens_then}
+use Rattle.sp_verify_areas.proofs.CycleFreedom.{widens_then}
 use Rattle.sp_verify_areas.proofs.rounds.hurry.Goals as goal
 
 pub loop-step-preserved : goal.loop-step-preserved

@@ -3,7 +3,7 @@ use Rattle.sp_base.proofs.Facts.{below_or_last, not_true_and_false}
 use Rattle.sp_code.specs.declared.code.Parts.{Parts}
 use Rattle.sp_verify_areas.specs.Alone.{flag_at}
 use Rattle.sp_verify_areas.specs.Rounds.{IsAt, AreFlagged}
-use Rattle.sp_verify_areas.proofs.Rounding.{free_path_from, leads_within}
+use Rattle.sp_verify_areas.proofs.CycleFreedom.{free_path_from, leads_within}
 use Rattle.sp_verify_areas.proofs.rounds.open_end.Goals.{then-p-start+in-None, then-p-start-via-then-p-start}
 use Rattle.sp_verify_areas.proofs.rounds.open_end.Goals.{then-p-start-via-else-p-start+then-flag_at}
 use Rattle.sp_verify_areas.proofs.rounds.open_end.Goals.{else-p-start+else-flag_at}

@@ -1,6 +1,6 @@
 use Rattle.std.proofs.Common.{List, Bool, ap, sym, ◌∙◌, subst}
 use Rattle.sp_verify_areas.specs.Rounds.{Widens, with_flag}
-use Rattle.sp_verify_areas.proofs.Rounding.{widens_ways}
+use Rattle.sp_verify_areas.proofs.CycleFreedom.{widens_ways}
 use Rattle.sp_verify_areas.proofs.rounds.visit.Goals as goal
 
 pub returns : goal.returns

@@ -3,7 +3,7 @@ use Rattle.std.proofs.lemmas.Option.{slice_get_read}
 use Rattle.sp_verify_areas.specs.Alone.{ChildFails, child_fails}
 use Rattle.sp_verify_areas.specs.LeastPlaces.{IsLeast, Upto}
 use Rattle.sp_verify_areas.proofs.Leasts.{more}
-use Rattle.sp_verify_areas.proofs.Failing.{one_child}
+use Rattle.sp_verify_areas.proofs.FirstFailures.{one_child}
 use Rattle.sp_verify_areas.proofs.tables.first_child.Goals as goal
 
 pub loop-child-preserved : goal.loop-child-preserved

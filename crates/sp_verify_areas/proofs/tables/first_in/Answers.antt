@@ -3,7 +3,7 @@ use Rattle.std.proofs.lemmas.Option.{slice_get_read}
 use Rattle.sp_verify_areas.specs.Alone.{TableFails}
 use Rattle.sp_verify_areas.specs.LeastPlaces.{IsLeast, Upto}
 use Rattle.sp_verify_areas.proofs.Leasts.{more}
-use Rattle.sp_verify_areas.proofs.Failing.{one_table}
+use Rattle.sp_verify_areas.proofs.FirstFailures.{one_table}
 use Rattle.sp_verify_areas.proofs.tables.first_in.Goals as goal
 
 pub loop-t-preserved : goal.loop-t-preserved

@@ -1,7 +1,7 @@
 use Rattle.std.proofs.Common.{◌<◌, ◌∷◌, length, refl, ap, sym, subst}
 use Rattle.sp_base.proofs.Facts.{item_there}
 use Rattle.sp_verify_areas.specs.Tree.{IsAround, IsJump, around_list, home_of}
-use Rattle.sp_verify_areas.proofs.Growing.{node_inner, node_root}
+use Rattle.sp_verify_areas.proofs.TreeGrowth.{node_inner, node_root}
 use Rattle.sp_verify_areas.proofs.tree.node_inside.Goals as goal
 
 pub returns-in-None : goal.returns-in-None

@@ -3,7 +3,7 @@ use Rattle.std.proofs.lemmas.List.{length-append}
 use Rattle.sp_verify_areas.specs.declared.tree.Node.{Node}
 use Rattle.sp_verify_areas.specs.Grown.{PutsNode}
 use Rattle.sp_verify_areas.specs.Tree.{around_list, home_of}
-use Rattle.sp_verify_areas.proofs.Growing.{put_lists}
+use Rattle.sp_verify_areas.proofs.TreeGrowth.{put_lists}
 use Rattle.sp_verify_areas.proofs.tree.put.Goals as goal
 
 pub returns : goal.returns

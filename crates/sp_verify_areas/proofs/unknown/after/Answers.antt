@@ -1,7 +1,7 @@
 use Rattle.std.proofs.Common.{subst}
 use Rattle.sp_verify_areas.specs.declared.owners.Owner.TheVariants as owner
 use Rattle.sp_verify_areas.specs.Owners.{IsOnly, Owns}
-use Rattle.sp_verify_areas.proofs.Knowing.{after_none, never_nobody, never_several}
+use Rattle.sp_verify_areas.proofs.KnownVariables.{after_none, never_nobody, never_several}
 use Rattle.sp_verify_areas.proofs.unknown.after.Goals as goal
 
 pub returns-in-Nobody : goal.returns-in-Nobody

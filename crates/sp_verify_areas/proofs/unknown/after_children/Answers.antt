@@ -3,7 +3,7 @@ use Rattle.std.proofs.lemmas.Option.{slice_get_read}
 use Rattle.sp_verify_rules.specs.Areas.{homes}
 use Rattle.sp_verify_areas.specs.LeastPlaces.{IsLeast, Upto}
 use Rattle.sp_verify_areas.specs.Unknown.{ChildUnknown, UnknownBy}
-use Rattle.sp_verify_areas.proofs.Knowing.{children_more, children_none}
+use Rattle.sp_verify_areas.proofs.KnownVariables.{children_more, children_none}
 use Rattle.sp_verify_areas.proofs.unknown.after_children.Goals as goal
 
 pub loop-child-init : goal.loop-child-init

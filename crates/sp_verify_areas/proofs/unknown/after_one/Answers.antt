@@ -5,7 +5,7 @@ use Rattle.sp_code.specs.declared.code.Parts.{Parts}
 use Rattle.sp_verify_rules.specs.Areas.{homes, instr_at, table_named}
 use Rattle.sp_verify_areas.specs.LeastPlaces.{IsLeast, Upto}
 use Rattle.sp_verify_areas.specs.Unknown.{ChildUnknown, UnknownBy}
-use Rattle.sp_verify_areas.proofs.Knowing.{after_none, after_table, never_named, never_there}
+use Rattle.sp_verify_areas.proofs.KnownVariables.{after_none, after_table, never_named, never_there}
 use Rattle.sp_verify_areas.proofs.unknown.after_one.Goals as goal
 
 pub returns-in-None : goal.returns-in-None

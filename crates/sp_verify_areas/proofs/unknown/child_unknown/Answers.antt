@@ -1,8 +1,8 @@
 use Rattle.std.proofs.Common.{ℕ, List, subst}
 use Rattle.sp_verify_rules.specs.Areas.{homes}
-use Rattle.sp_verify_areas.specs.Misnamed.{Decides}
+use Rattle.sp_verify_areas.specs.WrongNames.{Decides}
 use Rattle.sp_verify_areas.specs.Unknown.{HasUnknown}
-use Rattle.sp_verify_areas.proofs.Knowing.{unknown_first, unknown_second}
+use Rattle.sp_verify_areas.proofs.KnownVariables.{unknown_first, unknown_second}
 use Rattle.sp_verify_areas.proofs.unknown.child_unknown.Goals as goal
 
 pub returns-then-has_unknown : goal.returns-then-has_unknown

@@ -3,10 +3,10 @@ use Rattle.std.specs.Prelude.{slice_get}
 use Rattle.sp_code.specs.declared.code.Layout.{Layout}
 use Rattle.sp_code.specs.Machine.{layout_of}
 use Rattle.sp_verify_rules.specs.Areas.{on_option}
-use Rattle.sp_verify_rules.specs.Named.{has_variable, is_in}
+use Rattle.sp_verify_rules.specs.NameRules.{has_variable, is_in}
 use Rattle.sp_verify_areas.specs.declared.tree.Frame.{Frame}
 use Rattle.sp_verify_areas.specs.Tree.{IsFrame, home_of}
-use Rattle.sp_verify_areas.proofs.Knowing.{in_at}
+use Rattle.sp_verify_areas.proofs.KnownVariables.{in_at}
 use Rattle.sp_verify_areas.proofs.unknown.has_at.Goals as goal
 
 pub returns-in-Some-get : goal.returns-in-Some-get

@@ -4,7 +4,7 @@ use Rattle.std.proofs.lemmas.Option.{slice_get-get_or, same_Some}
 use Rattle.sp_base.proofs.Facts.{below_or_last}
 use Rattle.sp_verify_rules.specs.Areas.{homes}
 use Rattle.sp_verify_areas.specs.Unknown.{OneUnknown}
-use Rattle.sp_verify_areas.proofs.Knowing.{unknown_here, unknown_none}
+use Rattle.sp_verify_areas.proofs.KnownVariables.{unknown_here, unknown_none}
 use Rattle.sp_verify_areas.proofs.unknown.has_unknown.Goals as goal
 
 pub returns-then-is_unknown : goal.returns-then-is_unknown

@@ -1,10 +1,10 @@
 use Rattle.std.proofs.Common.{◌≡◌, ◌≤◌, length, true, false, sym, subst, arith}
 use Rattle.sp_code.specs.declared.code.Parts.{Parts}
 use Rattle.sp_verify_rules.specs.Areas.{homes}
-use Rattle.sp_verify_rules.specs.Named.{has_variable}
+use Rattle.sp_verify_rules.specs.NameRules.{has_variable}
 use Rattle.sp_verify_areas.specs.Tree.{IsFrame, home_of}
 use Rattle.sp_base.proofs.Facts.{get_none}
-use Rattle.sp_verify_areas.proofs.Knowing.{around_here, around_next, around_none, homes_short}
+use Rattle.sp_verify_areas.proofs.KnownVariables.{around_here, around_next, around_none, homes_short}
 use Rattle.sp_verify_areas.proofs.unknown.is_around.Goals as goal
 
 pub returns : goal.returns

@@ -1,6 +1,6 @@
 use Rattle.std.proofs.Common.{◌≡◌, drop}
 use Rattle.sp_verify_rules.specs.Areas.{Area, homes}
-use Rattle.sp_verify_rules.specs.Named.{some_has}
+use Rattle.sp_verify_rules.specs.NameRules.{some_has}
 use Rattle.sp_verify_areas.specs.Only.{LiesOnlyIn}
 use Rattle.sp_verify_areas.proofs.unknown.is_around.Given as goal
 

@@ -1,6 +1,6 @@
 use Rattle.std.proofs.Common.{get_or}
 use Rattle.std.proofs.lemmas.Option.{slice_get-get_or}
-use Rattle.sp_verify_areas.proofs.Knowing.{in_here, in_next, in_none}
+use Rattle.sp_verify_areas.proofs.KnownVariables.{in_here, in_next, in_none}
 use Rattle.sp_verify_areas.proofs.unknown.is_in.Goals as goal
 
 pub returns-then-x-y : goal.returns-then-x-y

@@ -1,5 +1,5 @@
 use Rattle.std.proofs.Common.{◌≡◌, drop}
-use Rattle.sp_verify_rules.specs.Named.{is_in}
+use Rattle.sp_verify_rules.specs.NameRules.{is_in}
 use Rattle.sp_verify_areas.proofs.unknown.is_in.Given as goal
 
 -- it is among the rest, if it is there

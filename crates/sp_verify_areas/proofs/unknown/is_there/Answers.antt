@@ -1,9 +1,9 @@
 use Rattle.std.proofs.Common.{◌≡◌, true, subst}
 use Rattle.sp_code.specs.declared.code.Parts.{Parts}
 use Rattle.sp_verify_rules.specs.Areas.{homes}
-use Rattle.sp_verify_rules.specs.Named.{has_variable}
+use Rattle.sp_verify_rules.specs.NameRules.{has_variable}
 use Rattle.sp_verify_areas.specs.Tree.{IsFrame, home_of}
-use Rattle.sp_verify_areas.proofs.Knowing.{near_has}
+use Rattle.sp_verify_areas.proofs.KnownVariables.{near_has}
 use Rattle.sp_verify_areas.proofs.unknown.is_there.Goals as goal
 
 pub returns-in-Some : goal.returns-in-Some

@@ -1,5 +1,5 @@
 use Rattle.sp_verify_rules.specs.Areas.{homes}
-use Rattle.sp_verify_areas.proofs.Knowing.{one_large, one_small}
+use Rattle.sp_verify_areas.proofs.KnownVariables.{one_large, one_small}
 use Rattle.sp_verify_areas.proofs.unknown.is_unknown.Goals as goal
 
 pub returns-then-x-lt2 : goal.returns-then-x-lt2

@@ -1,7 +1,7 @@
 use Rattle.std.proofs.Common.{◌≡◌, sym, subst}
-use Rattle.sp_verify_rules.specs.Named.{BreaksV1}
+use Rattle.sp_verify_rules.specs.NameRules.{BreaksV1}
 use Rattle.sp_verify_areas.specs.LeastPlaces.{IsLeast, earlier_of}
-use Rattle.sp_verify_areas.proofs.Summing.{least_of_all}
+use Rattle.sp_verify_areas.proofs.RuleSums.{least_of_all}
 use Rattle.sp_verify_areas.proofs.whole.first_of.Goals as goal
 
 pub returns : goal.returns

@@ -1,5 +1,5 @@
 use Rattle.std.proofs.Common.{sym}
-use Rattle.sp_verify_effects.proofs.Lying.{area_found, owner_there}
+use Rattle.sp_verify_effects.proofs.OneArea.{area_found, owner_there}
 use Rattle.sp_verify_effects.proofs.areas.area_at.Goals as goal
 
 pub returns-in-None : goal.returns-in-None

@@ -4,11 +4,11 @@ use Rattle.std.proofs.lemmas.Bool.{and_parts}
 use Rattle.sp_base.proofs.Facts.{not_true_and_false}
 use Rattle.sp_code.specs.declared.code.Parts.{Parts}
 use Rattle.sp_verify_areas.specs.Alone.{flag_at}
-use Rattle.sp_verify_shapes.proofs.Reaching.{first_one}
-use Rattle.sp_verify_shapes.proofs.Repeating.{none_more, not_here}
+use Rattle.sp_verify_shapes.proofs.ReachLaws.{first_one}
+use Rattle.sp_verify_shapes.proofs.CallRepeats.{none_more, not_here}
 use Rattle.sp_verify_effects.specs.Calls.{fails_at}
 use Rattle.sp_verify_effects.proofs.Again.{clashes_again}
-use Rattle.sp_verify_effects.proofs.Passing.{call_within}
+use Rattle.sp_verify_effects.proofs.CallTests.{call_within}
 use Rattle.sp_verify_effects.proofs.calls.first_call.Goals as goal
 
 pub returns-then-fails : goal.returns-then-fails

@@ -1,7 +1,7 @@
 use Rattle.std.proofs.Common.{sym, subst}
 use Rattle.sp_verify_areas.specs.LeastPlaces.{IsLeast}
 use Rattle.sp_verify_rules.specs.Verdict.{BreaksV7}
-use Rattle.sp_verify_effects.proofs.Turning.{keeps_all, v7_least}
+use Rattle.sp_verify_effects.proofs.V7Passes.{keeps_all, v7_least}
 use Rattle.sp_verify_effects.proofs.clash.first_clash.Goals as goal
 
 pub called_inside-requires-clause-keeps : goal.called_inside-requires-clause-keeps

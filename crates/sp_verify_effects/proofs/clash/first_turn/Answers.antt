@@ -6,7 +6,7 @@ use Rattle.sp_code.specs.declared.code.Parts.{Parts}
 use Rattle.sp_verify_areas.specs.LeastPlaces.{IsLeast, Upto}
 use Rattle.sp_verify_areas.proofs.Leasts.{more}
 use Rattle.sp_verify_effects.specs.Turns.{LayoutTurns, turns}
-use Rattle.sp_verify_effects.proofs.Turning.{one_turn}
+use Rattle.sp_verify_effects.proofs.V7Passes.{one_turn}
 use Rattle.sp_verify_effects.proofs.clash.first_turn.Goals as goal
 
 pub loop-place-preserved : goal.loop-place-preserved

@@ -1,7 +1,7 @@
 use Rattle.std.proofs.Common.{◌≡◌, ap, ◌∙◌, subst, length, arith}
 use Rattle.sp_code.specs.declared.code.Parts.{Parts}
 use Rattle.sp_verify_effects.specs.Edges.{HasEdges}
-use Rattle.sp_verify_effects.proofs.Linking.{no_edges}
+use Rattle.sp_verify_effects.proofs.EdgeRows.{no_edges}
 use Rattle.sp_verify_effects.proofs.edges.edges_of.Goals as goal
 
 pub loop-p-init : goal.loop-p-init

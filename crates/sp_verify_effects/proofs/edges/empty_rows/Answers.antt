@@ -2,7 +2,7 @@ use Rattle.std.proofs.Common.{◌∷◌, [], ◌+◌, ◌∙◌, ap, sym, subst,
 use Rattle.std.proofs.lemmas.List.{length-append}
 use Rattle.sp_verify_effects.specs.declared.edges.Edge.{Edge}
 use Rattle.sp_verify_effects.specs.Edges.{HasEdge}
-use Rattle.sp_verify_effects.proofs.Linking.{rows_more}
+use Rattle.sp_verify_effects.proofs.EdgeRows.{rows_more}
 use Rattle.sp_verify_effects.proofs.edges.empty_rows.Goals as goal
 
 pub loop-m-preserved : goal.loop-m-preserved

@@ -2,7 +2,7 @@ use Rattle.std.proofs.Common.{ap, sym, ◌∙◌, subst, List}
 use Rattle.std.specs.Prelude.{◌≡◌, slice_set}
 use Rattle.sp_verify_effects.specs.declared.edges.Edge.{Edge}
 use Rattle.sp_verify_effects.specs.Edges.{Links}
-use Rattle.sp_verify_effects.proofs.Linking.{links_one}
+use Rattle.sp_verify_effects.proofs.EdgeRows.{links_one}
 use Rattle.sp_verify_effects.proofs.edges.link.Goals as goal
 
 pub returns : goal.returns

@@ -2,7 +2,7 @@ use Rattle.std.proofs.Common.{length}
 use Rattle.sp_base.proofs.Facts.{on_map as ok_on}
 use Rattle.sp_verify_shapes.specs.Stacks.{list_of}
 use Rattle.sp_verify_effects.specs.Edges.{Links, IsCall, IsDeeper}
-use Rattle.sp_verify_effects.proofs.Linking.{call_linked}
+use Rattle.sp_verify_effects.proofs.EdgeRows.{call_linked}
 use Rattle.sp_verify_effects.proofs.edges.link_call.Goals as goal
 
 pub returns : goal.returns

@@ -5,7 +5,7 @@ use Rattle.sp_code.specs.declared.code.Parts.{Parts}
 use Rattle.sp_code.specs.Machine.{layout_of}
 use Rattle.sp_verify_shapes.specs.Stacks.{list_of}
 use Rattle.sp_verify_effects.specs.Edges.{Links, IsCall, CalledAt}
-use Rattle.sp_verify_effects.proofs.Linking.{no_stack, call_at}
+use Rattle.sp_verify_effects.proofs.EdgeRows.{no_stack, call_at}
 use Rattle.sp_verify_effects.proofs.edges.link_called.Goals as goal
 
 pub returns-in-None : goal.returns-in-None

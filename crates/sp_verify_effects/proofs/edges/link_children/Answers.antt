@@ -1,6 +1,6 @@
 use Rattle.std.proofs.Common.{length, refl}
 use Rattle.std.proofs.lemmas.Option.{slice_get_read}
-use Rattle.sp_verify_effects.proofs.Linking.{starts_more}
+use Rattle.sp_verify_effects.proofs.EdgeRows.{starts_more}
 use Rattle.sp_verify_effects.proofs.edges.link_children.Goals as goal
 
 pub loop-k-preserved : goal.loop-k-preserved

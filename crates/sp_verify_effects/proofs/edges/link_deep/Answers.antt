@@ -3,7 +3,7 @@ use Rattle.std.specs.Prelude.{◌≡◌, Some}
 use Rattle.sp_base.proofs.Facts.{on_map as ok_on}
 use Rattle.sp_verify_shapes.specs.Stacks.{shape_of}
 use Rattle.sp_verify_effects.specs.Edges.{Links, deep_edge}
-use Rattle.sp_verify_effects.proofs.Linking.{deep_linked}
+use Rattle.sp_verify_effects.proofs.EdgeRows.{deep_linked}
 use Rattle.sp_verify_effects.proofs.edges.link_deep.Goals as goal
 
 pub returns-in-Some : goal.returns-in-Some

@@ -2,7 +2,7 @@ use Rattle.std.proofs.Common.{sym, ◌∙◌, ◌+◌}
 use Rattle.sp_base.proofs.Facts.{on_map as ok_on}
 use Rattle.sp_verify_effects.specs.Edges.{EdgeAt, HasEdges, Links}
 use Rattle.sp_verify_effects.proofs.Again.{edges_again}
-use Rattle.sp_verify_effects.proofs.Linking.{more_edges}
+use Rattle.sp_verify_effects.proofs.EdgeRows.{more_edges}
 use Rattle.sp_verify_effects.proofs.edges.link_next.Goals as goal
 
 pub returns-then-flag_at : goal.returns-then-flag_at

@@ -1,6 +1,6 @@
 use Rattle.std.proofs.Common.{◌<◌, length, subst, arith}
 use Rattle.sp_verify_shapes.specs.Stacks.{list_of, shape_of}
-use Rattle.sp_verify_effects.proofs.Linking.{deeper_more, deeper_end, below_more, none_below}
+use Rattle.sp_verify_effects.proofs.EdgeRows.{deeper_more, deeper_end, below_more, none_below}
 use Rattle.sp_verify_effects.proofs.edges.link_operands.Goals as goal
 
 pub returns-in-None : goal.returns-in-None

@@ -5,7 +5,7 @@ use Rattle.sp_code.specs.declared.code.ChildTable.{ChildTable}
 use Rattle.sp_code.specs.declared.code.ForkTable.{ForkTable}
 use Rattle.sp_verify_rules.specs.Areas.{child_of}
 use Rattle.sp_verify_effects.specs.Edges.{Links, OneStarts, StartedAt}
-use Rattle.sp_verify_effects.proofs.Linking.{starts_at}
+use Rattle.sp_verify_effects.proofs.EdgeRows.{starts_at}
 use Rattle.sp_verify_effects.proofs.edges.link_started.Goals as goal
 
 pub link_children-requires : goal.link_children-requires

@@ -3,7 +3,7 @@ use Rattle.std.specs.Prelude.{slice_set}
 use Rattle.sp_verify_effects.specs.declared.facts.Fact.{Fact}
 use Rattle.sp_verify_effects.specs.declared.facts.Sets.{Sets}
 use Rattle.sp_verify_effects.specs.Facts.{sets_have, same_fact}
-use Rattle.sp_verify_effects.proofs.Telling.{noted_put}
+use Rattle.sp_verify_effects.proofs.FactSets.{noted_put}
 use Rattle.sp_verify_effects.proofs.facts.put_at.Goals as goal
 
 pub returns : goal.returns

@@ -1,5 +1,5 @@
 use Rattle.sp_verify_effects.specs.declared.facts.Effect.TheVariants as effect
-use Rattle.sp_verify_effects.proofs.Telling.{puts_stores, puts_loads, adds_effect}
+use Rattle.sp_verify_effects.proofs.FactSets.{puts_stores, puts_loads, adds_effect}
 use Rattle.sp_verify_effects.proofs.facts.put_effect.Goals as goal
 
 pub returns-in-Ok : goal.returns-in-Ok

@@ -1,5 +1,5 @@
 use Rattle.std.proofs.Common.{◌++◌}
-use Rattle.sp_verify_rules.specs.Touched.{addresses}
+use Rattle.sp_verify_rules.specs.Touches.{addresses}
 use Rattle.sp_verify_shapes.specs.Stacks.{list_of}
 use Rattle.sp_verify_effects.proofs.Operands.{passed_more}
 use Rattle.sp_verify_effects.proofs.own.push_addresses.Goals as goal

@@ -2,7 +2,7 @@ use Rattle.std.proofs.Common.{◌≡◌, ◌∙◌, List, ℕ, length, refl, ap,
 use Rattle.std.proofs.lemmas.Option.{slice_get_read}
 use Rattle.sp_code.specs.declared.code.Parts.{Parts}
 use Rattle.sp_verify_effects.specs.Variables.{AddsPairs, IsOwnOf}
-use Rattle.sp_verify_effects.proofs.Spreading.{first_all, first_more, none_first}
+use Rattle.sp_verify_effects.proofs.FactEdges.{first_all, first_more, none_first}
 use Rattle.sp_verify_effects.proofs.variables.own_of.Goals as goal
 
 pub loop-j-init : goal.loop-j-init

@@ -1,4 +1,4 @@
-use Rattle.sp_verify_effects.proofs.Spreading.{AreFirst}
+use Rattle.sp_verify_effects.proofs.FactEdges.{AreFirst}
 use Rattle.sp_verify_effects.proofs.variables.own_of.Given as goal
 
 -- those of the layouts so far are put

@@ -1,6 +1,6 @@
 use Rattle.std.proofs.Common.{get_or}
 use Rattle.std.proofs.lemmas.Option.{slice_get-get_or}
-use Rattle.sp_verify_effects.proofs.Spreading.{pair_more}
+use Rattle.sp_verify_effects.proofs.FactEdges.{pair_more}
 use Rattle.sp_verify_effects.proofs.variables.put_own.Goals as goal
 
 pub loop-i-preserved : goal.loop-i-preserved

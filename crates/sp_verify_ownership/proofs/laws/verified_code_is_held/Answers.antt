@@ -1,4 +1,4 @@
-use Rattle.sp_verify_ownership.proofs.Held.{verified_held}
+use Rattle.sp_verify_ownership.proofs.StoreOwners.{verified_held}
 use Rattle.sp_verify_ownership.proofs.laws.verified_code_is_held.Goals as goal
 
 pub returns : goal.returns

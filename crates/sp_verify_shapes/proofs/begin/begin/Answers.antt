@@ -1,7 +1,7 @@
 use Rattle.std.proofs.Common.{◌≡◌, refl, ◌∙◌, ap, length}
 use Rattle.sp_code.specs.declared.code.Parts.{Parts}
 use Rattle.sp_verify_shapes.specs.declared.search.Search.{Search}
-use Rattle.sp_verify_shapes.proofs.Starting.{begun, bare_at, unmarked_at}
+use Rattle.sp_verify_shapes.proofs.AreaEntries.{begun, bare_at, unmarked_at}
 use Rattle.sp_verify_shapes.proofs.begin.begin.Goals as goal
 
 pub returns : goal.returns

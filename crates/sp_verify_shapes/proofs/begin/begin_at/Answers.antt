@@ -3,7 +3,7 @@ use Rattle.std.specs.Prelude.{slice_get}
 use Rattle.sp_base.proofs.Facts.{on_map}
 use Rattle.sp_code.specs.declared.code.ChildTable.{ChildTable}
 use Rattle.sp_verify_shapes.specs.Starts.{AddsStarts, IsMadeAt, IsOfChildren}
-use Rattle.sp_verify_shapes.proofs.Starting.{of_child, made_is, adds_as}
+use Rattle.sp_verify_shapes.proofs.AreaEntries.{of_child, made_is, adds_as}
 use Rattle.sp_verify_shapes.proofs.begin.begin_at.Goals as goal
 
 pub begin_children-requires : goal.begin_children-requires

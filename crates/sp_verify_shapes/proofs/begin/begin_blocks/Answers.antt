@@ -6,7 +6,7 @@ use Rattle.sp_code.specs.declared.code.Parts.{Parts}
 use Rattle.sp_code.specs.Machine.{layout_of}
 use Rattle.sp_verify_shapes.specs.declared.steps.Arrival.{Arrival}
 use Rattle.sp_verify_shapes.specs.Starts.{AddsStarts, IsOfLayouts}
-use Rattle.sp_verify_shapes.proofs.Starting.{adds_then, adds_as, one_less, one_more, of_block}
+use Rattle.sp_verify_shapes.proofs.AreaEntries.{adds_then, adds_as, one_less, one_more, of_block}
 use Rattle.sp_verify_shapes.proofs.begin.begin_blocks.Goals as goal
 use Rattle.sp_verify_shapes.proofs.begin.begin_blocks.Goals.{in-None, in-Some+in-Ok}
 

@@ -1,7 +1,7 @@
 use Rattle.std.proofs.Common.{◌≡◌, refl, length}
 use Rattle.std.proofs.lemmas.Option.{slice_get_read}
 use Rattle.sp_verify_shapes.specs.Starts.{IsOfChildren}
-use Rattle.sp_verify_shapes.proofs.Starting.{adds_then, more_children}
+use Rattle.sp_verify_shapes.proofs.AreaEntries.{adds_then, more_children}
 use Rattle.sp_verify_shapes.proofs.begin.begin_children.Goals as goal
 
 pub loop-child-preserved : goal.loop-child-preserved

@@ -1,6 +1,6 @@
 use Rattle.std.proofs.Common.{◌+◌}
 use Rattle.sp_verify_shapes.specs.Starts.{IsMade, IsMadeAt}
-use Rattle.sp_verify_shapes.proofs.Starting.{adds_then, more_made}
+use Rattle.sp_verify_shapes.proofs.AreaEntries.{adds_then, more_made}
 use Rattle.sp_verify_shapes.proofs.begin.begin_forks.Goals as goal
 
 pub loop-p-preserved : goal.loop-p-preserved

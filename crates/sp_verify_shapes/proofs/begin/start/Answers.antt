@@ -1,7 +1,7 @@
 use Rattle.std.proofs.Common.{sym, subst, List}
 use Rattle.sp_verify_shapes.specs.declared.steps.Arrival.{Arrival}
 use Rattle.sp_verify_shapes.specs.Starts.{AddsStarts}
-use Rattle.sp_verify_shapes.proofs.Starting.{adds_one}
+use Rattle.sp_verify_shapes.proofs.AreaEntries.{adds_one}
 use Rattle.sp_verify_shapes.proofs.begin.start.Goals as goal
 
 pub returns : goal.returns

@@ -3,8 +3,8 @@ use Rattle.std.proofs.lemmas.Option.{slice_get_read}
 use Rattle.sp_verify_areas.specs.Alone.{LayoutFails}
 use Rattle.sp_verify_areas.specs.LeastPlaces.{IsLeast, Upto}
 use Rattle.sp_verify_areas.proofs.Leasts.{more}
-use Rattle.sp_verify_areas.proofs.Failing.{one_layout}
-use Rattle.sp_verify_shapes.specs.Reached.{answers_by_reference}
+use Rattle.sp_verify_areas.proofs.FirstFailures.{one_layout}
+use Rattle.sp_verify_shapes.specs.ReachRules.{answers_by_reference}
 use Rattle.sp_verify_shapes.proofs.calls.first_answering.Goals as goal
 
 pub loop-l-preserved : goal.loop-l-preserved

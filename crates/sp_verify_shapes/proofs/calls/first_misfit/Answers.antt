@@ -4,9 +4,9 @@ use Rattle.std.proofs.lemmas.Bool.{and_parts}
 use Rattle.sp_code.specs.declared.code.Parts.{Parts}
 use Rattle.sp_verify_rules.specs.Rules.{call_fits}
 use Rattle.sp_verify_areas.specs.Alone.{flag_at}
-use Rattle.sp_verify_shapes.specs.Reached.{fails_at}
-use Rattle.sp_verify_shapes.proofs.Reaching.{first_one, no_one}
-use Rattle.sp_verify_shapes.proofs.Repeating.{fails_again, not_here, none_more}
+use Rattle.sp_verify_shapes.specs.ReachRules.{fails_at}
+use Rattle.sp_verify_shapes.proofs.ReachLaws.{first_one, no_one}
+use Rattle.sp_verify_shapes.proofs.CallRepeats.{fails_again, not_here, none_more}
 use Rattle.sp_verify_shapes.proofs.calls.first_misfit.Goals as goal
 
 pub returns-then-misfits_first : goal.returns-then-misfits_first

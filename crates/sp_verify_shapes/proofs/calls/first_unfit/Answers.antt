@@ -4,8 +4,8 @@ use Rattle.sp_code.specs.declared.code.Parts.{Parts}
 use Rattle.sp_verify_areas.specs.Alone.{LayoutFails}
 use Rattle.sp_verify_areas.specs.LeastPlaces.{IsLeast, Upto}
 use Rattle.sp_verify_rules.specs.Rules.{BreaksV5}
-use Rattle.sp_verify_shapes.specs.Reached.{answers_by_reference}
-use Rattle.sp_verify_shapes.proofs.Reaching.{least_unfit}
+use Rattle.sp_verify_shapes.specs.ReachRules.{answers_by_reference}
+use Rattle.sp_verify_shapes.proofs.ReachLaws.{least_unfit}
 use Rattle.sp_verify_shapes.proofs.calls.first_unfit.Goals as goal
 
 pub returns : goal.returns

@@ -1,8 +1,8 @@
 use Rattle.std.proofs.Common.{◌≡◌, ◌≤◌, sym, ◌∙◌, ap, length, Some, None, subst}
 use Rattle.sp_code.specs.declared.code.Parts.{Parts}
 use Rattle.sp_verify_rules.specs.Shapes.{stays_within}
-use Rattle.sp_verify_shapes.specs.Reached.{fails_at}
-use Rattle.sp_verify_shapes.proofs.Reaching.{first_one, no_one, least_passing}
+use Rattle.sp_verify_shapes.specs.ReachRules.{fails_at}
+use Rattle.sp_verify_shapes.proofs.ReachLaws.{first_one, no_one, least_passing}
 use Rattle.sp_verify_shapes.proofs.cells.first_passing.Goals as goal
 
 pub returns-then-passes : goal.returns-then-passes

@@ -1,6 +1,6 @@
 use Rattle.std.proofs.Common.{◌≡◌, ℕ, ◌<◌, false}
 use Rattle.sp_verify_rules.specs.Shapes.{stays_within}
-use Rattle.sp_verify_shapes.specs.Reached.{fails_at}
+use Rattle.sp_verify_shapes.specs.ReachRules.{fails_at}
 use Rattle.sp_verify_shapes.proofs.cells.first_passing.Given as goal
 
 -- those so far pass none

@@ -1,7 +1,7 @@
 use Rattle.std.proofs.Common.{◌≡◌, ◌≤◌, sym, ◌∙◌, ap, length, subst}
 use Rattle.sp_code.specs.declared.code.Parts.{Parts}
 use Rattle.sp_verify_shapes.specs.Lengths.{is_longer, received_at}
-use Rattle.sp_verify_shapes.proofs.Measuring.{first_lacks, none_lacks, one_on}
+use Rattle.sp_verify_shapes.proofs.MessageLengths.{first_lacks, none_lacks, one_on}
 use Rattle.sp_verify_shapes.proofs.messages.first_lacking.Goals as goal
 
 pub returns-then-is_longer : goal.returns-then-is_longer

@@ -1,7 +1,7 @@
 use Rattle.std.proofs.Common.{sym, subst}
 use Rattle.sp_verify_areas.specs.LeastPlaces.{IsLeast}
 use Rattle.sp_verify_rules.specs.Rules.{BreaksV4}
-use Rattle.sp_verify_shapes.proofs.Measuring.{least_length}
+use Rattle.sp_verify_shapes.proofs.MessageLengths.{least_length}
 use Rattle.sp_verify_shapes.proofs.messages.first_length.Goals as goal
 
 pub returns : goal.returns

@@ -1,7 +1,7 @@
 use Rattle.std.proofs.Common.{◌≡◌, ◌+◌, ◌≤◌, sym, ◌∙◌, ap, length, subst, ℕ}
 use Rattle.sp_code.specs.declared.code.Parts.{Parts}
 use Rattle.sp_verify_shapes.specs.Lengths.{AreLengths}
-use Rattle.sp_verify_shapes.proofs.Measuring.{first_differs, none_differs, past_first, past_kept, past_none}
+use Rattle.sp_verify_shapes.proofs.MessageLengths.{first_differs, none_differs, past_first, past_kept, past_none}
 use Rattle.sp_verify_shapes.proofs.messages.first_other.Goals.{in-Some+in-None+in-Ok}
 use Rattle.sp_verify_shapes.proofs.messages.first_other.Goals.{in-Some+in-Some-copied+else-cells-w, in_default}
 use Rattle.sp_verify_shapes.proofs.messages.first_other.Goals as goal

@@ -1,6 +1,6 @@
 use Rattle.std.proofs.Common.{◌+◌, ◌≤◌, sym, ◌∙◌, subst, ℕ}
 use Rattle.sp_verify_shapes.specs.Lengths.{AreLengths}
-use Rattle.sp_verify_shapes.proofs.Measuring.{past_greatest, past_none}
+use Rattle.sp_verify_shapes.proofs.MessageLengths.{past_greatest, past_none}
 use Rattle.sp_verify_shapes.proofs.messages.greatest.Goals.{in-Some+in-Ok, in_default}
 use Rattle.sp_verify_shapes.proofs.messages.greatest.Goals as goal
 

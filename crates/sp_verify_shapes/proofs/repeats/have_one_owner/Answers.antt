@@ -1,6 +1,6 @@
 use Rattle.std.proofs.Common.{◌∙◌, ap, sym}
 use Rattle.std.specs.Prelude.{Some}
-use Rattle.sp_verify_areas.proofs.Owning.{same_is}
+use Rattle.sp_verify_areas.proofs.OwnerLaws.{same_is}
 use Rattle.sp_verify_shapes.proofs.repeats.have_one_owner.Goals as goal
 
 pub returns-in-Some-get : goal.returns-in-Some-get

@@ -1,7 +1,7 @@
 use Rattle.std.proofs.Common.{◌∷◌, [], ◌+◌, ◌∙◌, ap, sym, subst, length, List, Bool}
 use Rattle.std.proofs.lemmas.List.{length-append}
 use Rattle.sp_verify_shapes.specs.Repeats.{AreRepeats}
-use Rattle.sp_verify_shapes.proofs.Repeating.{more_repeats}
+use Rattle.sp_verify_shapes.proofs.CallRepeats.{more_repeats}
 use Rattle.sp_verify_shapes.proofs.repeats.repeats_of.Goals as goal
 
 pub loop-p-preserved : goal.loop-p-preserved

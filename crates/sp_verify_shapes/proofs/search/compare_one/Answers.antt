@@ -1,4 +1,4 @@
-use Rattle.sp_verify_shapes.proofs.Comparing.{compared}
+use Rattle.sp_verify_shapes.proofs.ListComparison.{compared}
 use Rattle.sp_verify_shapes.proofs.search.compare_one.Goals as goal
 
 pub returns-in-Ok : goal.returns-in-Ok

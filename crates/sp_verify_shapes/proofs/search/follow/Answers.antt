@@ -1,4 +1,4 @@
-use Rattle.sp_verify_shapes.proofs.Searching.{then_steps, then_compares, less_room}
+use Rattle.sp_verify_shapes.proofs.SearchLaws.{then_steps, then_compares, less_room}
 use Rattle.sp_verify_shapes.proofs.search.follow.Goals as goal
 
 pub walk_all-requires-clause-stepped : goal.walk_all-requires-clause-stepped

@@ -1,5 +1,5 @@
 use Rattle.std.proofs.Common.{Some, None}
-use Rattle.sp_verify_shapes.proofs.Closing.{least_broken, are_shapes}
+use Rattle.sp_verify_shapes.proofs.SearchEnds.{least_broken, are_shapes}
 use Rattle.sp_verify_shapes.proofs.shapes.conclude.Goals as goal
 
 pub returns-in-Some : goal.returns-in-Some

@@ -2,11 +2,11 @@ use Rattle.std.proofs.Common.{sym}
 use Rattle.sp_verify_rules.specs.Areas.{Area, instr_at}
 use Rattle.sp_verify_rules.specs.Shapes.{instr_shapes}
 use Rattle.sp_verify_areas.specs.Only.{LiesOnlyIn}
-use Rattle.sp_verify_areas.proofs.Handing.{ok_map}
+use Rattle.sp_verify_areas.proofs.OwnerSteps.{ok_map}
 use Rattle.sp_verify_shapes.specs.Plans.{by_plan}
 use Rattle.sp_verify_shapes.specs.Stacks.{list_of}
 use Rattle.sp_verify_shapes.specs.Steps.{IsStep}
-use Rattle.sp_verify_shapes.proofs.Stepping.{wrong_form, right_form}
+use Rattle.sp_verify_shapes.proofs.FormSteps.{wrong_form, right_form}
 use Rattle.sp_verify_shapes.proofs.steps.step_from.Goals as goal
 
 pub returns-in-None-planned-clause-goes : goal.returns-in-None-planned-clause-goes

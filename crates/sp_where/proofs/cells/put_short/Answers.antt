@@ -1,5 +1,5 @@
 use Rattle.std.proofs.Common.{◌≡◌, ap, ◌∙◌, ◌-◌, length, min, arith}
-use Rattle.sp_where.proofs.Filling.{short_part}
+use Rattle.sp_where.proofs.PieceLists.{short_part}
 use Rattle.sp_where.proofs.cells.put_short.Goals as goal
 
 pub returns : goal.returns

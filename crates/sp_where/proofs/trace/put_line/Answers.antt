@@ -3,7 +3,7 @@ use Rattle.sp_journal.specs.Births.{births}
 use Rattle.sp_journal.specs.Texts.{entry_text}
 use Rattle.sp_base.specs.Places.{place_text}
 use Rattle.sp_where.specs.Traces.{message_text, passed, place_of_event}
-use Rattle.sp_where.proofs.Tracing.{seven}
+use Rattle.sp_where.proofs.EntryWalk.{seven}
 use Rattle.sp_where.proofs.trace.put_line.Goals as goal
 
 pub returns : goal.returns

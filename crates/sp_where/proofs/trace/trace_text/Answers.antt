@@ -4,7 +4,7 @@ use Rattle.sp_journal.specs.declared.entry.Entry.{Entry}
 use Rattle.sp_journal.specs.Births.{births}
 use Rattle.sp_journal.proofs.Walk.{any_entry, kept_whole, still_nameable}
 use Rattle.sp_where.specs.Traces.{trace_line, trace_lines, trace_text}
-use Rattle.sp_where.proofs.Tracing.{finished, lines_more, lines_over, put_one}
+use Rattle.sp_where.proofs.EntryWalk.{finished, lines_more, lines_over, put_one}
 use Rattle.sp_where.proofs.trace.trace_text.Goals as goal
 
 pub entries-preserved : goal.entries-preserved

@@ -4,7 +4,7 @@ use Rattle.std.proofs.lemmas.Bool.{leb-true}
 use Rattle.sp_tree.specs.declared.checked.KindOf.TheVariants as kind
 use Rattle.sp_where.specs.Shorts.{AddsShort, CoversForm, Fills, forms}
 use Rattle.sp_where.specs.Values.{Fixed, comma, field_in, form_in, parts_from}
-use Rattle.sp_where.proofs.Filling.{both, fixed, goes_on, short, stops}
+use Rattle.sp_where.proofs.PieceLists.{both, fixed, goes_on, short, stops}
 use Rattle.sp_where.proofs.Forms.{cell_form, elements_more, fields_more, form_of_kind, no_form}
 use Rattle.sp_where.proofs.values.+form.Goals as goal
 

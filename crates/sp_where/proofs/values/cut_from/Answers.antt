@@ -1,5 +1,5 @@
 use Rattle.std.proofs.Common.{◌<◌, ◌+◌, ◌++◌, ℕ, List, ap, ◌∙◌, codes, length, arith}
-use Rattle.sp_where.proofs.Cutting.{cut_long_at, cut_short_at}
+use Rattle.sp_where.proofs.FirstBytes.{cut_long_at, cut_short_at}
 use Rattle.sp_where.proofs.values.cut_from.Goals as goal
 
 pub returns-then-len-start : goal.returns-then-len-start

@@ -1,5 +1,5 @@
 use Rattle.sp_witness.proofs.laws.ordered_runs_never_contend.Goals as goal
-use Rattle.sp_witness.proofs.Deciding.{never_alike, ordered_where_never}
+use Rattle.sp_witness.proofs.VerdictMeaning.{never_alike, ordered_where_never}
 
 pub returns : goal.returns
 returns c = λ g turn es n t e v free along ends sure h.

@@ -1,5 +1,5 @@
 use Rattle.sp_witness.proofs.laws.races_are_real.Goals as goal
-use Rattle.sp_meaning.proofs.Started.{disjoint}
+use Rattle.sp_meaning.proofs.RuleKeepers.{disjoint}
 use Rattle.sp_witness.proofs.Real.{real}
 
 pub returns : goal.returns

@@ -1,6 +1,6 @@
 use Rattle.std.proofs.Common.{◌≡◌, ◌≤◌, ◌++◌, take, drop}
 use Rattle.sp_journal.specs.Births.{first_births, births, NameableFrom}
-use Rattle.sp_witness.specs.Moved.{first_table, renumbered_entries, table_of}
+use Rattle.sp_witness.specs.TableNumbers.{first_table, renumbered_entries, table_of}
 use Rattle.sp_witness.specs.Passes.{table_in}
 use Rattle.sp_witness.proofs.numbers.renumbered.Given as goal
 

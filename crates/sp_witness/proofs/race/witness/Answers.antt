@@ -6,8 +6,8 @@ use Rattle.sp_journal.specs.declared.entry.Entry.{Entry}
 use Rattle.sp_journal.specs.declared.entry.Journal.{Journal}
 use Rattle.sp_journal.specs.Births.{first_births, IsNameable, NameableFrom}
 use Rattle.sp_journal.proofs.Walk.{any_entry}
-use Rattle.sp_witness.specs.Moved.{IsPlain}
-use Rattle.sp_witness.specs.Numbered.{witness_journal}
+use Rattle.sp_witness.specs.TableNumbers.{IsPlain}
+use Rattle.sp_witness.specs.OccurrenceNumbers.{witness_journal}
 use Rattle.sp_witness.proofs.WitnessOfCode.{length-marks, front_nameable, front_of, plain_at, whole}
 use Rattle.sp_witness.proofs.race.witness.Goals as goal
 

@@ -1,5 +1,5 @@
 use Rattle.std.proofs.Common.{inl, inr, Err, refl, subst}
-use Rattle.sp_codefile.specs.Decoding.{Decodes}
+use Rattle.sp_codefile.specs.DecodeAnswers.{Decodes}
 use Rattle.superpascal.proofs.prepare.code_of.Goals as goal
 
 pub returns-in-Ok : goal.returns-in-Ok

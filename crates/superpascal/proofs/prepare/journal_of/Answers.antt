@@ -1,6 +1,6 @@
 use Rattle.std.proofs.Common.{inl, inr, Err, refl, subst}
-use Rattle.sp_journal.specs.Reading.{ReadsAlone, ReadsJournal}
-use Rattle.sp_journal.specs.declared.read.ReadError.{ReadError}
+use Rattle.sp_journal.specs.ReadAnswers.{ReadsAlone, ReadsJournal}
+use Rattle.sp_journal.specs.declared.journal_reader.ReadError.{ReadError}
 use Rattle.superpascal.proofs.prepare.journal_of.Goals as goal
 
 pub returns-in-Ok : goal.returns-in-Ok

@@ -1,6 +1,6 @@
 use Rattle.std.proofs.Common.{inl, inr, Err, refl, subst}
 use Rattle.sp_base.specs.declared.halt.Halt.{Halt}
-use Rattle.sp_front.specs.Marked.{MarksText}
+use Rattle.sp_front.specs.TextMarks.{MarksText}
 use Rattle.superpascal.proofs.prepare.mark.Goals as goal
 
 pub returns-in-Ok : goal.returns-in-Ok

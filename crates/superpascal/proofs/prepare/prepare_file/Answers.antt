@@ -3,7 +3,7 @@ use Rattle.std.specs.Prelude.{IfSome}
 use Rattle.std.proofs.lemmas.Result.{err_from_is_err_and}
 use Rattle.superpascal.specs.Causes.{Files, files_of}
 use Rattle.superpascal.specs.Steps.{GivesFile}
-use Rattle.superpascal.proofs.Executed.{given_file, not_decoded}
+use Rattle.superpascal.proofs.ExecCauses.{given_file, not_decoded}
 use Rattle.superpascal.proofs.Parts.{at_exit}
 use Rattle.superpascal.proofs.prepare.prepare_file.Goals as goal
 

@@ -4,7 +4,7 @@ use Rattle.std.proofs.lemmas.Result.{err_from_is_err_and}
 use Rattle.superpascal.specs.Causes.{Files, files_of}
 use Rattle.superpascal.specs.Steps.{GivesJournal}
 use Rattle.superpascal.proofs.Parts.{at_exit}
-use Rattle.superpascal.proofs.Replaying.{given_journal}
+use Rattle.superpascal.proofs.ReplayFacts.{given_journal}
 use Rattle.superpascal.proofs.prepare.prepare_journal.Goals as goal
 
 pub returns-in_err-bytes : goal.returns-in_err-bytes

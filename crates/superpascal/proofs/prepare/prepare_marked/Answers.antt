@@ -3,7 +3,7 @@ use Rattle.std.specs.Prelude.{IfSome}
 use Rattle.std.proofs.lemmas.Result.{err_from_is_err_and}
 use Rattle.superpascal.specs.Causes.{Files, files_of}
 use Rattle.superpascal.specs.Steps.{GivesMarked}
-use Rattle.superpascal.proofs.Marking.{given_marked}
+use Rattle.superpascal.proofs.MarkFacts.{given_marked}
 use Rattle.superpascal.proofs.Parts.{at_exit, unready}
 use Rattle.superpascal.proofs.prepare.prepare_marked.Goals as goal
 

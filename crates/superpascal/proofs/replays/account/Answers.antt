@@ -1,4 +1,4 @@
-use Rattle.superpascal.proofs.Marking.{entries_told, output_told, state_told}
+use Rattle.superpascal.proofs.MarkFacts.{entries_told, output_told, state_told}
 use Rattle.superpascal.proofs.replays.account.Goals as goal
 
 pub returns-in-Output : goal.returns-in-Output

@@ -3,7 +3,7 @@ use Rattle.std.proofs.lemmas.Result.{err_from_is_err_and}
 use Rattle.sp_words.specs.declared.command.View.TheVariants as view
 use Rattle.superpascal.specs.Steps.{AccountsFor}
 use Rattle.superpascal.proofs.Parts.{at_exit}
-use Rattle.superpascal.proofs.Running.{follows_text, ready_held}
+use Rattle.superpascal.proofs.RunFacts.{follows_text, ready_held}
 use Rattle.superpascal.proofs.replays.output.Goals as goal
 
 pub follow-requires-clause-program : goal.follow-requires-clause-program

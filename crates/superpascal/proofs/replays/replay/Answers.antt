@@ -4,8 +4,8 @@ use Rattle.superpascal.specs.Causes.{Files, files_of}
 use Rattle.superpascal.specs.Steps.{AnswersCommand}
 use Rattle.superpascal.specs.Texts.{command_of_replay}
 use Rattle.superpascal.proofs.Parts.{at_exit}
-use Rattle.superpascal.proofs.Replaying.{account_ends, journal_under, replay_no_input, replay_told, replay_unfit}
-use Rattle.superpascal.proofs.Replaying.{replay_unread, replay_unready}
+use Rattle.superpascal.proofs.ReplayFacts.{account_ends, journal_under, replay_no_input, replay_told, replay_unfit}
+use Rattle.superpascal.proofs.ReplayFacts.{replay_unread, replay_unready}
 use Rattle.superpascal.proofs.replays.replay.Goals as goal
 
 pub account-requires-clause-code : goal.account-requires-clause-code

@@ -4,7 +4,7 @@ use Rattle.sp_code.specs.declared.code.Parts.{Parts}
 use Rattle.sp_code.specs.Sound.{HasDistinctBlocks}
 use Rattle.sp_words.specs.declared.command.View.TheVariants as view
 use Rattle.superpascal.specs.Steps.{AccountsFor, TracesTo}
-use Rattle.superpascal.proofs.Marking.{held_code, where_is}
+use Rattle.superpascal.proofs.MarkFacts.{held_code, where_is}
 use Rattle.superpascal.proofs.Parts.{at_exit}
 use Rattle.superpascal.proofs.replays.state.Goals as goal
 

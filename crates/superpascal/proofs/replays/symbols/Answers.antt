@@ -1,5 +1,5 @@
 use Rattle.sp_tree.specs.CheckedOf.{program_of}
-use Rattle.superpascal.proofs.Marking.{marked_code, marked_symbols}
+use Rattle.superpascal.proofs.MarkFacts.{marked_code, marked_symbols}
 use Rattle.superpascal.proofs.replays.symbols.Goals as goal
 
 pub returns-clause-symbols : goal.returns-clause-symbols

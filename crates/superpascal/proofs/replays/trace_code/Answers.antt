@@ -2,10 +2,10 @@ use Rattle.std.proofs.Common.{List, ℕ, inr, Ok, Err, refl, subst}
 use Rattle.std.proofs.lemmas.Result.{err_from_is_err_and}
 use Rattle.sp_code.specs.Sound.{run_of}
 use Rattle.sp_code.specs.declared.code.Parts.{Parts}
-use Rattle.sp_replay.specs.Tracing.{TracedTo}
+use Rattle.sp_replay.specs.TraceAnswers.{TracedTo}
 use Rattle.superpascal.specs.Steps.{TracesTo}
 use Rattle.superpascal.proofs.Parts.{at_exit}
-use Rattle.superpascal.proofs.Running.{follows_text, ready_code, ready_held}
+use Rattle.superpascal.proofs.RunFacts.{follows_text, ready_code, ready_held}
 use Rattle.superpascal.proofs.replays.trace_code.Goals as goal
 
 pub follow_told-requires-clause-program : goal.follow_told-requires-clause-program

@@ -5,8 +5,8 @@ use Rattle.superpascal.specs.Steps.{AnswersCommand}
 use Rattle.superpascal.proofs.Parts.{at_exit, generated_told, generated_unready, generated_wanting}
 use Rattle.superpascal.proofs.runs.run_generated.Goals as goal
 
-pub run_code-requires-clause-code : goal.run_code-requires-clause-code
-run_code-requires-clause-code g c κs within =
+pub run_prepared-requires-clause-code : goal.run_prepared-requires-clause-code
+run_prepared-requires-clause-code g c κs within =
     (c.as_slice.result.now, c.in_ok-code.ensures.0, c.in_ok-code.ensures.1)
 
 pub returns-in_err-text : goal.returns-in_err-text

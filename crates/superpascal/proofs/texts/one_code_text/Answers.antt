@@ -1,6 +1,6 @@
 use Rattle.std.proofs.Common.{sym, ap, ◌∙◌, subst}
 use Rattle.sp_codefile.specs.CodeText.{code_text}
-use Rattle.sp_generate.specs.Generated.{IsCodeOf}
+use Rattle.sp_generate.specs.GeneratorAnswers.{IsCodeOf}
 use Rattle.sp_tree.specs.Bare.{without_places}
 use Rattle.sp_tree.specs.PlainChecked as placed
 use Rattle.superpascal.proofs.texts.one_code_text.Goals as goal

@@ -27,8 +27,8 @@ replay-requires g c = record {
       (c.accepted_options_are_in_range.ensures.accepted c.requires.asked.0 c.args.command c.requires.asked.1);
 }
 
-pub execute-requires-clause-range : goal.execute-requires-clause-range
-execute-requires-clause-range g c κs within = subst AreInRange c.in-Exec.is
+pub exec_file-requires-clause-range : goal.exec_file-requires-clause-range
+exec_file-requires-clause-range g c κs within = subst AreInRange c.in-Exec.is
     (c.accepted_options_are_in_range.ensures.accepted c.requires.asked.0 c.args.command c.requires.asked.1)
 
 pub returns-in-Check : goal.returns-in-Check
@@ -63,4 +63,4 @@ pub returns-in-Replay : goal.returns-in-Replay
 returns-in-Replay g c = command_by _ _ _ c.args.command _ c.replay.result c.in-Replay.is (c.replay.ensures _)
 
 pub returns-in-Exec : goal.returns-in-Exec
-returns-in-Exec g c = command_by _ _ _ c.args.command _ c.execute.result c.in-Exec.is (c.execute.ensures _)
+returns-in-Exec g c = command_by _ _ _ c.args.command _ c.exec_file.result c.in-Exec.is (c.exec_file.ensures _)

@@ -5,8 +5,8 @@ use Rattle.superpascal.specs.Texts.{command_of_run}
 use Rattle.superpascal.proofs.Parts.{at_exit, run_told, run_unread, run_unready, run_wanting}
 use Rattle.superpascal.proofs.top.run.Goals as goal
 
-pub run_code-requires-clause-code : goal.run_code-requires-clause-code
-run_code-requires-clause-code g c κs within = let h = c.in_ok-code.ensures.prepared in (h.0, h.2, h.3)
+pub run_prepared-requires-clause-code : goal.run_prepared-requires-clause-code
+run_prepared-requires-clause-code g c κs within = let h = c.in_ok-code.ensures.prepared in (h.0, h.2, h.3)
 
 pub returns-in_err-code : goal.returns-in_err-code
 returns-in_err-code g c =

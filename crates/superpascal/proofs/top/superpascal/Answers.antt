@@ -1,5 +1,5 @@
 use Rattle.superpascal.proofs.Laws.{laws}
-use Rattle.superpascal.proofs.Promising.{promise}
+use Rattle.superpascal.proofs.PromiseParts.{promise}
 use Rattle.superpascal.proofs.top.superpascal.Goals as goal
 
 pub returns : goal.returns

@@ -1,6 +1,6 @@
 use Rattle.std.proofs.Common.{◌++◌, ◌∙◌, append_assoc, codes, take}
 use Rattle.sp_base.specs.Names.{pairs_text}
-use Rattle.sp_base.proofs.Kept.{kept_through}
+use Rattle.sp_base.proofs.ListFronts.{kept_through}
 use Rattle.sp_base.proofs.name.ProcName.put_parts.Goals as goal
 
 pub returns-in_err-put_pair-clause-kept : goal.returns-in_err-put_pair-clause-kept

@@ -6,7 +6,7 @@ use Rattle.sp_machine.specs.declared.state.State.{State as Proc}
 use Rattle.sp_kernel.specs.declared.slot.Slot.TheVariants as slot
 use Rattle.sp_kernel.specs.declared.kernel.Kernel.{Kernel}
 use Rattle.sp_kernel.specs.Kernels.{control_of, Abandons}
-use Rattle.sp_kernel.proofs.Serving.{gives_up_none, gives_up_some}
+use Rattle.sp_kernel.proofs.NoteSteps.{gives_up_none, gives_up_some}
 use Rattle.sp_kernel.proofs.kernel.Kernel.abandon.Goals as goal
 
 pub returns-in-None : goal.returns-in-None

@@ -7,11 +7,11 @@ use Rattle.sp_journal.specs.declared.entry.Event.TheVariants as event
 use Rattle.sp_journal.specs.Births.{births}
 use Rattle.sp_kernel.specs.declared.handed.Handed.{Handed}
 use Rattle.sp_kernel.specs.declared.kernel.Kernel.{Kernel}
-use Rattle.sp_kernel.specs.Kernels.{parent_in, Gave, IsKernel, kernel_after_give}
+use Rattle.sp_kernel.specs.Kernels.{parent_in, IsAfterGive, IsKernel, kernel_after_give}
 use Rattle.sp_kernel.specs.Fits.{FitsHanded}
-use Rattle.sp_kernel.proofs.Giving.{there}
-use Rattle.sp_kernel.proofs.Joining.{IsChild, is_child, child_joins, child_apart, child_there, gave_end, gave_root}
-use Rattle.sp_kernel.proofs.Joining.{no_birth}
+use Rattle.sp_kernel.proofs.KernelEvents.{there}
+use Rattle.sp_kernel.proofs.EndEvents.{IsChild, is_child, child_joins, child_apart, child_there, gave_end, gave_root}
+use Rattle.sp_kernel.proofs.EndEvents.{no_birth}
 use Rattle.sp_kernel.proofs.kernel.Kernel.end_of.Goals as goal
 
 abbrev at_end : Proc → Handed
@@ -51,8 +51,8 @@ returns-in-Ok-clause-ok c =
     no_birth _ (sym (c.requires.whole.parents.each c.args.proc.number)
     ∙ ap (λ i. parent_in (Rattle.std.specs.Prelude.slice_get x.parents i)) (sym c.number.ensures)
     ∙ sym c.parent.ensures ∙ c.in-None.is) in
-    subst (Gave x c.args.proc.number (at_end c.args.proc)) (sym done.2)
-    (subst (λ n. Gave x c.args.proc.number (at_end c.args.proc)
+    subst (IsAfterGive x c.args.proc.number (at_end c.args.proc)) (sym done.2)
+    (subst (λ n. IsAfterGive x c.args.proc.number (at_end c.args.proc)
     (kernel_after_give n event.End (slot.Here done.0 st.Over) x))
     done.1.1 (gave_root x c.requires.whole c.args.proc.number c.args._worker c.requires.fits.out
     (at_end c.args.proc) refl c.requires.no_fault (refl, c.requires.fits.input) done.0 done.1 none))
@@ -61,7 +61,7 @@ pub returns-in-Ok-end_child-clause-ok : goal.returns-in-Ok-end_child-clause-ok
 returns-in-Ok-end_child-clause-ok c =
     let x : Kernel = c.args.self.now in
     let done = c.in-Ok-end_child.ensures.ok in
-    subst (Gave x c.args.proc.number (at_end c.args.proc)) (sym done.2)
+    subst (IsAfterGive x c.args.proc.number (at_end c.args.proc)) (sym done.2)
     (gave_end x c.requires.whole c.args._worker (at_end c.args.proc) refl c.requires.no_fault c.requires.fits
     c.in-Some.parent (child x c.requires.whole c.args._worker c.args.proc c.requires.fits c.number.result
     c.in-Some.parent c.parent.result c.number.ensures c.parent.ensures c.in-Some.is) done.0 done.1)

@@ -13,8 +13,8 @@ use Rattle.sp_kernel.specs.declared.kernel.Kernel.{Kernel}
 use Rattle.sp_kernel.specs.Kernels.{system_of, IsKernel}
 use Rattle.sp_kernel.specs.Procs.{config_of, turn_by, turn_of}
 use Rattle.sp_kernel.specs.Forks.{IsForkOf, HasForked}
-use Rattle.sp_kernel.proofs.Failing.{failed, is_full, not_full}
-use Rattle.sp_kernel.proofs.Forking.{fork_full, fork_many, fork_fine, can_fork, gave_fork}
+use Rattle.sp_kernel.proofs.FaultEvents.{failed, is_full, not_full}
+use Rattle.sp_kernel.proofs.ForkEvents.{fork_full, fork_many, fork_fine, can_fork, gave_fork}
 use Rattle.sp_kernel.proofs.kernel.Kernel.fork.Goals as goal
 
 abbrev at_fork : Proc → Stop → Handed

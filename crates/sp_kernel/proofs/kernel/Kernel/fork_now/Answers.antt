@@ -13,7 +13,7 @@ use Rattle.sp_kernel.specs.Procs.{config_of}
 use Rattle.sp_kernel.specs.ListEnds.{repeat}
 use Rattle.sp_kernel.specs.Seats.{Seated}
 use Rattle.sp_kernel.specs.Forks.{with_room_for, kernel_after_fork}
-use Rattle.sp_kernel.proofs.Forking.{length_repeat}
+use Rattle.sp_kernel.proofs.ForkEvents.{length_repeat}
 use Rattle.sp_kernel.proofs.kernel.Kernel.fork_now.Goals as goal
 
 fits_in : (x y : Kernel) (p n first children : ℕ) → y ≡ with_room_for p n x → first ≡ length x.slots → children ≡ n

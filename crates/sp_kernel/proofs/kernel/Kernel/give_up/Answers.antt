@@ -1,7 +1,7 @@
 use Rattle.std.proofs.Common.{Option, None, ℕ, sym, subst}
 use Rattle.sp_kernel.specs.Asks.{LeavesNote}
 use Rattle.sp_kernel.specs.declared.ask.Ask.TheVariants as ask
-use Rattle.sp_kernel.proofs.Serving.{none_after, noted_abandon}
+use Rattle.sp_kernel.proofs.NoteSteps.{none_after, noted_abandon}
 use Rattle.sp_kernel.proofs.kernel.Kernel.give_up.Goals as goal
 
 pub idle-requires : goal.idle-requires

@@ -2,7 +2,7 @@ use Rattle.std.proofs.Common.{◌∷◌, ◌++◌, [], None, refl, ap, ◌∙◌
 use Rattle.sp_code.specs.Sound.{run_of}
 use Rattle.sp_kernel.specs.declared.slot.Slot.TheVariants as slot
 use Rattle.sp_kernel.specs.declared.slot.State.TheVariants as st
-use Rattle.sp_kernel.proofs.Beginning.{IsFresh, opened}
+use Rattle.sp_kernel.proofs.FreshKernels.{IsFresh, opened}
 use Rattle.sp_kernel.proofs.kernel.Kernel.new.Goals as goal
 
 pub returns : goal.returns

@@ -8,10 +8,10 @@ use Rattle.sp_machine.specs.declared.state.State.{State as Proc}
 use Rattle.sp_machine.specs.declared.state.Stop.TheVariants as stop
 use Rattle.sp_kernel.specs.declared.handed.Handed.{Handed}
 use Rattle.sp_kernel.specs.declared.kernel.Kernel.{Kernel}
-use Rattle.sp_kernel.specs.Kernels.{system_of, code_run_of, Gave, IsKernel}
+use Rattle.sp_kernel.specs.Kernels.{system_of, code_run_of, IsAfterGive, IsKernel}
 use Rattle.sp_kernel.specs.Procs.{config_of}
-use Rattle.sp_kernel.proofs.Failing.{failed, is_full, not_full}
-use Rattle.sp_kernel.proofs.Opening.{open_full, open_many, open_fine, open_takes, gave_open}
+use Rattle.sp_kernel.proofs.FaultEvents.{failed, is_full, not_full}
+use Rattle.sp_kernel.proofs.OpenEvents.{open_full, open_many, open_fine, open_takes, gave_open}
 use Rattle.sp_kernel.proofs.kernel.Kernel.open.Goals as goal
 
 abbrev at_open : Proc → Handed
@@ -55,6 +55,6 @@ returns-in-Ok-clause-ok c =
     (not_full x.limits.entries x.entries c.from.result c.from.ensures c.if-self-from.false)
     (few x c.requires.whole c.count.result c.count.ensures c.if-count-self.false) in
     let done = c.in-Ok.ensures.ok in
-    subst (Gave x c.args.proc.number h) (sym done.2)
+    subst (IsAfterGive x c.args.proc.number h) (sym done.2)
     (gave_open x c.requires.whole c.args.proc.number c.args._worker c.requires.fits.out h refl c.requires.no_fault fine
     done.0 done.1 refl c.requires.fits.input)

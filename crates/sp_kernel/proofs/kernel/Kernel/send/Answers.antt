@@ -9,14 +9,14 @@ use Rattle.sp_machine.specs.declared.state.State.{State as Proc}
 use Rattle.sp_kernel.specs.declared.handed.Handed.{Handed}
 use Rattle.sp_machine.specs.declared.state.Stop.TheVariants as stop
 use Rattle.sp_kernel.specs.declared.kernel.Kernel.{Kernel}
-use Rattle.sp_kernel.specs.Kernels.{system_of, Gave}
+use Rattle.sp_kernel.specs.Kernels.{system_of, IsAfterGive}
 use Rattle.sp_kernel.specs.Procs.{config_of}
-use Rattle.sp_kernel.proofs.Giving.{there}
-use Rattle.sp_kernel.proofs.Failing.{failed, is_full, not_full}
-use Rattle.sp_kernel.proofs.Sending.{full_fault, fault_free, fault_same, fault_other, receiver_takes}
-use Rattle.sp_kernel.proofs.Sending.{gave_first, gave_met}
+use Rattle.sp_kernel.proofs.KernelEvents.{there}
+use Rattle.sp_kernel.proofs.FaultEvents.{failed, is_full, not_full}
+use Rattle.sp_kernel.proofs.SendEvents.{full_fault, fault_free, fault_same, fault_other, receiver_takes}
+use Rattle.sp_kernel.proofs.SendEvents.{gave_first, gave_met}
 use Rattle.sp_kernel.proofs.Tables.{table_has}
-use Rattle.sp_kernel.proofs.Offering.{waiter_there}
+use Rattle.sp_kernel.proofs.OfferEvents.{waiter_there}
 use Rattle.sp_kernel.proofs.kernel.Kernel.send.Goals as goal
 
 abbrev sends : Proc → ℕ → ℕ → Rattle.std.proofs.Common.List Cell → Handed
@@ -105,7 +105,7 @@ returns-in-Ok-clause-ok c =
     let fine = fault_free x c.requires.whole c.args.channel c.args.message c.args.cells (config_of c.args.proc)
     (not_full x.limits.entries x.entries c.from.result c.from.ensures c.if-self-from.false) here in
     let done = c.in-Ok.ensures.ok in
-    subst (Gave x c.args.proc.number h) (sym done.2)
+    subst (IsAfterGive x c.args.proc.number h) (sym done.2)
     (gave_first x c.requires.whole c.args.proc.number c.args._worker c.requires.fits.out h c.args.channel
     c.args.message c.args.cells refl c.requires.no_fault fine done.0 done.1 refl c.requires.fits.input here)
 
@@ -129,7 +129,7 @@ returns-in-Ok-send_second-clause-ok c =
     ∙ none_if (c.in-Some.first.message == c.args.message)
     (same_message c.in-Some.first.message c.args.message c.if-first-message.false) in
     let done = c.in-Ok-send_second.ensures.ok in
-    subst (Gave x c.args.proc.number h) (sym done.4)
+    subst (IsAfterGive x c.args.proc.number h) (sym done.4)
     (gave_met x c.requires.whole c.args.proc.number c.args._worker c.requires.fits.out h c.args.channel
     c.args.message c.args.cells refl c.requires.no_fault fine done.0 done.2 refl c.requires.fits.input
     c.in-Some.first.process (here ∙ ap (λ (o : Pending). Some (Some o)) first_is) done.1 done.3)

@@ -3,7 +3,7 @@ use Rattle.sp_kernel.specs.Kernels.{Takes}
 use Rattle.sp_kernel.specs.Asks.{LeavesNote, GotMatchesNote}
 use Rattle.sp_kernel.specs.declared.ask.Got.TheVariants as got
 use Rattle.sp_kernel.specs.declared.ask.Ask.TheVariants as ask
-use Rattle.sp_kernel.proofs.Serving.{noted_turn, same_code_run}
+use Rattle.sp_kernel.proofs.NoteSteps.{noted_turn, same_code_run}
 use Rattle.sp_code.specs.Memory.{CodeRun}
 use Rattle.sp_kernel.proofs.kernel.Kernel.turn_in.Goals as goal
 

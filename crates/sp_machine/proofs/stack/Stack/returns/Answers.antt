@@ -4,7 +4,7 @@ use Rattle.std.proofs.lemmas.List.{reverse-reverse}
 use Rattle.sp_machine.specs.Calls.{returns as addresses}
 use Rattle.sp_machine.specs.StackEntries.{entries_of, entry_of}
 use Rattle.sp_machine.specs.declared.stack.Operand.{Operand}
-use Rattle.sp_machine.proofs.Returning.{none_yet, one_more}
+use Rattle.sp_machine.proofs.ReturnAddresses.{none_yet, one_more}
 use Rattle.sp_machine.proofs.stack.Stack.returns.Goals as goal
 
 pub loop-place-init : goal.loop-place-init

@@ -1,7 +1,7 @@
 use Rattle.std.proofs.Common.{◌≡◌, ◌-◌, ◌≤◌, List, length, take, drop, ap, sym, subst, ◌∙◌}
 use Rattle.std.specs.Prelude.{reverse}
 use Rattle.sp_machine.specs.declared.stack.Operand.{Operand}
-use Rattle.sp_machine.proofs.Stacking.{top_part}
+use Rattle.sp_machine.proofs.StackLaws.{top_part}
 use Rattle.sp_machine.proofs.stack.Stack.top.Goals as goal
 
 pub returns : goal.returns

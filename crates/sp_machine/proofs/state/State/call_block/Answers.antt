@@ -2,8 +2,8 @@ use Rattle.std.proofs.Common.{◌+◌, ◌≤◌, ◌<◌, ap, subst, ◌∙◌}
 use Rattle.std.specs.Prelude.{sum}
 use Rattle.sp_base.specs.declared.fault.Fault.TheVariants as fault
 use Rattle.sp_machine.specs.Procs.{code_run_of, memory_of}
-use Rattle.sp_machine.proofs.Calling.{faulted, call_f10, call_f11, call_f12, call_enough, call_fits, call_numbered}
-use Rattle.sp_machine.proofs.Calling.{call_came}
+use Rattle.sp_machine.proofs.CallLaws.{faulted, call_f10, call_f11, call_f12, call_enough, call_fits, call_numbered}
+use Rattle.sp_machine.proofs.CallLaws.{call_came}
 use Rattle.sp_machine.proofs.state.State.call_block.Goals as goal
 
 pub returns-then-self-limits-clause-came : goal.returns-then-self-limits-clause-came

@@ -2,7 +2,7 @@ use Rattle.std.proofs.Common.{◌≡◌, ◌+◌, ◌<◌, ℕ, List, length, ge
 use Rattle.std.proofs.lemmas.List.{length-append}
 use Rattle.sp_cell.specs.declared.spot.Handing.{Handing}
 use Rattle.sp_machine.specs.Children.{AreBornSo}
-use Rattle.sp_machine.proofs.Planning.{born_at, born_pushed}
+use Rattle.sp_machine.proofs.ForkPlans.{born_at, born_pushed}
 use Rattle.sp_machine.proofs.state.State.children.Goals as goal
 
 pub loop-handing-preserved : goal.loop-handing-preserved

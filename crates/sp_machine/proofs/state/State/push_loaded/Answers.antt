@@ -1,5 +1,5 @@
 use Rattle.std.proofs.Common.{Some, ap, sym, ◌∙◌}
-use Rattle.sp_machine.proofs.Going.{at_address, loaded_both}
+use Rattle.sp_machine.proofs.TurnSteps.{at_address, loaded_both}
 use Rattle.sp_machine.proofs.state.State.push_loaded.Goals as goal
 
 pub returns-clause-done : goal.returns-clause-done

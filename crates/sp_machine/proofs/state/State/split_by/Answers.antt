@@ -6,7 +6,7 @@ use Rattle.sp_cell.specs.Fork.{moved_of, shared_of}
 use Rattle.sp_code.specs.System.{child_or}
 use Rattle.sp_code.specs.Tables.{child_at}
 use Rattle.sp_store.specs.Layout.{FramesBelow}
-use Rattle.sp_machine.proofs.Planning.{length_plan, below_plan, length_children, split_newborn}
+use Rattle.sp_machine.proofs.ForkPlans.{length_plan, below_plan, length_children, split_newborn}
 use Rattle.sp_machine.proofs.state.State.split_by.Goals as goal
 
 pub children-requires-clause-numbers : goal.children-requires-clause-numbers

@@ -1,7 +1,7 @@
 use Rattle.std.proofs.Common.{suc, inl, inr, subst, sym, ◌∙◌}
 use Rattle.sp_machine.specs.Procs.{StepMatches, next_of, IsTurnOf, Proceeded}
-use Rattle.sp_machine.proofs.Going.{safe_next, safe_both, on_it, on_both, smaller, smaller_both, ends_it, came_some}
-use Rattle.sp_machine.proofs.Going.{turned_with}
+use Rattle.sp_machine.proofs.TurnSteps.{safe_next, safe_both, on_it, on_both, smaller, smaller_both, ends_it, came_some}
+use Rattle.sp_machine.proofs.TurnSteps.{turned_with}
 use Rattle.sp_machine.proofs.state.State.turn.Goals as goal
 
 pub proceed-requires-clause-safe : goal.proceed-requires-clause-safe

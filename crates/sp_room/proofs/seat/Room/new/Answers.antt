@@ -11,7 +11,7 @@ new-requires-2 g c =
 
 pub returns-in-Ok-new-2-clause-seats : goal.returns-in-Ok-new-2-clause-seats
 returns-in-Ok-new-2-clause-seats g c = λ k t e. let f =
-    c.deal-row.ensures.each k t (ap (λ l. slice_get l k) (sym c.of.ensures) ∙ e) in
+    c.make_seats-row.ensures.each k t (ap (λ l. slice_get l k) (sym c.of.ensures) ∙ e) in
     ((f.0, ap (λ v. v.opening) f.1), born c.in-Ok-new-2.table.shared.key.value c.args.seats k (seat_view t) f.1 f.2 f.3)
 
 pub taken_back-requires : goal.taken_back-requires

@@ -2,7 +2,7 @@ use Rattle.std.proofs.Common.{◌∙◌, ap, List}
 use Rattle.std.specs.List.{list_any}
 use Rattle.sp_types.specs.declared.tables.Ordinal.{Ordinal}
 use Rattle.sp_types.specs.TypeRules.{is_same_ordinal}
-use Rattle.sp_types.proofs.Seeing.{found_by}
+use Rattle.sp_types.proofs.ConstantSets.{found_by}
 use Rattle.sp_types.proofs.seen.Seen.contains.Goals as goal
 
 pub returns : goal.returns

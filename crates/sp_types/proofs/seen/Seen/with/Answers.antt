@@ -1,7 +1,7 @@
 use Rattle.std.proofs.Common.{sym, subst, List}
 use Rattle.sp_types.specs.declared.tables.Ordinal.{Ordinal}
 use Rattle.sp_types.specs.Seen.{IsSet}
-use Rattle.sp_types.proofs.Seeing.{grown}
+use Rattle.sp_types.proofs.ConstantSets.{grown}
 use Rattle.sp_types.proofs.seen.Seen.with.Goals as goal
 
 pub invariant_of-result : goal.invariant_of-result

@@ -11,8 +11,8 @@ use Rattle.sp_tree.specs.CheckedOf.{expression_of, expression_form_of, variable_
 use Rattle.sp_tree.specs.CheckedOf.{actuals, expressions}
 use Rattle.sp_tree.specs.Plain.{Actuals}
 use Rattle.sp_tree.specs.Uses.{Target, Seen, CallOf, In_expr, In_selectors, In_actuals}
-use Rattle.sp_varsets.proofs.Adding.{adds_nothing, ok_then, selectors_on, selectors_end, actuals_on, actuals_end}
-use Rattle.sp_varsets.proofs.Adding.{select_adds, pass_adds}
+use Rattle.sp_varsets.proofs.AddedSets.{adds_nothing, ok_then, selectors_on, selectors_end, actuals_on, actuals_end}
+use Rattle.sp_varsets.proofs.AddedSets.{select_adds, pass_adds}
 use Rattle.sp_varsets.proofs.uses.Uses.+uses.Goals as goal
 
 pub form-returns-in_ok-expression-in-Binary : goal.form-returns-in_ok-expression-in-Binary

@@ -4,7 +4,7 @@ use Rattle.sp_tree.specs.Uses.{CallOf}
 use Rattle.sp_varsets.specs.declared.uses.Uses.{Uses}
 use Rattle.sp_varsets.specs.AddedUses.{AddsUses}
 use Rattle.sp_varsets.specs.Members.{has}
-use Rattle.sp_varsets.proofs.Adding.{call_added}
+use Rattle.sp_varsets.proofs.AddedSets.{call_added}
 use Rattle.sp_varsets.proofs.uses.Uses.add_call.Goals as goal
 
 ok_call_added : {T E : Type 0} (r : Result T E) (old new : Uses) (v : ℕ)

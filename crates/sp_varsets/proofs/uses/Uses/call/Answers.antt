@@ -2,7 +2,7 @@ use Rattle.std.proofs.Common.{map}
 use Rattle.sp_base.proofs.Facts.{on_ok}
 use Rattle.sp_tree.specs.Bare.{bare_actuals}
 use Rattle.sp_tree.specs.CheckedOf.{actual_of, actuals}
-use Rattle.sp_varsets.proofs.Adding.{adds_then}
+use Rattle.sp_varsets.proofs.AddedSets.{adds_then}
 use Rattle.sp_varsets.proofs.uses.Uses.call.Goals as goal
 
 pub returns : goal.returns

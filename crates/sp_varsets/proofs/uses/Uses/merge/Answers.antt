@@ -1,5 +1,5 @@
 use Rattle.sp_base.proofs.Facts.{on_ok}
-use Rattle.sp_varsets.proofs.Adding.{union_is}
+use Rattle.sp_varsets.proofs.AddedSets.{union_is}
 use Rattle.sp_varsets.proofs.uses.Uses.merge.Goals as goal
 
 pub returns : goal.returns

@@ -1,5 +1,5 @@
 use Rattle.sp_base.proofs.Facts.{on_ok}
-use Rattle.sp_varsets.proofs.Adding.{adds_then}
+use Rattle.sp_varsets.proofs.AddedSets.{adds_then}
 use Rattle.sp_varsets.proofs.uses.Uses.write_text.Goals as goal
 
 pub returns : goal.returns

@@ -9,10 +9,12 @@ use Rattle.sp_tree.specs.Bare.{bare_statement, bare_statements}
 use Rattle.sp_tree.specs.CheckedOf.{expression_of, variable_of, width_of, actual_of, actuals, statement_of}
 use Rattle.sp_tree.specs.CheckedOf.{statement_form_of, statements, sends, receives, arm_of, arms}
 use Rattle.sp_varsets.specs.Walks.{WalksStatement}
-use Rattle.sp_varsets.proofs.Adding.{splits_add, spreads_add}
-use Rattle.sp_varsets.proofs.Walking.{statement_is, arms_on, arms_end, statement_walked, element_walked, walked_none}
-use Rattle.sp_varsets.proofs.Walking.{walked_first, walked_last, walked_both, walked_else_none, walked_no_statements}
-use Rattle.sp_varsets.proofs.Walking.{statements_on, statements_end}
+use Rattle.sp_varsets.proofs.AddedSets.{splits_add, spreads_add}
+use Rattle.sp_varsets.proofs.StatementRecords.{statement_is, arms_on, arms_end, statement_walked, element_walked}
+use Rattle.sp_varsets.proofs.StatementRecords.{walked_none}
+use Rattle.sp_varsets.proofs.StatementRecords.{walked_first, walked_last, walked_both, walked_else_none}
+use Rattle.sp_varsets.proofs.StatementRecords.{walked_no_statements}
+use Rattle.sp_varsets.proofs.StatementRecords.{statements_on, statements_end}
 use Rattle.sp_varsets.proofs.walk.Walk.+walk.Goals as goal
 
 pub form-returns-in-Assign : goal.form-returns-in-Assign

@@ -1,7 +1,7 @@
 use Rattle.std.proofs.Common.{◌≡◌, ◌∙◌, true, ap, subst}
 use Rattle.sp_varsets.specs.Members.{has}
 use Rattle.sp_varsets.specs.Records.{IsSetOfIndex, slot_at}
-use Rattle.sp_varsets.proofs.Walking.{keeps_is}
+use Rattle.sp_varsets.proofs.StatementRecords.{keeps_is}
 use Rattle.sp_varsets.proofs.walk.Walk.keep.Goals as goal
 
 pub returns : goal.returns

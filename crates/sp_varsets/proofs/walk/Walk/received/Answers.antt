@@ -2,7 +2,7 @@ use Rattle.sp_base.proofs.Facts.{on_ok}
 use Rattle.sp_tree.specs.PlainChecked.{Receive}
 use Rattle.sp_tree.specs.CheckedOf.{variable_of}
 use Rattle.sp_tree.specs.Bare.{bare_expression}
-use Rattle.sp_varsets.proofs.Walking.{statement_walked, walked_none}
+use Rattle.sp_varsets.proofs.StatementRecords.{statement_walked, walked_none}
 use Rattle.sp_varsets.proofs.walk.Walk.received.Goals as goal
 
 pub returns : goal.returns

@@ -2,7 +2,7 @@ use Rattle.std.proofs.Common.{◌+◌, subst}
 use Rattle.sp_tree.specs.PlainChecked.{Does, Receive}
 use Rattle.sp_tree.specs.CheckedOf.{expression_of, variable_of}
 use Rattle.sp_varsets.specs.Walks.{WalksStatement}
-use Rattle.sp_varsets.proofs.Walking.{walked_both, walked_no_statements, receives_on, receives_end}
+use Rattle.sp_varsets.proofs.StatementRecords.{walked_both, walked_no_statements, receives_on, receives_end}
 use Rattle.sp_varsets.proofs.walk.Walk.receives_through.Goals as goal
 
 pub loop-i-preserved : goal.loop-i-preserved

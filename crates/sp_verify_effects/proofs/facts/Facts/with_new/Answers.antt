@@ -1,7 +1,7 @@
 use Rattle.std.proofs.Common.{sym, subst, List}
 use Rattle.sp_verify_effects.specs.declared.facts.Fact.{Fact}
 use Rattle.sp_verify_effects.specs.Facts.{AreIndexed}
-use Rattle.sp_verify_effects.proofs.Telling.{indexed_more}
+use Rattle.sp_verify_effects.proofs.FactSets.{indexed_more}
 use Rattle.sp_verify_effects.proofs.facts.Facts.with_new.Goals as goal
 
 pub invariant_of-result : goal.invariant_of-result

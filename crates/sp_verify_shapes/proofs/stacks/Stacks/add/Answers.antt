@@ -1,6 +1,6 @@
 use Rattle.std.proofs.Common.{refl, ap, ◌+◌}
 use Rattle.sp_verify_shapes.specs.Stacks.{shape_of}
-use Rattle.sp_verify_shapes.proofs.Stacking.{stacks_grow, stacks_extend, stacks_same, list_more, taken_away}
+use Rattle.sp_verify_shapes.proofs.ListNumbers.{stacks_grow, stacks_extend, stacks_same, list_more, taken_away}
 use Rattle.sp_verify_shapes.proofs.stacks.Stacks.add.Goals as goal
 
 are_stacks : goal.returns-in-Ok-insert-clause-stacks

@@ -1,5 +1,5 @@
 use Rattle.sp_verify_shapes.specs.Stacks.{list_of}
-use Rattle.sp_verify_shapes.proofs.Stacking.{jump_one, jump_both}
+use Rattle.sp_verify_shapes.proofs.ListNumbers.{jump_one, jump_both}
 use Rattle.sp_verify_shapes.proofs.stacks.Stacks.jump_over.Goals as goal
 
 pub returns-then-near-lt1000000000 : goal.returns-then-near-lt1000000000

@@ -1,6 +1,6 @@
 use Rattle.std.proofs.Common.{sym, ap, ◌∙◌}
 use Rattle.sp_verify_shapes.specs.Stacks.{number_at}
-use Rattle.sp_verify_shapes.proofs.Stacking.{list_known}
+use Rattle.sp_verify_shapes.proofs.ListNumbers.{list_known}
 use Rattle.sp_verify_shapes.proofs.stacks.Stacks.push.Goals as goal
 
 pub returns-in-Some-clause-pushed : goal.returns-in-Some-clause-pushed

@@ -1,6 +1,6 @@
 use Rattle.std.proofs.Common.{sym, subst, arith, ◌<◌}
 use Rattle.sp_verify_shapes.specs.Stacks.{IsJump, shape_of}
-use Rattle.sp_verify_shapes.proofs.Stacking.{jump_one}
+use Rattle.sp_verify_shapes.proofs.ListNumbers.{jump_one}
 use Rattle.sp_verify_shapes.proofs.stacks.Stacks.skip.Goals as goal
 
 pub returns-else-jump-gt0 : goal.returns-else-jump-gt0

@@ -1,5 +1,5 @@
 use Rattle.std.proofs.Common.{◌≡◌, sym, ◌+◌, ◌-◌, arith}
-use Rattle.sp_verify_shapes.proofs.Stacking.{list_of_cell}
+use Rattle.sp_verify_shapes.proofs.ListNumbers.{list_of_cell}
 use Rattle.sp_verify_shapes.proofs.stacks.Stacks.top.Goals as goal
 
 pub returns-in-Some : goal.returns-in-Some

@@ -1,6 +1,6 @@
 use Rattle.std.proofs.Common.{◌≡◌, ◌+◌, ◌-◌, ◌&&◌, ◌==◌, ℕ, cond, nat_le, nat_lt, Option, unwrap_or, sym, ap, ◌∙◌}
 use Rattle.std.proofs.Common.{arith}
-use Rattle.sp_witness.specs.Moved.{Table}
+use Rattle.sp_witness.specs.TableNumbers.{Table}
 use Rattle.sp_witness.specs.Passes.{table_in}
 use Rattle.sp_witness.proofs.Forwards.{put_in, one_number}
 use Rattle.sp_witness.proofs.numbers.Numbers.add_children.Goals as goal

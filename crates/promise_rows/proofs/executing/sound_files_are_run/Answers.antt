@@ -1,6 +1,0 @@
-use Rattle.promise_rows.proofs.FileRows.{sound_files_are_run}
-use Rattle.promise_rows.proofs.executing.sound_files_are_run.Goals as goal
-
-pub returns : goal.returns
-returns c = λ x out notes bytes code o q held text short verified. sound_files_are_run o q bytes code held text short
-    verified

@@ -1,7 +1,0 @@
-use Rattle.promise_rows.proofs.TraceRows.{no_output_is_told}
-use Rattle.promise_rows.proofs.tracing.no_output_is_told.Goals as goal
-
-pub returns : goal.returns
-returns c = λ x out notes text bytes o held journal is e out_is. no_output_is_told c.one_journal_of_a_text.ensures
-    text bytes
-    held journal is e o out_is

@@ -1,5 +1,0 @@
-use Rattle.promise_rows.proofs.WitnessRows.{no_race_is_shown}
-use Rattle.promise_rows.proofs.witnessing.no_race_is_shown.Goals as goal
-
-pub returns : goal.returns
-returns c = λ x input out notes r o e v n. no_race_is_shown o r e v n

@@ -1,7 +1,0 @@
-use denote.Exit.{yes}
-use denote.Param.Send.{param_send, arg_send}
-use Rattle.sp_front.proofs.Crossing.{marked_send}
-use Rattle.sp_front.proofs.marking.marked_apart.Goals as goal
-
-pub apart-requires-send-T : goal.apart-requires-send-T
-apart-requires-send-T g c κs within = param_send 3 _ (arg_send _ yes _ marked_send)

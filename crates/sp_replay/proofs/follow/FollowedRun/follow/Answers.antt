@@ -1,0 +1,47 @@
+use Rattle.std.proofs.Common.{◌≡◌, ◌∙◌, sym, refl, subst}
+use Rattle.sp_replay.specs.HeldProcesses.{held_at}
+use Rattle.sp_replay.specs.FollowInvariant.{EventMade}
+use Rattle.sp_replay.proofs.HistorySteps.{can_turn, ranked, picked_out, in_hand, none_of}
+use Rattle.sp_replay.proofs.Entries.{not_held, compared}
+use Rattle.sp_replay.proofs.follow.FollowedRun.follow.Goals as goal
+
+pub returns-in_default : goal.returns-in_default
+returns-in_default c = not_held c.args.self.now.kernel c.requires.stands.follows.come (held_at c.args.self.now.held)
+    c.requires.stands.follows.held c.requires.stands.none_ready c.args.entry
+    (sym c.pick.ensures.proc ∙ none_of c.pick.result c.in_default.not-Some)
+
+pub turned-requires-clause-ranked : goal.turned-requires-clause-ranked
+turned-requires-clause-ranked c =
+    ranked c.args.self.now.kernel c.requires.stands.follows.come c.args.code.now c.args.limits.now c.requires.run
+    c.in-Some.proc
+    (picked_out c.args.self.now.kernel (held_at c.args.self.now.held) c.requires.stands.follows.held
+    c.args.entry.process c.in-Some.proc (sym c.pick.ensures.proc ∙ c.in-Some.is))
+
+pub turned-requires-clause-safe : goal.turned-requires-clause-safe
+turned-requires-clause-safe c =
+    can_turn c.args.self.now.kernel c.requires.stands.follows.come c.args.code.now c.args.limits.now c.requires.run
+    c.in-Some.proc
+    (picked_out c.args.self.now.kernel (held_at c.args.self.now.held) c.requires.stands.follows.held
+    c.args.entry.process c.in-Some.proc (sym c.pick.ensures.proc ∙ c.in-Some.is))
+
+pub hand_in-requires-clause-hand : goal.hand_in-requires-clause-hand
+hand_in-requires-clause-hand c =
+    in_hand c.args.self.now (record { kernel = c.args.self.now.kernel; held = c.pick.new.held }) c.args.code.now
+    c.args.limits.now c.args.entry.process c.in-Some.proc c.in_ok-handed.handed c.requires.stands refl
+    (sym c.pick.ensures.proc ∙ c.in-Some.is) c.pick.ensures.others c.in_ok-handed.ensures
+
+pub newest-requires : goal.newest-requires
+newest-requires c = (c.args.self.now.kernel.journal.entries, _, c.in_ok-hand_in.ensures.1.1.entries)
+
+pub returns : goal.returns
+returns c =
+    let x = c.args.self.now.kernel in
+    let s = c.in_ok-hand_in.ensures.0 in
+    let e = c.in_ok-hand_in.ensures.1.0 in
+    let number : c.in_ok-handed.handed.proc.number ≡ c.args.entry.process = c.in_ok-handed.ensures.keeps.0
+    ∙ (c.requires.stands.follows.held.each c.args.entry.process c.in-Some.proc
+    (sym c.pick.ensures.proc ∙ c.in-Some.is)).number in
+    let made : EventMade x c.args.entry.process e c.hand_in.new.self.kernel =
+    subst (λ n. EventMade x n e c.hand_in.new.self.kernel) number c.in_ok-hand_in.ensures.1.1 in
+    let newest : c.newest.result ≡ e = c.newest.ensures _ _ c.in_ok-hand_in.ensures.1.1.entries in
+    compared c.is_same.result c.newest.result x c.hand_in.new.self c.args.entry e s made newest c.is_same.ensures

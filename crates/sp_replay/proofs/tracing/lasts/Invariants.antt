@@ -1,5 +1,0 @@
-use Rattle.sp_replay.proofs.Showing.{LastsFrom}
-use Rattle.sp_replay.proofs.tracing.lasts.Given as goal
-
-abbrev pub invariant-loop-index : goal.invariant-loop-index
-invariant-loop-index l = LastsFrom l.entries l.told l.index l.out

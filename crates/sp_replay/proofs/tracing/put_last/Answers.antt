@@ -1,9 +1,0 @@
-use Rattle.std.proofs.Common.{◌∙◌, ◌==◌, ap, ℕ, cond}
-use Rattle.sp_replay.specs.Tracing.{last_in}
-use Rattle.sp_replay.proofs.Showing.{last_set}
-use Rattle.sp_replay.proofs.tracing.put_last.Goals as goal
-
-pub returns : goal.returns
-returns c = λ q. ap (λ l. last_in l q) c.replace.ensures.list
-    ∙ last_set c.reach.new.lasts c.args.process c.args.at c.in_ok-reach.ensures.there q
-    ∙ ap (λ (n : ℕ). cond (c.args.process == q) c.args.at n) (c.in_ok-reach.ensures.same q)

@@ -1,0 +1,8 @@
+use Rattle.std.proofs.Common.{◌≡◌, ◌++◌, map, drop}
+use Rattle.sp_tree.specs.NamedOf.{block_of}
+use Rattle.sp_types.specs.Tables.{signatures}
+use Rattle.sp_types.proofs.program_tables.signatures.Given as goal
+
+abbrev pub invariant-loop-b : goal.invariant-loop-b
+invariant-loop-b l = l.out.items ++ signatures (map block_of (drop l.b-index l.blocks))
+    ≡ signatures (map block_of l.blocks)

@@ -1,9 +1,0 @@
-use Rattle.std.proofs.Common.{◌≡◌, ◌++◌}
-use Rattle.std.specs.Vec.Iter.{into_iter_items}
-use Rattle.sp_types.proofs.tabling.kinds_in.Given as goal
-
-abbrev pub invariant-loop-e : goal.invariant-loop-e
-invariant-loop-e l =
-    (goal.iterator-loop-e).can_next l.e-iterator ×
-    (goal.iterator-loop-e).is_finite l.e-iterator ×
-    (l.out.items ++ into_iter_items l.e-iterator ≡ l.fn.entries)

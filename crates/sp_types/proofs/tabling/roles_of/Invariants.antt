@@ -1,6 +1,0 @@
-use Rattle.std.proofs.Common.{◌≡◌, ◌++◌, drop}
-use Rattle.sp_types.specs.Tables.{roles_of}
-use Rattle.sp_types.proofs.tabling.roles_of.Given as goal
-
-abbrev pub invariant-loop-x : goal.invariant-loop-x
-invariant-loop-x l = l.out.items ++ roles_of (drop l.x-index l.variables) ≡ roles_of l.variables

@@ -1,6 +1,0 @@
-use Rattle.sp_verify_areas.specs.Around.{AreFilled}
-use Rattle.sp_verify_areas.proofs.filled.fill.Given as goal
-
--- the layouts so far have nodes
-abbrev pub invariant-loop-item : goal.invariant-loop-item
-invariant-loop-item l = AreFilled l.code l.item l.grown

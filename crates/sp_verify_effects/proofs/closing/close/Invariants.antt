@@ -1,6 +1,0 @@
-use Rattle.sp_verify_effects.specs.Closing.{ClosesTo}
-use Rattle.sp_verify_effects.proofs.closing.close.Given as goal
-
--- the facts so far are followed
-abbrev pub invariant-loop-i : goal.invariant-loop-i
-invariant-loop-i l = ClosesTo l.asked l.rows l.own.keys l.fn.facts l.facts l.i

@@ -1,0 +1,81 @@
+-- None of this belongs to what the program promises: it is for contracts between crates.
+-- The areas that rules V6 to V8 ask about, and what they ask about these and all that these start and call. Nothing
+-- else is followed.
+use Rattle.std.specs.Prelude.{◌≡◌, ℕ, List, Option, Some, None, Bool, true, ◌&&◌, ◌||◌, not, if◌then◌else◌, slice_get}
+use Rattle.sp_code.specs.declared.instr.Instr.{Instr}
+use Rattle.sp_code.specs.declared.instr.Instr.TheVariants as i
+use Rattle.sp_code.specs.declared.code.ChildTable.{ChildTable}
+use Rattle.sp_code.specs.declared.code.ForkTable.{ForkTable}
+use Rattle.sp_code.specs.declared.code.Layout.{Layout}
+use Rattle.sp_code.specs.declared.code.Parts.{Parts}
+use Rattle.sp_code.specs.Machine.{layout_of}
+use Rattle.sp_code.specs.Memory.{Home}
+use Rattle.sp_verify_rules.specs.Areas.{Area, homes, instr_at, on_option}
+use Rattle.sp_verify_rules.specs.Rules.{some_reference}
+use Rattle.sp_verify_areas.specs.Alone.{flag_at}
+use Rattle.sp_verify_areas.specs.Only.{LiesOnlyIn}
+use Rattle.sp_verify_areas.specs.Owners.{entry_at}
+use Rattle.sp_verify_effects.specs.declared.allowance.Allowance.{Allowance}
+use Rattle.sp_verify_effects.specs.declared.asked_areas.Asked.{Asked}
+use Rattle.sp_verify_effects.specs.declared.edges.Edge.{Edge}
+use Rattle.sp_verify_effects.specs.declared.edges.Edge.TheVariants as edge
+use Rattle.sp_verify_effects.specs.declared.facts.Effect.{Effect}
+use Rattle.sp_verify_effects.specs.Allowances.{IsGiven, allows_some}
+use Rattle.sp_verify_effects.specs.Turns.{is_inside}
+
+-- the area with this first instruction is one of them
+abbrev pub is_marked : Asked → ℕ → Bool
+is_marked k m = k.all || flag_at k.flags m
+
+-- its allowance
+abbrev pub allowance_at : Asked → ℕ → Option Allowance
+allowance_at k m = on_option None (slice_get k.numbers m) (slice_get k.allowances)
+
+-- this is asked about it
+abbrev pub is_asked : Asked → ℕ → Effect → Bool
+is_asked k m d = k.all || (flag_at k.flags m && not (allows_some (allowance_at k m) d))
+
+-- all is
+abbrev pub AsksAll : Asked → ℕ → Type 0
+AsksAll k m = (d : Effect) → is_asked k m d ≡ true
+
+-- where an edge leads
+abbrev pub target : Edge → ℕ
+target (edge.Started to index) = to
+target (edge.Called to) = to
+target (edge.Passed to y x) = to
+
+-- a block answers, or takes a variable by reference
+abbrev pub is_of_rules : Layout → Bool
+is_of_rules l = l.answer || some_reference l.formals
+
+-- what a child is not handed is asked about it; so for the children of a table, and of all tables
+abbrev pub AsksChild : Asked → ChildTable → Type 0
+AsksChild k t = (d : Effect) → (IsGiven t d → ⊥) → is_asked k t.entry d ≡ true
+
+abbrev pub AsksChildren : Asked → List ChildTable → Type 0
+AsksChildren k ts = (j : ℕ) (t : ChildTable) → slice_get ts j ≡ Some t → AsksChild k t
+
+abbrev pub AsksTables : Asked → List ForkTable → Type 0
+AsksTables k fs = (t : ℕ) (tb : ForkTable) → slice_get fs t ≡ Some tb → AsksChildren k tb.children
+
+-- all is asked about blocks that answer or take a variable by reference
+abbrev pub AsksLayouts : Asked → List Layout → Type 0
+AsksLayouts k ls = (j : ℕ) (l : Layout) → slice_get ls j ≡ Some l → is_of_rules l ≡ true → AsksAll k l.entry
+
+-- where the block begins that an instruction calls inside itself, with these homes around it
+abbrev pub inside_entry : List Home → List Layout → Option Instr → Option ℕ
+inside_entry hs ls (Some (i.Call b up)) = if is_inside hs b up then entry_at (layout_of ls b) else None
+inside_entry hs ls o = None
+
+module _ (c : Parts) where
+  -- and about the block that the instruction at p calls inside itself
+  abbrev pub AsksInsideAt : Asked → ℕ → Type 0
+  AsksInsideAt k p = (a : Area) (n : ℕ) → LiesOnlyIn c p a
+      → inside_entry (homes c a) c.layouts (instr_at c p) ≡ Some n → AsksAll k n
+
+  -- all that the rules ask about is asked about
+  pub record Asks (k : Asked) : Type 0 where
+    pub tables : AsksTables k c.forks
+    pub layouts : AsksLayouts k c.layouts
+    pub inside : (p : ℕ) → AsksInsideAt k p

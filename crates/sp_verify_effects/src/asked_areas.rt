@@ -1,0 +1,455 @@
+//! The areas that rules V6 to V8 ask about, and what they ask about each. Nothing else is followed: where the rules ask
+//! about little, code of many blocks and variables takes no time and no memory for each pair of them.
+
+ghost use Rattle.std.specs.Prelude.{◌≡◌, ◌<◌, ℕ, IfOk, Some, length, true};
+ghost use Rattle.std.specs.Option.{option_copied};
+ghost use Rattle.sp_verify_areas.specs.Only.{LiesOnlyIn};
+ghost use Rattle.sp_verify_effects.specs.Allowances.{Fits, allows_some};
+ghost use Rattle.sp_verify_effects.specs.AskedAreas.{Asks, AsksAll, AsksChild, AsksChildren, AsksInsideAt, AsksLayouts};
+ghost use Rattle.sp_verify_effects.specs.AskedAreas.{AsksTables, allowance_at, inside_entry, is_asked, is_marked};
+ghost use Rattle.sp_verify_effects.specs.AskedAreas.{is_of_rules, target};
+ghost use Rattle.sp_verify_effects.specs.FactClosure.{FollowsEdges, FollowsRow, IsFollowed, Passes};
+ghost use Rattle.sp_verify_effects.specs.PassContexts.{IsPassContext};
+ghost use Rattle.sp_verify_rules.specs.Areas.{Area, homes as homes_of, instr_at};
+
+use crate::allowance::{Allowance, allows, fits, passes_within};
+use crate::common::{Common, common_of};
+use crate::edges::{Edge, edge_at};
+use crate::facts::Effect;
+use crate::have;
+use crate::inside::is_inside;
+use crate::pass_context::PassContext;
+use sp_base::{List, Memory};
+use sp_code::{ChildTable, ForkTable, Instr, Layout};
+use sp_verify_areas::flags::{flag_at, mark, no_flags};
+use sp_verify_shapes::calls::some_reference;
+
+/// Areas by their first instructions, and what of each is asked about.
+#[derive(Drop)]
+pub struct Asked {
+    /// Every area is among them, with all that it does.
+    pub all: bool,
+    /// Of each instruction, whether the area that begins there is.
+    pub flags: List<bool>,
+    /// Of each instruction, the number of the allowance of the area that begins there, if it has one: what an area may
+    /// do is not asked about.
+    pub numbers: List<u32>,
+    pub allowances: List<Allowance>,
+}
+
+impl Asked {
+    /// Whether the area with this first instruction is among them.
+    pub fn has(&self, entry: usize) -> bool
+        ensures { result ≡ is_marked self.now entry }
+    {
+        self.all || flag_at(&self.flags, entry)
+    }
+
+    // Its allowance.
+    fn allowance(&self, entry: usize) -> Option<&Allowance>
+        ensures { option_copied result ≡ allowance_at self.now entry }
+    {
+        match self.numbers.get(entry) {
+            None => None,
+            Some(number) => self.allowances.get(*number as usize),
+        }
+    }
+
+    // Whether it may do this.
+    fn allows(&self, entry: usize, effect: Effect) -> bool
+        ensures { result ≡ allows_some (allowance_at self.now entry) effect }
+    {
+        match self.allowance(entry) {
+            None => false,
+            Some(allowance) => allows(allowance, effect),
+        }
+    }
+
+    /// Whether this is asked about it.
+    pub fn asks(&self, entry: usize, effect: Effect) -> bool
+        ensures { result ≡ is_asked self.now entry effect }
+    {
+        self.all || (flag_at(&self.flags, entry) && !self.allows(entry, effect))
+    }
+
+    // Whether all is.
+    fn asks_all(&self, entry: usize) -> bool
+        ensures { result ≡ true → AsksAll self.now entry }
+    {
+        match self.allowance(entry) {
+            None => self.has(entry),
+            Some(_) => self.all,
+        }
+    }
+
+    // Whether two areas have allowances of one number.
+    fn have_one(&self, entry: usize, other: usize) -> bool
+        ensures { result ≡ true → allowance_at self.now entry ≡ allowance_at self.now other }
+    {
+        match self.numbers.get(entry) {
+            None => false,
+            Some(n) => match self.numbers.get(other) {
+                None => false,
+                Some(m) => *n == *m,
+            },
+        }
+    }
+}
+
+// All areas.
+fn every_area(asked: Asked) -> Asked
+    ensures { (m : ℕ) → AsksAll result m }
+{
+    let Asked {
+        all: _,
+        flags,
+        numbers,
+        allowances,
+    } = asked;
+    Asked {
+        all: true,
+        flags,
+        numbers,
+        allowances,
+    }
+}
+
+/// Where an edge leads.
+pub(crate) fn target(edge: Edge) -> u32
+    ensures { result ≡ target edge }
+{
+    match edge {
+        Edge::Started { to, index: _ } => to,
+        Edge::Called { to } => to,
+        Edge::Passed {
+            to,
+            formal: _,
+            actual: _,
+        } => to,
+    }
+}
+
+// Whether a block answers, or takes a variable by reference.
+fn is_of_rules(l: &Layout) -> bool
+    ensures { result ≡ is_of_rules l.now }
+{
+    l.answer || some_reference(l.formals.items())
+}
+
+// Where the block begins that this instruction at p calls inside itself.
+fn inside_entry(g: &PassContext, p: u32, instr: Instr) -> Option<u32>
+    requires known { IsPassContext g.now }
+    requires there { p < length g.now.code.now.instrs }
+    ensures { (a : Area) → LiesOnlyIn g.now.code.now p a
+        → result ≡ inside_entry (homes_of g.now.code.now a) g.now.code.now.layouts (Some instr) }
+{
+    match instr {
+        Instr::Call { block, up } => {
+            if is_inside(g, p, block, up) {
+                g.blocks.entry_of(&g.code.parts().layouts, block)
+            } else {
+                None
+            }
+        }
+        _ => None,
+    }
+}
+
+// The same for the one that stands there.
+fn inside_entry_at(g: &PassContext, p: u32) -> Option<u32>
+    requires known { IsPassContext g.now }
+    requires there { p < length g.now.code.now.instrs }
+    ensures { (a : Area) → LiesOnlyIn g.now.code.now p a
+        → result ≡ inside_entry (homes_of g.now.code.now a) g.now.code.now.layouts (instr_at g.now.code.now p) }
+{
+    match g.code.instr(p) {
+        None => None,
+        Some(instr) => inside_entry(g, p, instr),
+    }
+}
+
+// Sets the flags of children.
+fn mark_children(flags: &mut List<bool>, children: &[ChildTable]) {
+    for child in children {
+        mark(flags, child.entry as usize);
+    }
+}
+
+// Sets those of all children.
+fn mark_tables(flags: &mut List<bool>, tables: &[ForkTable]) {
+    for table in tables {
+        mark_children(flags, table.children.items());
+    }
+}
+
+// Sets those of blocks of which the rules ask about all.
+fn mark_blocks(g: &PassContext, flags: &mut List<bool>)
+    requires known { IsPassContext g.now }
+{
+    let parts = g.code.parts();
+    for l in parts.layouts.items() {
+        if is_of_rules(l) {
+            mark(flags, l.entry as usize);
+        }
+    }
+    for p in 0..parts.instrs.len() {
+        if let Some(entry) = inside_entry_at(g, p as u32) {
+            mark(flags, entry as usize);
+        }
+    }
+}
+
+// Whether an edge of a row leads to an area whose flag is set.
+fn leads_to_flag(row: &[Edge], flags: &List<bool>) -> bool {
+    for edge in row {
+        if flag_at(flags, target(*edge) as usize) {
+            return true;
+        }
+    }
+    false
+}
+
+// Sets the flag of an area from which an edge leads to one whose flag is set, and says whether it is new.
+fn follow_row(rows: &List<List<Edge>>, flags: &mut List<bool>, m: usize) -> bool {
+    if flag_at(flags, m) {
+        return false;
+    }
+    match rows.get(m) {
+        None => false,
+        Some(row) => {
+            let leads = leads_to_flag(row.items(), flags);
+            if leads {
+                mark(flags, m);
+            }
+            leads
+        }
+    }
+}
+
+// The same for all areas, once up and once down, and says whether a flag is new.
+fn follow_rows(rows: &List<List<Edge>>, flags: &mut List<bool>) -> bool {
+    let count = rows.len();
+    let mut new = false;
+    for m in 0..count {
+        let up = follow_row(rows, flags, m);
+        new = new || up;
+    }
+    for m in 0..count {
+        let down = follow_row(rows, flags, count - 1 - m);
+        new = new || down;
+    }
+    new
+}
+
+// Sets flags until none is new, or gives up after so many rounds: whether all are set is seen afterwards.
+fn follow(rows: &List<List<Edge>>, flags: &mut List<bool>) {
+    for _round in 0..50 {
+        if !follow_rows(rows, flags) {
+            return;
+        }
+    }
+}
+
+// Whether a child is handed all that its area may do.
+fn fits_some(asked: &Asked, child: &ChildTable) -> Result<bool, Memory>
+    ensures { IfOk result (λ b. b ≡ true → Fits (allowance_at asked.now child.now.entry) child.now) }
+{
+    match asked.allowance(child.entry as usize) {
+        None => Ok(true),
+        Some(allowance) => fits(asked.flags.alloc(), allowance, child),
+    }
+}
+
+// Whether all that a child may not do is asked about.
+fn asks_child(asked: &Asked, child: &ChildTable) -> Result<bool, Memory>
+    ensures { IfOk result (λ b. b ≡ true → AsksChild asked.now child.now) }
+{
+    if asked.has(child.entry as usize) {
+        fits_some(asked, child)
+    } else {
+        Ok(false)
+    }
+}
+
+// The same for the children of a table.
+fn asks_children(asked: &Asked, children: &[ChildTable]) -> Result<bool, Memory>
+    ensures { IfOk result (λ b. b ≡ true → AsksChildren asked.now children.now) }
+{
+    for child in children {
+        let asks = have!(asks_child(asked, child));
+        if !asks {
+            return Ok(false);
+        }
+    }
+    Ok(true)
+}
+
+// Those of all tables.
+fn asks_tables(asked: &Asked, tables: &[ForkTable]) -> Result<bool, Memory>
+    ensures { IfOk result (λ b. b ≡ true → AsksTables asked.now tables.now) }
+{
+    for table in tables {
+        let asks = have!(asks_children(asked, table.children.items()));
+        if !asks {
+            return Ok(false);
+        }
+    }
+    Ok(true)
+}
+
+// Whether a block is, if it answers or takes a variable by reference.
+fn asks_layout(asked: &Asked, l: &Layout) -> bool
+    ensures { result ≡ true → is_of_rules l.now ≡ true → AsksAll asked.now l.now.entry }
+{
+    if is_of_rules(l) {
+        asked.asks_all(l.entry as usize)
+    } else {
+        true
+    }
+}
+
+// All such blocks.
+fn asks_layouts(asked: &Asked, layouts: &[Layout]) -> bool
+    ensures { result ≡ true → AsksLayouts asked.now layouts.now }
+{
+    for l in layouts {
+        if !asks_layout(asked, l) {
+            return false;
+        }
+    }
+    true
+}
+
+// Whether the block is that an instruction calls inside itself.
+fn asks_inside_at(g: &PassContext, asked: &Asked, p: u32) -> bool
+    requires known { IsPassContext g.now }
+    requires there { p < length g.now.code.now.instrs }
+    ensures { result ≡ true → AsksInsideAt g.now.code.now asked.now p }
+{
+    match inside_entry_at(g, p) {
+        None => true,
+        Some(entry) => asked.asks_all(entry as usize),
+    }
+}
+
+// All blocks that instructions call inside themselves.
+fn asks_inside(g: &PassContext, asked: &Asked) -> bool
+    requires known { IsPassContext g.now }
+    ensures { result ≡ true → (p : ℕ) → AsksInsideAt g.now.code.now asked.now p }
+{
+    for p in 0..g.code.parts().instrs.len() {
+        if !asks_inside_at(g, asked, p as u32) {
+            return false;
+        }
+    }
+    true
+}
+
+// Whether what an area may do, the area to which an edge leads may do, as it goes along the edge.
+fn may_pass(asked: &Asked, m: usize, edge: Edge) -> bool
+    ensures { result ≡ true → Passes (allowance_at asked.now m) (allowance_at asked.now (target edge)) edge }
+{
+    let to = target(edge) as usize;
+    match asked.allowance(m) {
+        None => true,
+        Some(one) => match asked.allowance(to) {
+            None => false,
+            Some(other) => passes_within(one, other, asked.have_one(m, to), edge),
+        },
+    }
+}
+
+// Whether what goes along an edge to what is asked about is asked about.
+fn follows_edge(asked: &Asked, m: usize, edge: Edge) -> bool
+    ensures { result ≡ true → IsFollowed asked.now m edge }
+{
+    if !asked.has(target(edge) as usize) {
+        return true;
+    }
+    if asked.has(m) {
+        may_pass(asked, m, edge)
+    } else {
+        false
+    }
+}
+
+// The same for all edges of an area.
+fn follows_row(asked: &Asked, m: usize, row: &[Edge]) -> bool
+    ensures { result ≡ true → FollowsRow asked.now m row.now }
+{
+    for k in 0..row.len() {
+        let edge = edge_at(row, k);
+        if !follows_edge(asked, m, edge) {
+            return false;
+        }
+    }
+    true
+}
+
+// The same for all areas.
+fn follows_edges(asked: &Asked, rows: &[List<Edge>]) -> bool
+    ensures { result ≡ true → FollowsEdges rows.now asked.now }
+{
+    for (m, row) in rows.iter().enumerate() {
+        if !follows_row(asked, m, row.items()) {
+            return false;
+        }
+    }
+    true
+}
+
+// Whether all that rules ask about is asked about.
+fn asks(g: &PassContext, asked: &Asked) -> Result<bool, Memory>
+    requires known { IsPassContext g.now }
+    ensures { IfOk result (λ b. b ≡ true → Asks g.now.code.now asked.now) }
+{
+    let parts = g.code.parts();
+    let tables = have!(asks_tables(asked, parts.forks.items()));
+    if tables {
+        if asks_layouts(asked, parts.layouts.items()) {
+            return Ok(asks_inside(g, asked));
+        }
+    }
+    Ok(false)
+}
+
+// Flags of what rules ask about, and of what leads to it along the edges, as far as some rounds go; and the allowances
+// of these areas.
+fn find_asked(g: &PassContext, rows: &List<List<Edge>>) -> Result<Asked, Memory>
+    requires known { IsPassContext g.now }
+{
+    let parts = g.code.parts();
+    let alloc = parts.instrs.alloc();
+    let mut whole = have!(no_flags(alloc, parts.instrs.len()));
+    mark_blocks(g, &mut whole);
+    let mut flags = have!(no_flags(alloc, parts.instrs.len()));
+    mark_blocks(g, &mut flags);
+    mark_tables(&mut flags, parts.forks.items());
+    follow(rows, &mut flags);
+    let Common {
+        numbers,
+        allowances,
+    } = have!(common_of(&parts.forks, rows, &flags, &whole));
+    Ok(Asked {
+        all: false,
+        flags,
+        numbers,
+        allowances,
+    })
+}
+
+/// What rules ask about, and what leads to it along these edges; all, if it is not found in some rounds.
+pub(crate) fn asked_of(g: &PassContext, rows: &List<List<Edge>>) -> Result<Asked, Memory>
+    requires known { IsPassContext g.now }
+    ensures asks { IfOk result (Asks g.now.code.now) }
+    ensures follows { IfOk result (FollowsEdges rows.now) }
+{
+    let some = have!(find_asked(g, rows));
+    let asks = have!(asks(g, &some));
+    if asks {
+        if follows_edges(&some, rows.items()) {
+            return Ok(some);
+        }
+    }
+    Ok(every_area(some))
+}
