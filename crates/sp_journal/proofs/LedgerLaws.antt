@@ -14,7 +14,7 @@ use Rattle.sp_journal.specs.declared.entry.Event.TheVariants as event
 use Rattle.sp_journal.specs.declared.ledger.Family.{Family}
 use Rattle.sp_journal.specs.declared.ledger.Made.{Made}
 use Rattle.sp_journal.specs.declared.ledger.Ledger.{Ledger}
-use Rattle.sp_journal.specs.Births.{Births, first_births, births_after_event, births, CanFollow, NameableFrom}
+use Rattle.sp_journal.specs.Births.{Births, first_births, births_after_event, births, CanFollow, GivesNumbers, NameableFrom}
 use Rattle.sp_journal.specs.Ledger.{IsLedger, birth_in, nothing_made}
 use Rattle.sp_journal.proofs.Facts.{here}
 use Rattle.sp_journal.proofs.BirthLaws.{births_last, nameable_last, old_birth, new_birth, old_opening, new_opening}
@@ -42,6 +42,9 @@ module _ (l m : Ledger) (p : ℕ) (ledger : IsLedger l) where
       ≡ cond (nat_eq p q) (Some (record { forks = was.forks p + 1; opens = was.opens p }))
       (hash.get nat_eq l.made q))
     where
+      abbrev numbers : GivesNumbers was p (event.Fork n)
+      numbers = next.1
+
       abbrev its_family : Family
       its_family = record { first = l.processes; parent = p; fork = was.forks p }
 
@@ -53,12 +56,12 @@ module _ (l m : Ledger) (p : ℕ) (ledger : IsLedger l) where
       fork_families q h = ⊎_elim
           (λ (o : q < was.processes).
           let k : q < l.processes = let e = ledger.processes in omega arith in
-          old_birth was (lawful l.journal.entries ledger.nameable) p n next.0 next.1.0 next.1.1 q o
+          old_birth was (lawful l.journal.entries ledger.nameable) p n next.0 numbers.0 numbers.1 q o
           ∙ ledger.families q o
           ∙ ap (option_map (λ (f : Family). birth_of f q)) (sym (family_push_above l.families its_family q k)))
           (λ (o : was.processes ≤ q).
           let k : l.processes ≤ q = let e = ledger.processes in omega arith in
-          new_birth was (lawful l.journal.entries ledger.nameable) p n next.0 next.1.0 next.1.1 q o h
+          new_birth was (lawful l.journal.entries ledger.nameable) p n next.0 numbers.0 numbers.1 q o h
           ∙ ap (λ (x : ℕ). Some (record { parent = p; fork = was.forks p; child = q - x })) (sym ledger.processes)
           ∙ ap (option_map (λ (f : Family). birth_of f q)) (sym (family_push_at l.families its_family q k)))
           (cases_lt q was.processes)
@@ -107,6 +110,9 @@ module _ (l m : Ledger) (p : ℕ) (ledger : IsLedger l) where
       ≡ cond (nat_eq p q) (Some (record { forks = was.forks p; opens = was.opens p + 1 }))
       (hash.get nat_eq l.made q))
     where
+      abbrev numbers : GivesNumbers was p event.Open
+      numbers = next.1
+
       abbrev its_opening : Opening
       its_opening = record { owner = p; nth = was.opens p }
 
@@ -128,12 +134,12 @@ module _ (l m : Ledger) (p : ℕ) (ledger : IsLedger l) where
           (λ (o : c < was.channels).
           get_before_last l.openings its_opening c (let e = ledger.channels in omega arith) ∙ ledger.openings c o
           ∙ ap (λ (x : Opening). Some x) (sym
-          (old_opening was (lawful l.journal.entries ledger.nameable) p next.0 next.1.0 next.1.1 c o)))
+          (old_opening was (lawful l.journal.entries ledger.nameable) p next.0 numbers.0 numbers.1 c o)))
           (λ (o : was.channels ≤ c).
           let e : c ≡ length l.openings = let e = ledger.channels in omega arith in
           ap (slice_get (l.openings ++ its_opening ∷ [])) e ∙ get_last l.openings its_opening
           ∙ ap (λ (x : Opening). Some x) (sym
-          (new_opening was (lawful l.journal.entries ledger.nameable) p next.0 next.1.0 next.1.1 c o h)))
+          (new_opening was (lawful l.journal.entries ledger.nameable) p next.0 numbers.0 numbers.1 c o h)))
           (cases_lt c was.channels)
 
       pub open_ledger : IsLedger m

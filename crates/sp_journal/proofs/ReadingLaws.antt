@@ -13,7 +13,7 @@ use Rattle.sp_journal.specs.declared.entry.Event.{Event}
 use Rattle.sp_journal.specs.declared.entry.Event.TheVariants as event
 use Rattle.sp_journal.specs.declared.reader.Reader.{Reader}
 use Rattle.sp_journal.specs.Names.{Name, Channel, chan_name}
-use Rattle.sp_journal.specs.Births.{Births, births, births_after_event, channel, CanFollow}
+use Rattle.sp_journal.specs.Births.{Births, births, births_after_event, channel, CanFollow, GivesNumbers}
 use Rattle.sp_journal.specs.Ledger.{IsLedger}
 use Rattle.sp_journal.specs.Reader.{IsReader, family_text, births_read}
 use Rattle.sp_journal.proofs.TextLaws.{family_texts_differ, channel_texts_differ}
@@ -42,6 +42,9 @@ module _ (r m : Reader) (p : ℕ) (reader : IsReader r) (ledger : IsLedger m.led
       ≡ cond (bytes_eq (family_text (s.name p) (s.forks p)) cs) (Some s.processes) (get_by_text r.families cs))
       (channels : m.channels ≡ r.channels)
     where
+      abbrev numbers : GivesNumbers s p (event.Fork n)
+      numbers = next.1
+
       lawful : Lawful s
       lawful = laws r reader
 
@@ -52,7 +55,7 @@ module _ (r m : Reader) (p : ℕ) (reader : IsReader r) (ledger : IsLedger m.led
       now_is = ap births added ∙ births_last r.ledger.journal.entries (record { process = p; event = event.Fork n })
 
       name_stays : (q : ℕ) → q < s.processes → t.name q ≡ s.name q
-      name_stays q l = old_name s lawful p n next.0 next.1.0 next.1.1 q l
+      name_stays q l = old_name s lawful p n next.0 numbers.0 numbers.1 q l
 
       old_family : (q : ℕ) (b : Birth) → q < s.processes → s.birth q ≡ Some b
           → get_by_text m.families (family_text (t.name b.parent) b.fork) ≡ Some (q - b.child)
@@ -68,7 +71,7 @@ module _ (r m : Reader) (p : ℕ) (reader : IsReader r) (ledger : IsLedger m.led
           let parent : b.parent < s.processes = omega arith in
           let differs : family_text (s.name p) (s.forks p) ≢ family_text (s.name b.parent) b.fork = λ f.
           let d = family_texts_differ (s.name p) (s.name b.parent) (s.forks p) b.fork (lawful.small_names p next.0)
-          (lawful.small_names b.parent parent) next.1.1 small f in
+          (lawful.small_names b.parent parent) numbers.1 small f in
           let i : p ≡ b.parent = lawful.one_name p b.parent next.0 parent d.0 in
           let j : s.forks p ≡ s.forks b.parent = ap s.forks i in
           let k = d.1 in
@@ -80,7 +83,7 @@ module _ (r m : Reader) (p : ℕ) (reader : IsReader r) (ledger : IsLedger m.led
           ∙ reader.families q b l e)
           (cases_lt q 1)
 
-      new_family : (q : ℕ) (b : Birth) → s.processes ≤ q → its_birth s lawful p n next.0 next.1.0 next.1.1 q ≡ b
+      new_family : (q : ℕ) (b : Birth) → s.processes ≤ q → its_birth s lawful p n next.0 numbers.0 numbers.1 q ≡ b
           → get_by_text m.families (family_text (t.name b.parent) b.fork) ≡ Some (q - b.child)
       new_family q b l e =
           let here : get_by_text m.families (family_text (t.name p) (s.forks p)) ≡ Some (q - (q - s.processes)) =
@@ -95,9 +98,9 @@ module _ (r m : Reader) (p : ℕ) (reader : IsReader r) (ledger : IsLedger m.led
       fork_families : (q : ℕ) (b : Birth) → q < t.processes → t.birth q ≡ Some b
           → get_by_text m.families (family_text (t.name b.parent) b.fork) ≡ Some (q - b.child)
       fork_families q b l e = ⊎_elim
-          (λ (o : q < s.processes). old_family q b o (sym (old_birth s lawful p n next.0 next.1.0 next.1.1 q o) ∙ e))
+          (λ (o : q < s.processes). old_family q b o (sym (old_birth s lawful p n next.0 numbers.0 numbers.1 q o) ∙ e))
           (λ (o : s.processes ≤ q). new_family q b o
-          (same_Some _ _ (sym (new_birth s lawful p n next.0 next.1.0 next.1.1 q o l) ∙ e)))
+          (same_Some _ _ (sym (new_birth s lawful p n next.0 numbers.0 numbers.1 q o l) ∙ e)))
           (cases_lt q s.processes)
 
       fork_channels : (c : ℕ) → c < s.channels
@@ -126,6 +129,9 @@ module _ (r m : Reader) (p : ℕ) (reader : IsReader r) (ledger : IsLedger m.led
       ≡ cond (bytes_eq (channel_text (chan_name (record { owner = s.name p; nth = s.opens p }))) cs)
       (Some s.channels) (get_by_text r.channels cs))
     where
+      abbrev numbers : GivesNumbers s p event.Open
+      numbers = next.1
+
       then_lawful : Lawful s
       then_lawful = laws r reader
 
@@ -142,7 +148,7 @@ module _ (r m : Reader) (p : ℕ) (reader : IsReader r) (ledger : IsLedger m.led
       old_channel c l =
           let differs : channel_text (chan_name this) ≢ channel_text (chan_name (channel s c)) = λ f.
           let d = channel_texts_differ this (channel s c) (then_lawful.small_names p next.0)
-          (then_lawful.small_names (s.opening c).owner (then_lawful.owned c l)) next.1.1 (then_lawful.small_nth c l)
+          (then_lawful.small_names (s.opening c).owner (then_lawful.owned c l)) numbers.1 (then_lawful.small_nth c l)
           f in
           let i : p ≡ (s.opening c).owner = then_lawful.one_name p (s.opening c).owner next.0 (then_lawful.owned c l)
           d.0 in
@@ -168,12 +174,12 @@ module _ (r m : Reader) (p : ℕ) (reader : IsReader r) (ledger : IsLedger m.led
           (λ (o : c < s.channels).
           ap (λ (x : Opening). get_by_text m.channels
           (channel_text (chan_name (record { owner = s.name x.owner; nth = x.nth }))))
-          (old_opening s then_lawful p next.0 next.1.0 next.1.1 c o)
+          (old_opening s then_lawful p next.0 numbers.0 numbers.1 c o)
           ∙ old_channel c o)
           (λ (o : s.channels ≤ c).
           ap (λ (x : Opening). get_by_text m.channels
           (channel_text (chan_name (record { owner = s.name x.owner; nth = x.nth }))))
-          (new_opening s then_lawful p next.0 next.1.0 next.1.1 c o l)
+          (new_opening s then_lawful p next.0 numbers.0 numbers.1 c o l)
           ∙ new_channel c (omega arith))
           (cases_lt c s.channels)
 

@@ -256,18 +256,18 @@ module _ (p : Program) (claims : List Claim) where
     pub reached_target : (bs : List ℕ) (x b : ℕ) (k : Block) → slice_get p.blocks b ≡ Some k
         → Reach p (In_stmt k.body) bs (Target x) → IsFree p b x → has (T b) x ≡ true
     reached_target [] x b k e r f = covered b x (T b) (closed_use b k e (Target x) r) f
-    reached_target (c ∷ bs) x b k e r f =
-        let inner : has (T c) x ≡ true = reached_target bs x c r.2 r.3 r.5 r.4 in
+    reached_target (c ∷ bs) x b k e (args, call, body, block, free, r) f =
+        let inner : has (T c) x ≡ true = reached_target bs x c body block r free in
         covered b x (T b) (each_has (covers b (T b)) (T c) x
-        (first_true _ (each (covers b (S b)) (S c)) (closed_use b k e (CallOf c r.0) r.1)) inner) f
+        (first_true _ (each (covers b (S b)) (S c)) (closed_use b k e (CallOf c args) call)) inner) f
 
     pub reached_seen : (bs : List ℕ) (x b : ℕ) (k : Block) → slice_get p.blocks b ≡ Some k
         → Reach p (In_stmt k.body) bs (Seen x) → IsFree p b x → has (S b) x ≡ true
     reached_seen [] x b k e r f = covered b x (S b) (closed_use b k e (Seen x) r) f
-    reached_seen (c ∷ bs) x b k e r f =
-        let inner : has (S c) x ≡ true = reached_seen bs x c r.2 r.3 r.5 r.4 in
+    reached_seen (c ∷ bs) x b k e (args, call, body, block, free, r) f =
+        let inner : has (S c) x ≡ true = reached_seen bs x c body block r free in
         covered b x (S b) (each_has (covers b (S b)) (S c) x
-        (second_true (each (covers b (T b)) (T c)) _ (closed_use b k e (CallOf c r.0) r.1)) inner) f
+        (second_true (each (covers b (T b)) (T c)) _ (closed_use b k e (CallOf c args) call)) inner) f
 
     aimed_here : (us : List Use) (x : ℕ) → Among (Target x) us → has (aims_of us) x ≡ true
     aimed_here [] x a = absurd a
@@ -340,14 +340,16 @@ module _ (p : Program) (claims : List Claim) where
     pub target_has : (Here : Use → Type 0) (us : List Use) → ((u : Use) → Here u → Among u us) → (x : ℕ)
         → IsTarget p Here x → has (aims_of us) x ≡ true
     target_has Here us m x ([], r) = aimed_here us x (m (Target x) r)
-    target_has Here us m x (c ∷ bs, r) = aimed_called us x c r.0 (m (CallOf c r.0) r.1)
-        (reached_target bs x c r.2 r.3 r.5 r.4)
+    target_has Here us m x (c ∷ bs, args, call, body, block, free, r) =
+        aimed_called us x c args (m (CallOf c args) call)
+        (reached_target bs x c body block r free)
 
     seen_has : (Here : Use → Type 0) (us : List Use) → ((u : Use) → Here u → Among u us) → (x : ℕ) → IsSeen p Here x
         → has (sees_of us) x ≡ true
     seen_has Here us m x ([], r) = seen_here us x (m (Seen x) r)
-    seen_has Here us m x (c ∷ bs, r) = seen_called us x c r.0 (m (CallOf c r.0) r.1)
-        (reached_seen bs x c r.2 r.3 r.5 r.4)
+    seen_has Here us m x (c ∷ bs, args, call, body, block, free, r) =
+        seen_called us x c args (m (CallOf c args) call)
+        (reached_seen bs x c body block r free)
 
     I1_kept : (ss : Stmts) → keeps_I1 ss ≡ true → KeepsI1 p ss
     I1_kept No h = tt
@@ -481,9 +483,9 @@ answer_at is b (j ∷ ks) zero x k h e d =
       answer_is i.0.role (first_true _ (i.0.block == b) i.2),
       eqb-true i.0.block b (second_true (is_answer i.0.role) _ i.2) ∙ is_plus_none b,
     )
-answer_at is b (j ∷ ks) (suc n) x k h e d = let r =
+answer_at is b (j ∷ ks) (suc n) x k h e d = let (variable, found, role, block) =
     answer_at is (suc b) ks n x k (second_true _ (answers_in is (suc b) ks) h) e d in
-    (r.0, r.1, r.2, r.3 ∙ next_goes_right b n)
+    (variable, found, role, block ∙ next_goes_right b n)
 
 -- with these claims the program keeps the rules
 abbrev pub keeps_rules : Program → List Claim → Bool
@@ -501,9 +503,9 @@ certified p claims h = record {
   consoles = λ x i e d. let r = console_at 0 p.variables x i
       (first_true (consoles_in 0 p.variables) (answers_in p.variables 0 p.blocks) three) e d in let less = r.1 in
       (r.0, omega (arith, less));
-  answers = λ b k x e d. let r = answer_at p.variables 0 p.blocks b x k
+  answers = λ b k x e d. let (variable, found, role, block) = answer_at p.variables 0 p.blocks b x k
       (second_true (consoles_in 0 p.variables) (answers_in p.variables 0 p.blocks) three) e d in
-      (r.0, r.1, r.2, r.3 ∙ zero-add b);
+      (variable, found, role, block ∙ zero-add b);
   input = let i = variable_is (λ i. is_console i.role) (slice_get p.variables 0)
       (first_true (by_variable (λ i. is_console i.role) (slice_get p.variables 0))
       (by_variable (λ i. is_console i.role) (slice_get p.variables 1)) four) in (i.0, i.1, console_is i.0.role i.2);

@@ -432,11 +432,11 @@ module _ (c : p.Program) (claims : List Claim) (stopping : List ℕ) where
     -- no rule of interference is broken, at no place
     pub breaks_none : BreaksNone c
     breaks_none = record {
-      I1 = λ at (b, k, e, site, i, h). (none_broken_at b k site e i at).0 h;
-      I2 = λ at (b, k, e, site, i, h). (none_broken_at b k site e i at).1 h;
-      I3 = λ at (b, k, e, site, i, h). (none_broken_at b k site e i at).2 h;
-      I4 = λ at (b, k, e, site, i, h). (none_broken_at b k site e i at).3 h;
-      I5 = λ at (b, k, e, site, i, h). (none_broken_at b k site e i at).4 h;
+      I1 = λ at (b, k, e, site, i, h). let (none, _, _, _, _) = none_broken_at b k site e i at in none h;
+      I2 = λ at (b, k, e, site, i, h). let (_, none, _, _, _) = none_broken_at b k site e i at in none h;
+      I3 = λ at (b, k, e, site, i, h). let (_, _, none, _, _) = none_broken_at b k site e i at in none h;
+      I4 = λ at (b, k, e, site, i, h). let (_, _, _, none, _) = none_broken_at b k site e i at in none h;
+      I5 = λ at (b, k, e, site, i, h). let (_, _, _, _, none) = none_broken_at b k site e i at in none h;
       I6 = λ at (b, k, e, here, inside, x, i, l). no_recursion b x
           (first_true (recursion_test b) _ (other_passed b k e)) inside i l;
       I7 = λ at (b, k, e, f, x, m, i, found, is, here). no_reference b k x i e f m found is;
