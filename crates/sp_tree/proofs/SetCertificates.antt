@@ -340,14 +340,14 @@ module _ (p : Program) (claims : List Claim) where
     pub target_has : (Here : Use → Type 0) (us : List Use) → ((u : Use) → Here u → Among u us) → (x : ℕ)
         → IsTarget p Here x → has (aims_of us) x ≡ true
     target_has Here us m x ([], r) = aimed_here us x (m (Target x) r)
-    target_has Here us m x (c ∷ bs, args, call, body, block, free, r) =
+    target_has Here us m x (c ∷ bs, (args, call, body, block, free, r)) =
         aimed_called us x c args (m (CallOf c args) call)
         (reached_target bs x c body block r free)
 
     seen_has : (Here : Use → Type 0) (us : List Use) → ((u : Use) → Here u → Among u us) → (x : ℕ) → IsSeen p Here x
         → has (sees_of us) x ≡ true
     seen_has Here us m x ([], r) = seen_here us x (m (Seen x) r)
-    seen_has Here us m x (c ∷ bs, args, call, body, block, free, r) =
+    seen_has Here us m x (c ∷ bs, (args, call, body, block, free, r)) =
         seen_called us x c args (m (CallOf c args) call)
         (reached_seen bs x c body block r free)
 

@@ -129,14 +129,14 @@ module _ (g : Program) where
     statement_kept (p.Does n at (p.Case e arms)) u h (inr i) =
         arms_kept arms u (right (expression_sites e) (arms_sites arms) h) i
     statement_kept (p.Does n at (p.Parallel ss)) u h (inl e) = subst (IsFreeUse g) (sym e) h.0
-    statement_kept (p.Does n at (p.Parallel ss)) u (_, _, h) (inr (inl i)) = statements_kept ss u h i
+    statement_kept (p.Does n at (p.Parallel ss)) u (_, (_, h)) (inr (inl i)) = statements_kept ss u h i
     statement_kept (p.Does n at (p.Parallel ss)) u h (inr (inr e)) = stop u e
     statement_kept (p.Does n at (p.Forall x from to s)) u h (inl e) = subst (IsFreeUse g) (sym e) h.0
-    statement_kept (p.Does n at (p.Forall x from to s)) u (_, _, h) (inr (inl i)) =
+    statement_kept (p.Does n at (p.Forall x from to s)) u (_, (_, h)) (inr (inl i)) =
         expression_kept from u (left (expression_sites from) _ h) i
-    statement_kept (p.Does n at (p.Forall x from to s)) u (_, _, h) (inr (inr (inl i))) =
+    statement_kept (p.Does n at (p.Forall x from to s)) u (_, (_, h)) (inr (inr (inl i))) =
         expression_kept to u (left (expression_sites to) _ (right (expression_sites from) _ h)) i
-    statement_kept (p.Does n at (p.Forall x from to s)) u (_, _, h) (inr (inr (inr (inl i)))) =
+    statement_kept (p.Does n at (p.Forall x from to s)) u (_, (_, h)) (inr (inr (inr (inl i)))) =
         statement_kept s u (right (expression_sites to) _ (right (expression_sites from) _ h)) i.0
     statement_kept (p.Does n at (p.Forall x from to s)) u h (inr (inr (inr (inr e)))) = stop u e
     statement_kept (p.Does n at (p.Assume e)) u h i = expression_kept e u h i
