@@ -57,7 +57,7 @@ joins = refl
 
 -- the second sender did not know that the first one's offer, of index 3, was completed
 raced : IsOrdered two_senders → ⊥
-raced (_, _, _, _, fifth, _) =
+raced (_, (_, (_, (_, (fifth, _))))) =
     let k = fifth 3 ((0, 1) ∷ []) refl in
     let m : k.0 ≡ 3 = from_some k.0 k.1 in
     let f : (after_first 4).past ((0, 2) ∷ []) 3 ≡ true = ap ((after_first 4).past ((0, 2) ∷ [])) (sym m) ∙ k.2 in
