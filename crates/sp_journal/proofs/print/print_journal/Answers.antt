@@ -16,12 +16,12 @@ pub loop-entry-preserved : goal.loop-entry-preserved
 loop-entry-preserved c =
     let es = c.items-entry-items.result.now in
     let i = c.loop-entry.entry-index in
-    let (_, of_ledger, nameable, text) = c.loop-entry.invariant in
+    let (_, taken, nameable, text) = c.loop-entry.invariant in
     let line : List ℕ = entry_text (births (take i es)) (this es i c.loop-entry-test.true) in
     let e = c.in_ok-put_entry.ensures.ok ∙ ap
-    (λ (x : List Entry). c.loop-entry.out.items ++ entry_text (births x) (this es i c.loop-entry-test.true)) of_ledger in (
+    (λ (x : List Entry). c.loop-entry.out.items ++ entry_text (births x) (this es i c.loop-entry-test.true)) taken in (
       c.in_ok-add.ensures.ledger,
-      kept_whole es i c.loop-entry-test.true c.loop-entry.ledger.journal.entries c.add.new.self.journal.entries h.1
+      kept_whole es i c.loop-entry-test.true c.loop-entry.ledger.journal.entries c.add.new.self.journal.entries taken
           c.in_ok-add.ensures.added,
       still_nameable es i any_entry c.loop-entry-test.true nameable,
       put_one c.loop-entry.out.items c.put_entry.new.out.items c.extend_from_slice.new.self.items
