@@ -113,42 +113,43 @@ module _ (bytes : List ℕ) (v : Version) (es : List Entry) (rest : List ℕ) (b
   -- one entry more
   pub begun_on : (e : Entry) (line after : List ℕ) (fs : List Entry) → Some (line, after) ≡ first_split 10 rest
       → IsEntryOfLine v (births es) line (Some e) → fs ≡ es ++ e ∷ [] → Begun bytes v fs after
-  begun_on e line after fs f ((can_follow, holds), is_line, only) g = subst (λ (x : List Entry). Begun bytes v x after) (sym g) (record {
-    whole = record {
-      nameable = nameable_last first_births es e begun.whole.nameable can_follow;
-      held = held_last v es e begun.whole.held holds;
-      text = refl;
-    };
-    joined =
-        begun.joined ∙ ap (λ (x : List ℕ). journal_text v (record { entries = es }) ++ x)
-        (first_joins 10 rest line after (sym f) ∙ ap (λ (x : List ℕ). x ++ 10 ∷ after) is_line
-        ∙ sym (line_is (births es) e after))
-        ∙ sym (append_assoc (journal_text v (record { entries = es })) (entry_text (births es) e ++ codes "\n") after)
-        ∙ ap (λ (x : List ℕ). x ++ after) (append_assoc (heading v) (entries_text first_births es)
-        (entry_text (births es) e ++ codes "\n")
-        ∙ ap (λ (x : List ℕ). heading v ++ x) (sym (entries_last first_births es e)));
-    begins = λ w k t.
-        let (same_version, more, begins_so, follow) = begun.begins w k t in
-        let h = first_left v (births es) s_lawful rest more not_empty follow in
-        let equal_of_test : Some (
-          entry_text (births es) h.entry,
-          entries_text (births_after_entry (births es) h.entry)
+  begun_on e line after fs f ((can_follow, holds), is_line, only) g =
+      subst (λ (x : List Entry). Begun bytes v x after) (sym g) (record {
+        whole = record {
+          nameable = nameable_last first_births es e begun.whole.nameable can_follow;
+          held = held_last v es e begun.whole.held holds;
+          text = refl;
+        };
+        joined =
+            begun.joined ∙ ap (λ (x : List ℕ). journal_text v (record { entries = es }) ++ x)
+            (first_joins 10 rest line after (sym f) ∙ ap (λ (x : List ℕ). x ++ 10 ∷ after) is_line
+            ∙ sym (line_is (births es) e after))
+            ∙ sym (append_assoc (journal_text v (record { entries = es })) (entry_text (births es) e ++ codes "\n") after)
+            ∙ ap (λ (x : List ℕ). x ++ after) (append_assoc (heading v) (entries_text first_births es)
+            (entry_text (births es) e ++ codes "\n")
+            ∙ ap (λ (x : List ℕ). heading v ++ x) (sym (entries_last first_births es e)));
+        begins = λ w k t.
+            let (same_version, more, begins_so, follow) = begun.begins w k t in
+            let h = first_left v (births es) s_lawful rest more not_empty follow in
+            let equal_of_test : Some (
+              entry_text (births es) h.entry,
+              entries_text (births_after_entry (births es) h.entry)
+                  h.others,
+            )
+            ≡ Some (line, after) = sym h.line ∙ sym f in
+            let entry : h.entry ≡ e = only h.entry h.can_come (sym (parts_first _ _ _ _ equal_of_test)) in
+            let others : IsTextOfRest v (births_after_entry (births es) e) after h.others =
+            subst (λ (x : Entry). IsTextOfRest v (births_after_entry (births es) x) after h.others) entry
+            (subst (λ (x : List ℕ). IsTextOfRest v (births_after_entry (births es) h.entry) x h.others)
+            (parts_second _ _ _ _ equal_of_test)
+            h.left) in (
+              same_version,
               h.others,
-        )
-        ≡ Some (line, after) = sym h.line ∙ sym f in
-        let entry : h.entry ≡ e = only h.entry h.can_come (sym (parts_first _ _ _ _ equal_of_test)) in
-        let others : IsTextOfRest v (births_after_entry (births es) e) after h.others =
-        subst (λ (x : Entry). IsTextOfRest v (births_after_entry (births es) x) after h.others) entry
-        (subst (λ (x : List ℕ). IsTextOfRest v (births_after_entry (births es) h.entry) x h.others)
-        (parts_second _ _ _ _ equal_of_test)
-        h.left) in (
-          same_version,
-          h.others,
-          begins_so ∙ ap (λ (x : List Entry). es ++ x) (h.more_is ∙ ap (λ (x : Entry). x ∷ h.others) entry)
-              ∙ sym (append_assoc es (e ∷ []) h.others),
-          subst (λ (x : Births). IsTextOfRest v x after h.others) (sym (births_last es e)) others,
-        );
-  })
+              begins_so ∙ ap (λ (x : List Entry). es ++ x) (h.more_is ∙ ap (λ (x : Entry). x ∷ h.others) entry)
+                  ∙ sym (append_assoc es (e ∷ []) h.others),
+              subst (λ (x : Births). IsTextOfRest v x after h.others) (sym (births_last es e)) others,
+            );
+      })
     where
       not_empty : rest ≢ []
       not_empty z = none-some (line, after) (sym (f ∙ ap (first_split 10) z))

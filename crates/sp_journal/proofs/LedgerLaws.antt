@@ -14,7 +14,8 @@ use Rattle.sp_journal.specs.declared.entry.Event.TheVariants as event
 use Rattle.sp_journal.specs.declared.ledger.Family.{Family}
 use Rattle.sp_journal.specs.declared.ledger.Made.{Made}
 use Rattle.sp_journal.specs.declared.ledger.Ledger.{Ledger}
-use Rattle.sp_journal.specs.Births.{Births, first_births, births_after_event, births, CanFollow, GivesNumbers, NameableFrom}
+use Rattle.sp_journal.specs.Births.{Births, first_births, births_after_event, births, CanFollow}
+use Rattle.sp_journal.specs.Births.{GivesNumbers, NameableFrom}
 use Rattle.sp_journal.specs.Ledger.{IsLedger, birth_in, nothing_made}
 use Rattle.sp_journal.proofs.Facts.{here}
 use Rattle.sp_journal.proofs.BirthLaws.{births_last, nameable_last, old_birth, new_birth, old_opening, new_opening}
@@ -110,8 +111,8 @@ module _ (l m : Ledger) (p : ℕ) (ledger : IsLedger l) where
       ≡ cond (nat_eq p q) (Some (record { forks = was.forks p; opens = was.opens p + 1 }))
       (hash.get nat_eq l.made q))
     where
-      abbrev open_numbers : GivesNumbers was p event.Open
-      open_numbers = next.1
+      abbrev its_numbers : GivesNumbers was p event.Open
+      its_numbers = next.1
 
       abbrev its_opening : Opening
       its_opening = record { owner = p; nth = was.opens p }
@@ -134,12 +135,12 @@ module _ (l m : Ledger) (p : ℕ) (ledger : IsLedger l) where
           (λ (o : c < was.channels).
           get_before_last l.openings its_opening c (let e = ledger.channels in omega arith) ∙ ledger.openings c o
           ∙ ap (λ (x : Opening). Some x) (sym
-          (old_opening was (lawful l.journal.entries ledger.nameable) p next.0 open_numbers.0 open_numbers.1 c o)))
+          (old_opening was (lawful l.journal.entries ledger.nameable) p next.0 its_numbers.0 its_numbers.1 c o)))
           (λ (o : was.channels ≤ c).
           let e : c ≡ length l.openings = let e = ledger.channels in omega arith in
           ap (slice_get (l.openings ++ its_opening ∷ [])) e ∙ get_last l.openings its_opening
           ∙ ap (λ (x : Opening). Some x) (sym
-          (new_opening was (lawful l.journal.entries ledger.nameable) p next.0 open_numbers.0 open_numbers.1 c o h)))
+          (new_opening was (lawful l.journal.entries ledger.nameable) p next.0 its_numbers.0 its_numbers.1 c o h)))
           (cases_lt c was.channels)
 
       pub open_ledger : IsLedger m

@@ -129,8 +129,8 @@ module _ (r m : Reader) (p : ℕ) (reader : IsReader r) (ledger : IsLedger m.led
       ≡ cond (bytes_eq (channel_text (chan_name (record { owner = s.name p; nth = s.opens p }))) cs)
       (Some s.channels) (get_by_text r.channels cs))
     where
-      abbrev open_numbers : GivesNumbers s p event.Open
-      open_numbers = next.1
+      abbrev its_numbers : GivesNumbers s p event.Open
+      its_numbers = next.1
 
       then_lawful : Lawful s
       then_lawful = laws r reader
@@ -148,8 +148,8 @@ module _ (r m : Reader) (p : ℕ) (reader : IsReader r) (ledger : IsLedger m.led
       old_channel c l =
           let differs : channel_text (chan_name this) ≢ channel_text (chan_name (channel s c)) = λ f.
           let d = channel_texts_differ this (channel s c) (then_lawful.small_names p next.0)
-          (then_lawful.small_names (s.opening c).owner (then_lawful.owned c l)) open_numbers.1 (then_lawful.small_nth c l)
-          f in
+          (then_lawful.small_names (s.opening c).owner (then_lawful.owned c l)) its_numbers.1
+          (then_lawful.small_nth c l) f in
           let i : p ≡ (s.opening c).owner = then_lawful.one_name p (s.opening c).owner next.0 (then_lawful.owned c l)
           d.0 in
           let j : s.opens p ≡ s.opens (s.opening c).owner = ap s.opens i in
@@ -174,12 +174,12 @@ module _ (r m : Reader) (p : ℕ) (reader : IsReader r) (ledger : IsLedger m.led
           (λ (o : c < s.channels).
           ap (λ (x : Opening). get_by_text m.channels
           (channel_text (chan_name (record { owner = s.name x.owner; nth = x.nth }))))
-          (old_opening s then_lawful p next.0 open_numbers.0 open_numbers.1 c o)
+          (old_opening s then_lawful p next.0 its_numbers.0 its_numbers.1 c o)
           ∙ old_channel c o)
           (λ (o : s.channels ≤ c).
           ap (λ (x : Opening). get_by_text m.channels
           (channel_text (chan_name (record { owner = s.name x.owner; nth = x.nth }))))
-          (new_opening s then_lawful p next.0 open_numbers.0 open_numbers.1 c o l)
+          (new_opening s then_lawful p next.0 its_numbers.0 its_numbers.1 c o l)
           ∙ new_channel c (omega arith))
           (cases_lt c s.channels)
 

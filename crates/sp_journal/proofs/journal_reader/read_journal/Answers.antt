@@ -126,7 +126,7 @@ loop-rest-preserved c =
     let text = c.in-Some-split_first.text.now in
     let after = c.in-Some-split_first.after.now in
     let e = c.in-Some-2.entry in
-    let (_, begun, one, two) = c.loop-rest.invariant in
+    let (_, so_far, one, two) = c.loop-rest.invariant in
     let next : IsEntryOfLine r.version (births_read r) text (Some e) =
     subst (IsEntryOfLine r.version (births_read r) text) c.in-Some-2.is c.in_ok-entry.ensures in
     let short = shorter rest text after c.in-Some-split_first.ensures in
@@ -136,8 +136,8 @@ loop-rest-preserved c =
       c.in_ok-add.ensures.reader,
       subst (λ (w : Version). Begun bytes w c.add.new.self.ledger.journal.entries after)
           (sym c.in_ok-add.ensures.version)
-          (begun_on bytes r.version r.ledger.journal.entries rest begun e text after c.add.new.self.ledger.journal.entries
-          c.in-Some-split_first.ensures next c.in_ok-add.ensures.added),
+          (begun_on bytes r.version r.ledger.journal.entries rest so_far e text after
+          c.add.new.self.ledger.journal.entries c.in-Some-split_first.ensures next c.in_ok-add.ensures.added),
       omega arith,
       omega arith,
     )
