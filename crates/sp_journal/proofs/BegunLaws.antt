@@ -124,7 +124,8 @@ module _ (bytes : List ℕ) (v : Version) (es : List Entry) (rest : List ℕ) (b
             begun.joined ∙ ap (λ (x : List ℕ). journal_text v (record { entries = es }) ++ x)
             (first_joins 10 rest line after (sym f) ∙ ap (λ (x : List ℕ). x ++ 10 ∷ after) is_line
             ∙ sym (line_is (births es) e after))
-            ∙ sym (append_assoc (journal_text v (record { entries = es })) (entry_text (births es) e ++ codes "\n") after)
+            ∙ sym (append_assoc (journal_text v (record { entries = es }))
+            (entry_text (births es) e ++ codes "\n") after)
             ∙ ap (λ (x : List ℕ). x ++ after) (append_assoc (heading v) (entries_text first_births es)
             (entry_text (births es) e ++ codes "\n")
             ∙ ap (λ (x : List ℕ). heading v ++ x) (sym (entries_last first_births es e)));
