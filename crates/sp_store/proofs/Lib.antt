@@ -2,3 +2,4 @@ mod Ends
 mod Frames
 mod Places
 mod OneCellPieces
+mod Sorting

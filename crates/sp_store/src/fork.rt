@@ -1,6 +1,7 @@
 //! What a fork makes ready before it changes anything.
 
 ghost use Rattle.std.specs.Prelude.{◌≡◌, ◌+◌, ◌<◌, IfOk, OnOk};
+ghost use Rattle.std.specs.List.Sorted.{IsPermutation};
 ghost use Rattle.std.specs.FinMap as map;
 ghost use Rattle.sp_cell.specs.Map.{Shared, IsPiece, cells_at};
 ghost use Rattle.sp_cell.specs.Fork.{with_shared, with_away, IsLentAt};
@@ -30,15 +31,52 @@ pub(crate) fn above_all(spots: &[Spot]) -> u64
     least
 }
 
-/// Adds every spot, with nothing there yet.
+/// Whether no spot is below the one before it.
+fn rises(spots: &[Spot]) -> bool {
+    let mut last = Spot {
+        frame: 0,
+        variable: 0,
+    };
+    for spot in spots {
+        if *spot < last {
+            return false;
+        }
+        last = *spot;
+    }
+    true
+}
+
+/// The same spots in their order. Those that are added so go to the end of slots, where one in the midst would move all
+/// behind it.
+fn in_order(alloc: Global, spots: &[Spot]) -> Result<Vec<Spot>, Memory>
+    ensures { IfOk result (λ sorted. IsPermutation spots.now sorted.items) }
+{
+    let mut sorted = Vec::from_slice(alloc, spots)?;
+    sorted.sort_unstable();
+    Ok(sorted)
+}
+
+/// Adds every spot, with nothing there yet, one after another.
 #[tactic(auto, using(sp_cell::proofs::Steps::away_step))]
-pub(crate) fn keep_room(slots: &mut Slots, spots: &[Spot]) -> Result<(), Memory>
+fn keep_each(slots: &mut Slots, spots: &[Spot]) -> Result<(), Memory>
     ensures { OnOk result (slots.new ≡ with_away slots.old spots.now) }
 {
     for spot in spots {
         slots.insert(*spot, Entry::Away)?;
     }
     Ok(())
+}
+
+/// Adds every spot, with nothing there yet.
+#[tactic(auto, using(crate::proofs::Sorting::away_permuted))]
+pub(crate) fn keep_room(alloc: Global, slots: &mut Slots, spots: &[Spot]) -> Result<(), Memory>
+    ensures { OnOk result (slots.new ≡ with_away slots.old spots.now) }
+{
+    if rises(spots) {
+        return keep_each(slots, spots);
+    }
+    let sorted = in_order(alloc, spots)?;
+    keep_each(slots, &sorted)
 }
 
 /// One more holder of the cells at the spot. The first one copies the piece, which the parent goes on to own.
@@ -60,9 +98,9 @@ fn one_more(alloc: Global, from: &Slots, ready: &mut Slots, spot: Spot) -> Resul
     }
 }
 
-/// Shares the pieces at the spots.
+/// Shares the pieces at the spots, one after another.
 #[tactic(auto, using(sp_cell::proofs::Steps::lent_step, sp_cell::proofs::Steps::lent_lent))]
-pub(crate) fn lend(
+fn lend_each(
     alloc: Global,
     from: &Slots,
     ready: &mut Slots,
@@ -80,4 +118,26 @@ pub(crate) fn lend(
         to.insert(*spot, entry)?;
     }
     Ok(())
+}
+
+/// Shares the pieces at the spots.
+#[tactic(auto, using(crate::proofs::Sorting::lent_permuted, crate::proofs::Sorting::pieces_permuted))]
+pub(crate) fn lend(
+    alloc: Global,
+    from: &Slots,
+    ready: &mut Slots,
+    to: &mut Slots,
+    spots: &[Spot],
+) -> Result<(), Memory>
+    requires pieces { PieceAtEach from.now spots.now }
+    requires lent { IsLent from.now ready.old }
+    ensures to { OnOk result (to.new ≡ with_shared from.now spots.now to.old) }
+    ensures ready { OnOk result (ready.new ≡ with_shared from.now spots.now ready.old) }
+    ensures lent { OnOk result (IsLent from.now ready.new) }
+{
+    if rises(spots) {
+        return lend_each(alloc, from, ready, to, spots);
+    }
+    let sorted = in_order(alloc, spots)?;
+    lend_each(alloc, from, ready, to, &sorted)
 }

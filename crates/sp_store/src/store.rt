@@ -323,7 +323,7 @@ impl Store {
         ensures lent { OnOk result (IsLent from.now ready.new) }
     {
         let mut slots = Slots::new(alloc);
-        fork::keep_room(&mut slots, handing.moved.items())?;
+        fork::keep_room(alloc, &mut slots, handing.moved.items())?;
         fork::lend(alloc, from, ready, &mut slots, handing.shared.items())?;
         if let Some((variable, value)) = handing.index {
             let moved = fork::above_all(handing.moved.items());
