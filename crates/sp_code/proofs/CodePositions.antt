@@ -121,17 +121,23 @@ module _ (p : Program) (moves shares : Stmt → List ℕ) (all : Parts) (callabl
     h
         ∙ ap (λ (o : Option ℕ). Some (i.Deref (or_none o) (slot p x))) f.1,
   )
-  role_stands sc q x v role.Index f h = (f.0, f.1, h ∙ ap (λ (o : Option ℕ). Some (i.Addr (or_none o) 0)) f.1, f.3)
+  role_stands sc q x v role.Index (up, found, _, is_ordinal) h = (
+    up,
+    found,
+    h
+        ∙ ap (λ (o : Option ℕ). Some (i.Addr (or_none o) 0)) found,
+    is_ordinal,
+  )
   role_stands sc q x v role.Answer f h = (f.0, f.1, h ∙ ap (λ (o : Option ℕ). Some (i.Addr (or_none o) (slot p x))) f.1)
 
   addr_stands : (sc : List Scope) (q x k : ℕ) → VarAt p moves shares AnyInstr AnyTable AnyText callable sc q x k
       → slice_get all.instrs q ≡ Some (addr_code p sc x)
       → VarAt p moves shares (CodeAt all) (HasFork all) (HasWords all) callable sc q x k
-  addr_stands sc q x k f h = (
-    f.0,
-    f.1,
-    f.2,
-    role_stands sc q x f.0 f.0.role f.3 (h ∙ ap (λ (o : Option Variable). Some (addr_of sc x (slot p x) o)) f.1),
+  addr_stands sc q x k (v, found, same_type, by_role) h = (
+    v,
+    found,
+    same_type,
+    role_stands sc q x v v.role by_role (h ∙ ap (λ (o : Option Variable). Some (addr_of sc x (slot p x) o)) found),
   )
 
   read_stands : (q k : ℕ) (z : Sort) → ReadAt p moves shares AnyInstr AnyTable AnyText callable q k z
@@ -201,30 +207,30 @@ module _ (p : Program) (moves shares : Stmt → List ℕ) (all : Parts) (callabl
       f.2,
       unary_stands (after_value q a) op (has_back all.instrs q _ (value_code p sc a) _ (value_stop sc q a) h),
     )
-    form_stands sc q k (Binary op a b) f h =
+    form_stands sc q k (Binary op a b) (first, second, _, sorts, is_ordinal) h =
         let g = has_back all.instrs q (after_value q a) (value_code p sc a) _ (value_stop sc q a) h in (
-          value_stands sc q a f.0 (has_front all.instrs q (value_code p sc a) _ h),
-          value_stands sc (after_value q a) b f.1 (has_front all.instrs _ (value_code p sc b) _ g),
+          value_stands sc q a first (has_front all.instrs q (value_code p sc a) _ h),
+          value_stands sc (after_value q a) b second (has_front all.instrs _ (value_code p sc b) _ g),
           (has_back all.instrs _ _ (value_code p sc b) _ (value_stop sc (after_value q a) b) g).0,
-          f.3,
-          f.4,
+          sorts,
+          is_ordinal,
         )
-    form_stands sc q k (Apply g args) f h = (
-      f.0,
-      actuals_stands sc q args f.0.formals f.1 (has_front all.instrs q (actuals_code p sc args) _ h),
-      call_stands sc (after_actuals q args) g f.0 f.2
+    form_stands sc q k (Apply g args) (b, actuals, called, answers, is_ordinal) h = (
+      b,
+      actuals_stands sc q args b.formals actuals (has_front all.instrs q (actuals_code p sc args) _ h),
+      call_stands sc (after_actuals q args) g b called
           (has_back all.instrs q _ (actuals_code p sc args) _ (actuals_stop sc q args) h).0,
-      f.3,
-      f.4,
+      answers,
+      is_ordinal,
     )
-    form_stands sc q k (Standard g a) f h = (
-      f.0,
-      f.1,
-      value_stands sc q a f.2 (has_front all.instrs q (value_code p sc a) _ h),
-      f.3,
-      f.4,
-      standard_stands (after_value q a) g f.0 f.5
-          (subst (λ (o : Option KindOf). Here (after_value q a) (standard_code g o)) f.1
+    form_stands sc q k (Standard g a) (t, found, operand, takes_ordinal, is_ordinal, by_function) h = (
+      t,
+      found,
+      value_stands sc q a operand (has_front all.instrs q (value_code p sc a) _ h),
+      takes_ordinal,
+      is_ordinal,
+      standard_stands (after_value q a) g t by_function
+          (subst (λ (o : Option KindOf). Here (after_value q a) (standard_code g o)) found
           (has_back all.instrs q _ (value_code p sc a) _ (value_stop sc q a) h)),
     )
     form_stands sc q k (AtInput g) f h = (input_stands q g f.0 h.0, f.1)
@@ -232,42 +238,44 @@ module _ (p : Program) (moves shares : Stmt → List ℕ) (all : Parts) (callabl
     pub place_stands : (sc : List Scope) (q : ℕ) (v : Var) (k : ℕ)
         → PlaceAt p moves shares AnyInstr AnyTable AnyText callable sc q v k → Here q (var_code p sc v)
         → PlaceAt p moves shares (CodeAt all) (HasFork all) (HasWords all) callable sc q v k
-    place_stands sc q (Entire x ss) k f h =
-        let e : type_by (slice_get p.variables x) ≡ f.0 = ap type_by f.1.1 ∙ f.1.2 in (
-          f.0,
-          addr_stands sc q x f.0 f.1 h.0,
-          selected_stands sc (q + 1) ss f.0 k f.2 (subst (λ (n : ℕ). Here (q + 1) (selectors_code p sc n ss)) e h.1),
+    place_stands sc q (Entire x ss) k (held, there, selected) h =
+        let (_, found, same_type, _) = there in
+        let e : type_by (slice_get p.variables x) ≡ held = ap type_by found ∙ same_type in (
+          held,
+          addr_stands sc q x held there h.0,
+          selected_stands sc (q + 1) ss held k selected
+              (subst (λ (n : ℕ). Here (q + 1) (selectors_code p sc n ss)) e h.1),
         )
 
     pub selected_stands : (sc : List Scope) (q : ℕ) (ss : Selectors) (k k2 : ℕ)
         → SelectedAt p moves shares AnyInstr AnyTable AnyText callable sc q ss k k2 → Here q (selectors_code p sc k ss)
         → SelectedAt p moves shares (CodeAt all) (HasFork all) (HasWords all) callable sc q ss k k2
     selected_stands sc q Whole k k2 f h = f
-    selected_stands sc q (Select (Index e) rest) k k2 f h =
+    selected_stands sc q (Select (Index e) rest) k k2 (low, high, index, element, found, value, ordinal, _, behind) h =
         let g = has_back all.instrs q (after_value q e) (value_code p sc e) _ (value_stop sc q e) h in
         let w = subst (λ (o : Option KindOf). Here (after_value q e)
-        (index_instr o (size p (element_type k o)) ∷ selectors_code p sc (element_type k o) rest)) f.4 g in (
-          f.0,
-          f.1,
-          f.2,
-          f.3,
-          f.4,
-          value_stands sc q e f.5 (has_front all.instrs q (value_code p sc e) _ h),
-          f.6,
+        (index_instr o (size p (element_type k o)) ∷ selectors_code p sc (element_type k o) rest)) found g in (
+          low,
+          high,
+          index,
+          element,
+          found,
+          value_stands sc q e value (has_front all.instrs q (value_code p sc e) _ h),
+          ordinal,
           w.0,
-          selected_stands sc (after_value q e + 1) rest f.3 k2 f.8 w.1,
+          selected_stands sc (after_value q e + 1) rest element k2 behind w.1,
         )
-    selected_stands sc q (Select (Field g) rest) k k2 f h =
+    selected_stands sc q (Select (Field g) rest) k k2 (fs, name, t, found, has_field, _, behind) h =
         let w = subst (λ (o : Option KindOf). Here q (field_instr p g o ∷ selectors_code p sc (field_type k o g) rest))
-        f.3 h in (
-          f.0,
-          f.1,
-          f.2,
-          f.3,
-          f.4,
+        found h in (
+          fs,
+          name,
+          t,
+          found,
+          has_field,
           w.0,
-          selected_stands sc (q + 1) rest f.2 k2 f.6
-              (subst (λ (n : ℕ). Here (q + 1) (selectors_code p sc n rest)) (ap (second_or k) f.4) w.1),
+          selected_stands sc (q + 1) rest t k2 behind
+              (subst (λ (n : ℕ). Here (q + 1) (selectors_code p sc n rest)) (ap (second_or k) has_field) w.1),
         )
 
     pub actuals_stands : (sc : List Scope) (q : ℕ) (args : Actuals) (xs : List ℕ)
@@ -283,12 +291,12 @@ module _ (p : Program) (moves shares : Stmt → List ℕ) (all : Parts) (callabl
       actuals_stands sc (after_value q e) rest xs f.2
           (has_back all.instrs q _ (value_code p sc e) _ (value_stop sc q e) h),
     )
-    actuals_stands sc q (Pass (ByReference v) rest) (x ∷ xs) f h = (
-      f.0,
-      place_stands sc q v f.0 f.1 (has_front all.instrs q (var_code p sc v) _ h),
-      f.2,
-      f.3,
-      actuals_stands sc (after_var q v) rest xs f.4
+    actuals_stands sc q (Pass (ByReference v) rest) (x ∷ xs) (k, place, is_target, is_formal, others) h = (
+      k,
+      place_stands sc q v k place (has_front all.instrs q (var_code p sc v) _ h),
+      is_target,
+      is_formal,
+      actuals_stands sc (after_var q v) rest xs others
           (has_back all.instrs q _ (var_code p sc v) _ (var_stop sc q v) h),
     )
 
@@ -307,17 +315,18 @@ module _ (p : Program) (moves shares : Stmt → List ℕ) (all : Parts) (callabl
   selected_is : (sc : List Scope) (q : ℕ) (ss : Selectors) (k k2 : ℕ)
       → SelectedAt p moves shares AnyInstr AnyTable AnyText callable sc q ss k k2 → selected_type p k ss ≡ k2
   selected_is sc q Whole k k2 f = f
-  selected_is sc q (Select (Index e) rest) k k2 f =
-      ap (λ (o : Option KindOf). selected_type p (element_type k o) rest) f.4
-      ∙ selected_is sc (after_value q e + 1) rest f.3 k2 f.8
-  selected_is sc q (Select (Field g) rest) k k2 f =
-      ap (λ (o : Option KindOf). selected_type p (field_type k o g) rest) f.3
-      ∙ ap (λ (n : ℕ). selected_type p n rest) (ap (second_or k) f.4) ∙ selected_is sc (q + 1) rest f.2 k2 f.6
+  selected_is sc q (Select (Index e) rest) k k2 (_, _, _, element, found, _, _, _, behind) =
+      ap (λ (o : Option KindOf). selected_type p (element_type k o) rest) found
+      ∙ selected_is sc (after_value q e + 1) rest element k2 behind
+  selected_is sc q (Select (Field g) rest) k k2 (_, _, t, found, has_field, _, behind) =
+      ap (λ (o : Option KindOf). selected_type p (field_type k o g) rest) found
+      ∙ ap (λ (n : ℕ). selected_type p n rest) (ap (second_or k) has_field) ∙ selected_is sc (q + 1) rest t k2 behind
 
   type_is : (sc : List Scope) (q : ℕ) (v : Var) (k : ℕ)
       → PlaceAt p moves shares AnyInstr AnyTable AnyText callable sc q v k → type_of p v ≡ k
-  type_is sc q (Entire x ss) k f = ap (λ (n : ℕ). selected_type p n ss) (ap type_by f.1.1 ∙ f.1.2)
-      ∙ selected_is sc (q + 1) ss f.0 k f.2
+  type_is sc q (Entire x ss) k (held, (_, found, same_type, _), selected) =
+      ap (λ (n : ℕ). selected_type p n ss) (ap type_by found ∙ same_type)
+      ∙ selected_is sc (q + 1) ss held k selected
 
   -- ---- statements
 
@@ -378,13 +387,13 @@ module _ (p : Program) (moves shares : Stmt → List ℕ) (all : Parts) (callabl
       right_stands sc (after_var q v) k (sort p k) form f.2
           (has_back all.instrs q _ (var_code p sc v) _ (var_stop sc q v) h),
     )
-    stands free sc t n q (Call g args) f h a w = (
-      f.0,
-      actuals_stands sc q args f.0.formals f.1 (has_front all.instrs q (actuals_code p sc args) _ h),
-      call_stands sc (after_actuals q args) g f.0 f.2
+    stands free sc t n q (Call g args) (b, actuals, called, no_answer, is_callable) h a w = (
+      b,
+      actuals_stands sc q args b.formals actuals (has_front all.instrs q (actuals_code p sc args) _ h),
+      call_stands sc (after_actuals q args) g b called
           (has_back all.instrs q _ (actuals_code p sc args) _ (actuals_stop sc q args) h).0,
-      f.3,
-      f.4,
+      no_answer,
+      is_callable,
     )
     stands free sc t n q (Sequence ss) f h a w = all_stand free sc t n q ss f h a w
     stands free sc t n q (If e s) f h a w =
@@ -394,30 +403,30 @@ module _ (p : Program) (moves shares : Stmt → List ℕ) (all : Parts) (callabl
           g.0,
           stands free sc t n (u + 1) s f.2 g.1 a w,
         )
-    stands free sc t n q (IfElse e s d) f h a w =
+    stands free sc t n q (IfElse e s d) (condition, _, first, _, second) h a w =
         let u = after_value q e in
         let j = after_statement p (u + 1) s in
         let g = has_back all.instrs q u (value_code p sc e) _ (value_stop sc q e) h in
         let r = has_back all.instrs (u + 1) j (code p sc t n (u + 1) s) _ (code_stop sc t n (u + 1) s) g.1 in (
-          ordinal_stands sc q e f.0 (has_front all.instrs q (value_code p sc e) _ h),
+          ordinal_stands sc q e condition (has_front all.instrs q (value_code p sc e) _ h),
           g.0,
-          stands free sc t n (u + 1) s f.2 (has_front all.instrs (u + 1) (code p sc t n (u + 1) s) _ g.1)
+          stands free sc t n (u + 1) s first (has_front all.instrs (u + 1) (code p sc t n (u + 1) s) _ g.1)
               (has_front all.forks t (tables p moves shares (u + 1) s) _ a) (has_front all.texts n (texts_of s) _ w),
           r.0,
-          stands free sc (t + tables_in s) (n + texts_in s) (j + 1) d f.4 r.1
+          stands free sc (t + tables_in s) (n + texts_in s) (j + 1) d second r.1
               (has_back all.forks t _ (tables p moves shares (u + 1) s) _ (tables_stop t (u + 1) s) a)
               (has_back all.texts n _ (texts_of s) _ (texts_stop n s) w),
         )
-    stands free sc t n q (While e s) f h a w =
+    stands free sc t n q (While e s) (condition, _, _, body, _) h a w =
         let u = after_value q e in
         let j = after_statement p (u + 1 + 1) s in
-        let g = has_back all.instrs q u (value_code p sc e) _ (value_stop sc q e) h in (
-          ordinal_stands sc q e f.0 (has_front all.instrs q (value_code p sc e) _ h),
-          g.0,
-          g.1.0,
-          stands free sc t n (u + 1 + 1) s f.3 (has_front all.instrs (u + 1 + 1) (code p sc t n (u + 1 + 1) s) _ g.1.1)
+        let (leaves, (ticks, turn)) = has_back all.instrs q u (value_code p sc e) _ (value_stop sc q e) h in (
+          ordinal_stands sc q e condition (has_front all.instrs q (value_code p sc e) _ h),
+          leaves,
+          ticks,
+          stands free sc t n (u + 1 + 1) s body (has_front all.instrs (u + 1 + 1) (code p sc t n (u + 1 + 1) s) _ turn)
               a w,
-          (has_back all.instrs (u + 1 + 1) j (code p sc t n (u + 1 + 1) s) _ (code_stop sc t n (u + 1 + 1) s) g.1.1).0,
+          (has_back all.instrs (u + 1 + 1) j (code p sc t n (u + 1 + 1) s) _ (code_stop sc t n (u + 1 + 1) s) turn).0,
         )
     stands free sc t n q (Repeat s e) f h a w =
         let u = after_statement p (q + 1) s in
@@ -427,80 +436,80 @@ module _ (p : Program) (moves shares : Stmt → List ℕ) (all : Parts) (callabl
           ordinal_stands sc u e f.2 (has_front all.instrs u (value_code p sc e) _ g),
           (has_back all.instrs u _ (value_code p sc e) _ (value_stop sc u e) g).0,
         )
-    stands free sc t n q (For x from down to s) f h a w =
+    stands free sc t n q (For x from down to s) (first, last, (is_for, _, _, body, _)) h a w =
         let m = after_value q from in
         let u = after_value m to in
         let j = after_statement p (u + 1 + 1) s in
         let g = has_back all.instrs q m (value_code p sc from) _ (value_stop sc q from) h in
-        let r = has_back all.instrs m u (value_code p sc to) _ (value_stop sc m to) g in (
-          ordinal_stands sc q from f.0 (has_front all.instrs q (value_code p sc from) _ h),
-          ordinal_stands sc m to f.1 (has_front all.instrs m (value_code p sc to) _ g),
+        let (begins, (ticks, turn)) = has_back all.instrs m u (value_code p sc to) _ (value_stop sc m to) g in (
+          ordinal_stands sc q from first (has_front all.instrs q (value_code p sc from) _ h),
+          ordinal_stands sc m to last (has_front all.instrs m (value_code p sc to) _ g),
           (
-            f.2.0,
-            r.0,
-            r.1.0,
-            stands free sc t n (u + 1 + 1) s f.2.3
-                (has_front all.instrs (u + 1 + 1) (code p sc t n (u + 1 + 1) s) _ r.1.1) a w,
+            is_for,
+            begins,
+            ticks,
+            stands free sc t n (u + 1 + 1) s body
+                (has_front all.instrs (u + 1 + 1) (code p sc t n (u + 1 + 1) s) _ turn) a w,
             (has_back all.instrs (u + 1 + 1) j (code p sc t n (u + 1 + 1) s) _ (code_stop sc t n (u + 1 + 1) s)
-                r.1.1).0,
+                turn).0,
           ),
         )
-    stands free sc t n q (Case e arms) f h a w =
+    stands free sc t n q (Case e arms) (condition, _, _, chosen) h a w =
         let u = after_value q e in
         let b = after_tests u arms in
         let g = has_back all.instrs q u (value_code p sc e) _ (value_stop sc q e) h in
         let r = has_back all.instrs u b (tests_code p arms (b + 1)) _ (tests_stop u arms (b + 1)) g in (
-          ordinal_stands sc q e f.0 (has_front all.instrs q (value_code p sc e) _ h),
+          ordinal_stands sc q e condition (has_front all.instrs q (value_code p sc e) _ h),
           tests_stand u arms (b + 1) (has_front all.instrs u (tests_code p arms (b + 1)) _ g),
           r.0,
-          arms_stand free sc t n (b + 1) arms (after_arms p (b + 1) arms) f.3 r.1 a w,
+          arms_stand free sc t n (b + 1) arms (after_arms p (b + 1) arms) chosen r.1 a w,
         )
-    stands free sc t n q (Parallel ss) f h a w =
-        (t, a.0, h.0, h.1.0, children_stand free sc (t + 1) n (q + 1 + 1) ss f.4 h.1.1 a.1 w, f.5)
-    stands free sc t n q (Forall x from to s) f h a w =
+    stands free sc t n q (Parallel ss) (_, _, _, _, children, is_free) (forks, (jumps, below)) a w =
+        (t, a.0, forks, jumps, children_stand free sc (t + 1) n (q + 1 + 1) ss children below a.1 w, is_free)
+    stands free sc t n q (Forall x from to s) (_, _, first, last, _, _, body, _, is_free) h a w =
         let m = after_value q from in
         let b = after_value m to in
         let j = after_statement p (b + 1 + 1) s in
         let g = has_back all.instrs q m (value_code p sc from) _ (value_stop sc q from) h in
-        let r = has_back all.instrs m b (value_code p sc to) _ (value_stop sc m to) g in (
+        let (forks, (jumps, child)) = has_back all.instrs m b (value_code p sc to) _ (value_stop sc m to) g in (
           t,
           a.0,
-          ordinal_stands sc q from f.2 (has_front all.instrs q (value_code p sc from) _ h),
-          ordinal_stands sc m to f.3 (has_front all.instrs m (value_code p sc to) _ g),
-          r.0,
-          r.1.0,
-          stands free (OfIndex x ∷ sc) (t + 1) n (b + 1 + 1) s f.6
-              (has_front all.instrs (b + 1 + 1) (code p (OfIndex x ∷ sc) (t + 1) n (b + 1 + 1) s) _ r.1.1) a.1 w,
+          ordinal_stands sc q from first (has_front all.instrs q (value_code p sc from) _ h),
+          ordinal_stands sc m to last (has_front all.instrs m (value_code p sc to) _ g),
+          forks,
+          jumps,
+          stands free (OfIndex x ∷ sc) (t + 1) n (b + 1 + 1) s body
+              (has_front all.instrs (b + 1 + 1) (code p (OfIndex x ∷ sc) (t + 1) n (b + 1 + 1) s) _ child) a.1 w,
           (has_back all.instrs (b + 1 + 1) j (code p (OfIndex x ∷ sc) (t + 1) n (b + 1 + 1) s) _
-              (code_stop (OfIndex x ∷ sc) (t + 1) n (b + 1 + 1) s) r.1.1).0,
-          f.8,
+              (code_stop (OfIndex x ∷ sc) (t + 1) n (b + 1 + 1) s) child).0,
+          is_free,
         )
     stands free sc t n q (Assume e) f h a w = (
       ordinal_stands sc q e f.0 (has_front all.instrs q (value_code p sc e) _ h),
       (has_back all.instrs q _ (value_code p sc e) _ (value_stop sc q e) h).0,
     )
-    stands free sc t n q (ReadValue v) f h a w =
+    stands free sc t n q (ReadValue v) (read_type, read_kind, place, is_target, found, reads) h a w =
         let k = (has_back all.instrs q (after_var q v) (var_code p sc v) _ (var_stop sc q v) h).0
-        ∙ ap (λ (m : ℕ). Some (reading_instr (kind_at p m))) (type_is sc q v f.0 f.2)
-        ∙ ap (λ (o : Option KindOf). Some (reading_instr o)) f.4 in (
-          f.0,
-          f.1,
-          place_stands sc q v f.0 f.2 (has_front all.instrs q (var_code p sc v) _ h),
-          f.3,
-          f.4,
-          reads_stands (after_var q v) f.1 f.5 k,
+        ∙ ap (λ (m : ℕ). Some (reading_instr (kind_at p m))) (type_is sc q v read_type place)
+        ∙ ap (λ (o : Option KindOf). Some (reading_instr o)) found in (
+          read_type,
+          read_kind,
+          place_stands sc q v read_type place (has_front all.instrs q (var_code p sc v) _ h),
+          is_target,
+          found,
+          reads_stands (after_var q v) read_kind reads k,
         )
     stands free sc t n q ReadLine f h a w = h.0
-    stands free sc t n q (WriteValue e x) f h a w =
+    stands free sc t n q (WriteValue e x) (written_kind, value, found, width, _, is_written) h a w =
         let u = after_value q e in
         let g = has_back all.instrs q u (value_code p sc e) _ (value_stop sc q e) h in (
-          f.0,
-          ordinal_stands sc q e f.1 (has_front all.instrs q (value_code p sc e) _ h),
-          f.2,
-          width_stands sc u x f.3 (has_front all.instrs u (width_code p sc x) _ g),
+          written_kind,
+          ordinal_stands sc q e value (has_front all.instrs q (value_code p sc e) _ h),
+          found,
+          width_stands sc u x width (has_front all.instrs u (width_code p sc x) _ g),
           (has_back all.instrs u _ (width_code p sc x) _ (width_stop sc u x) g).0
-              ∙ ap (λ (o : Option KindOf). Some (write_instr o (is_given x))) f.2,
-          f.5,
+              ∙ ap (λ (o : Option KindOf). Some (write_instr o (is_given x))) found,
+          is_written,
         )
     stands free sc t n q (WriteText s x) f h a w = (
       n,
@@ -509,34 +518,34 @@ module _ (p : Program) (moves shares : Stmt → List ℕ) (all : Parts) (callabl
       (has_back all.instrs q _ (width_code p sc x) _ (width_stop sc q x) h).0,
     )
     stands free sc t n q WriteLine f h a w = h.0
-    stands free sc t n q (Open v) f h a w = (
-      f.0,
-      place_stands sc q v f.0 f.1 (has_front all.instrs q (var_code p sc v) _ h),
-      f.2,
-      f.3,
+    stands free sc t n q (Open v) (opened_type, place, is_target, is_channel, _, is_free) h a w = (
+      opened_type,
+      place_stands sc q v opened_type place (has_front all.instrs q (var_code p sc v) _ h),
+      is_target,
+      is_channel,
       (has_back all.instrs q _ (var_code p sc v) _ (var_stop sc q v) h).0,
-      f.5,
+      is_free,
     )
-    stands free sc t n q (Send c e) f h a w =
+    stands free sc t n q (Send c e) (channel, is_channel, message, _, is_free) h a w =
         let u = after_value q c in
         let g = has_back all.instrs q u (value_code p sc c) _ (value_stop sc q c) h in (
-          value_stands sc q c f.0 (has_front all.instrs q (value_code p sc c) _ h),
-          f.1,
-          value_stands sc u e f.2 (has_front all.instrs u (value_code p sc e) _ g),
+          value_stands sc q c channel (has_front all.instrs q (value_code p sc c) _ h),
+          is_channel,
+          value_stands sc u e message (has_front all.instrs u (value_code p sc e) _ g),
           (has_back all.instrs u _ (value_code p sc e) _ (value_stop sc u e) g).0,
-          f.4,
+          is_free,
         )
-    stands free sc t n q (Receive c v) f h a w =
+    stands free sc t n q (Receive c v) (received_type, channel, is_channel, place, is_target, _, is_free) h a w =
         let u = after_value q c in
         let g = has_back all.instrs q u (value_code p sc c) _ (value_stop sc q c) h in (
-          f.0,
-          value_stands sc q c f.1 (has_front all.instrs q (value_code p sc c) _ h),
-          f.2,
-          place_stands sc u v f.0 f.3 (has_front all.instrs u (var_code p sc v) _ g),
-          f.4,
+          received_type,
+          value_stands sc q c channel (has_front all.instrs q (value_code p sc c) _ h),
+          is_channel,
+          place_stands sc u v received_type place (has_front all.instrs u (var_code p sc v) _ g),
+          is_target,
           (has_back all.instrs u _ (var_code p sc v) _ (var_stop sc u v) g).0
-              ∙ ap (λ (m : ℕ). Some (i.Receive m)) (type_is sc u v f.0 f.3),
-          f.6,
+              ∙ ap (λ (m : ℕ). Some (i.Receive m)) (type_is sc u v received_type place),
+          is_free,
         )
 
     pub all_stand : (free : Bool) (sc : List Scope) (t n q : ℕ) (ss : Stmts)

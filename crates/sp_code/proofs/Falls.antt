@@ -340,13 +340,14 @@ module _ {M : Type 0} (ops : Ops M) (code : Parts) (budget : M → ℕ) (law : H
   instruction_down (Some (i.Succ high)) pc st n p h = one_down pc st n (successor high) h.0
   instruction_down (Some (i.Pred low)) pc st n p h = one_down pc st n (predecessor low) h.0
   instruction_down (Some (i.Jump to)) pc st n p h = on_to pc st n to st n h.0 (omega arith) (same_budget pc st n)
-  instruction_down (Some (i.Jumpf to)) pc st n p h =
+  instruction_down (Some (i.Jumpf to)) pc st n p (at_to, (at_next, _)) =
       falls_number left _ r st _ (λ v st1 e. falls_if left _ r (not (int_le v (pos 0))) _ _
-      (on_to pc st n (pc + 1) st1 n h.1.0 e (same_budget pc st n)) (on_to pc st n to st1 n h.0 e (same_budget pc st n)))
-  instruction_down (Some (i.Casej v to)) pc st n p h =
+      (on_to pc st n (pc + 1) st1 n at_next e (same_budget pc st n))
+      (on_to pc st n to st1 n at_to e (same_budget pc st n)))
+  instruction_down (Some (i.Casej v to)) pc st n p (at_to, (at_next, _)) =
       falls_number left _ r st _ (λ u st1 e. falls_if left _ r (same_ordinal u v) _ _
-      (on_to pc st n to st1 n h.0 e (same_budget pc st n))
-      (on_to pc st n (pc + 1) (Number u ∷ st1) n h.1.0 e (same_budget pc st n)))
+      (on_to pc st n to st1 n at_to e (same_budget pc st n))
+      (on_to pc st n (pc + 1) (Number u ∷ st1) n at_next e (same_budget pc st n)))
   instruction_down (Some i.Nocase) pc st n p h = tt
   instruction_down (Some i.Tick) pc st n p h =
       falls_then left _ r (ops.tick n) _ (λ m k. paced_down pc st n (pc + 1) st m
@@ -354,10 +355,14 @@ module _ {M : Type 0} (ops : Ops M) (code : Parts) (budget : M → ℕ) (law : H
   instruction_down (Some i.Assume) pc st n p h =
       falls_number left _ r st _ (λ v st1 e. falls_if left _ r (not (int_le v (pos 0))) _ _
       (on_to pc st n (pc + 1) st1 n h.0 e (same_budget pc st n)) tt)
-  instruction_down (Some (i.Forup var to)) pc st n p h = begins_down pc st n false var to h.0 h.1.0
-  instruction_down (Some (i.Fordown var to)) pc st n p h = begins_down pc st n true var to h.0 h.1.0
-  instruction_down (Some (i.Nextup var to)) pc st n p h = ends_down pc st n false var to h.0 h.1.0
-  instruction_down (Some (i.Nextdown var to)) pc st n p h = ends_down pc st n true var to h.0 h.1.0
+  instruction_down (Some (i.Forup var to)) pc st n p (at_to, (at_next, _)) =
+      begins_down pc st n false var to at_to at_next
+  instruction_down (Some (i.Fordown var to)) pc st n p (at_to, (at_next, _)) =
+      begins_down pc st n true var to at_to at_next
+  instruction_down (Some (i.Nextup var to)) pc st n p (at_to, (at_next, _)) =
+      ends_down pc st n false var to at_to at_next
+  instruction_down (Some (i.Nextdown var to)) pc st n p (at_to, (at_next, _)) =
+      ends_down pc st n true var to at_to at_next
   instruction_down (Some (i.Call b up)) pc st n p h =
       falls_there left _ r (layout_of code.layouts b) _ (λ l. called_down pc st n l up)
   instruction_down (Some i.Return) pc st n p h = returned_down pc st n p

@@ -14,23 +14,23 @@ module _ {S : Type 0} (stores : Stores S) (g : CodeRun) where
 
   pub enters_same : (s : System S) (q : ℕ) (e f : Event) (t u : System S) → EntryLeads stores g s q e t
       → EntryLeads stores g s q f u → t ≡ u
-  enters_same s q e f t u h k =
-      let w : k.0 ≡ h.0 = same_runs k.0 h.0 (sym k.1 ∙ h.1) in
-      let turn : IsTurn (memory stores g) g.code h.0 k.2 =
-      subst (λ (c : Config (Memory S)). IsTurn (memory stores g) g.code c k.2) w k.3 in
-      h.5 ∙ ap (λ (x : Turn (Memory S)). system_after_turn stores g q x s)
-      (turn_same (memory stores g) g.code h.0 h.2 k.2 h.3 turn)
-      ∙ sym k.5
+  enters_same s q e f t u (runs, works, taken, is_turn, _, leads) (other, works_too, taken_too, is_too, _, leads_too) =
+      let w : other ≡ runs = same_runs other runs (sym works_too ∙ works) in
+      let turn : IsTurn (memory stores g) g.code runs taken_too =
+      subst (λ (c : Config (Memory S)). IsTurn (memory stores g) g.code c taken_too) w is_too in
+      leads ∙ ap (λ (x : Turn (Memory S)). system_after_turn stores g q x s)
+      (turn_same (memory stores g) g.code runs taken taken_too is_turn turn)
+      ∙ sym leads_too
 
   -- a turn makes one event
   pub event_same : (s : System S) (q : ℕ) (e f : Event) (t u : System S) → EntryLeads stores g s q e t
       → EntryLeads stores g s q f u → e ≡ f
-  event_same s q e f t u h k =
-      let w : k.0 ≡ h.0 = same_runs k.0 h.0 (sym k.1 ∙ h.1) in
-      let turn : IsTurn (memory stores g) g.code h.0 k.2 =
-      subst (λ (c : Config (Memory S)). IsTurn (memory stores g) g.code c k.2) w k.3 in
-      sym h.4 ∙ ap (λ (x : Turn (Memory S)). event_of g.limits s x)
-      (turn_same (memory stores g) g.code h.0 h.2 k.2 h.3 turn) ∙ k.4
+  event_same s q e f t u (runs, works, taken, is_turn, tells, _) (other, works_too, taken_too, is_too, tells_too, _) =
+      let w : other ≡ runs = same_runs other runs (sym works_too ∙ works) in
+      let turn : IsTurn (memory stores g) g.code runs taken_too =
+      subst (λ (c : Config (Memory S)). IsTurn (memory stores g) g.code c taken_too) w is_too in
+      sym tells ∙ ap (λ (x : Turn (Memory S)). event_of g.limits s x)
+      (turn_same (memory stores g) g.code runs taken taken_too is_turn turn) ∙ tells_too
 
   pub leads_same : (s : System S) (es : List Entry) (t u : System S) → EntriesLead stores g s es t
       → EntriesLead stores g s es u
