@@ -1,7 +1,8 @@
 -- All of this belongs to what the program promises (docs/promise.txt).
 -- How many instructions the code of each part of a tree has: the table of lengths, which the limit of code is said by.
 -- Laws promise that code as it is written has these lengths, so a tree too large is refused before code is made.
-use Rattle.std.specs.Prelude.{ℕ, ◌+◌, List, [], ◌∷◌, Option, Some, None, length}
+use Rattle.std.specs.Option.{option_map_or}
+use Rattle.std.specs.Prelude.{ℕ, ◌+◌, List, [], ◌∷◌, Option, length}
 use Rattle.sp_tree.specs.declared.operators.UnaryOp.{UnaryOp}
 use Rattle.sp_tree.specs.declared.operators.UnaryOp.TheVariants as unary
 use Rattle.sp_tree.specs.declared.operators.StandardFn.{StandardFn}
@@ -11,13 +12,12 @@ use Rattle.sp_tree.specs.Plain.{Entire, Index, Field, Selectors, Whole, Select, 
 use Rattle.sp_tree.specs.Plain.{Pass, Program, Block, Stmt, Empty, Assign, Call, Sequence, If, IfElse, While, Repeat}
 use Rattle.sp_tree.specs.Plain.{For, Case, Parallel, Forall, Assume, ReadValue, ReadLine, WriteValue, WriteText}
 use Rattle.sp_tree.specs.Plain.{WriteLine, Open, Send, Receive, Stmts, No, And, On, Arms, NoArm, Or}
-use Rattle.sp_code.specs.Scopes.{Sort, Ordinals, Channels, Many, NoSort, sort}
+use Rattle.sp_code.specs.Scopes.{Sort, Many, sort}
 
 -- a sign `+`: 0; every other operator: 1
 abbrev pub unary_length : UnaryOp → ℕ
 unary_length unary.Plus = 0
-unary_length unary.Minus = 1
-unary_length unary.Not = 1
+unary_length _ = 1
 
 -- `ord`: 0; every other standard function of an operand: 1
 abbrev pub standard_length : StandardFn → ℕ
@@ -55,21 +55,12 @@ abbrev mutual
   actuals_length (Pass (ByReference v) rest) = var_length v + actuals_length rest
 
 abbrev pub width_length : Option Expr → ℕ
-width_length None = 0
-width_length (Some e) = value_length e
+width_length e = option_map_or value_length e 0
 
 -- a variable read as the right side of an assignment of an array or record: its address alone
 abbrev pub right_length : Sort → ExprForm → ℕ
-right_length Ordinals form = form_length form
-right_length Channels form = form_length form
 right_length Many (Read v) = var_length v
-right_length Many (Number n) = form_length (Number n)
-right_length Many (Unary op a) = form_length (Unary op a)
-right_length Many (Binary op a b) = form_length (Binary op a b)
-right_length Many (Apply f args) = form_length (Apply f args)
-right_length Many (Standard f a) = form_length (Standard f a)
-right_length Many (AtInput f) = form_length (AtInput f)
-right_length NoSort form = form_length form
+right_length _ form = form_length form
 
 -- 1 for each constant of a case
 abbrev pub tests_length : Arms → ℕ

@@ -122,23 +122,15 @@ values_in first last = min (nat_abs ((last -ℤ first) +ℤ pos 1)) 184467440737
 abbrev pub fits_formal : Formal → Entry → Bool
 fits_formal (formal.Value n) (Number v) = n == 1
 fits_formal (formal.Value n) (Chan c) = n == 1
-fits_formal (formal.Value n) (Pointer a) = false
 fits_formal (formal.Value n) (Cells cs) = length cs == n
-fits_formal (formal.Value n) (Link r) = false
-fits_formal (formal.Value n) (Reply r) = false
-fits_formal (formal.Reference n) (Number v) = false
-fits_formal (formal.Reference n) (Chan c) = false
 fits_formal (formal.Reference n) (Pointer a) = true
-fits_formal (formal.Reference n) (Cells cs) = false
-fits_formal (formal.Reference n) (Link r) = false
-fits_formal (formal.Reference n) (Reply r) = false
+fits_formal _ _ = false
 
 -- the entries are of the kinds of the formals
 abbrev pub fit_formals : List Formal → List Entry → Bool
 fit_formals [] [] = true
-fit_formals [] (e ∷ es) = false
-fit_formals (f ∷ fs) [] = false
 fit_formals (f ∷ fs) (e ∷ es) = fits_formal f e && fit_formals fs es
+fit_formals _ _ = false
 
 -- the layout of a block
 abbrev pub layout_of : List Layout → ℕ → Option Layout
@@ -213,9 +205,8 @@ module _ {M : Type 0} where
 
   -- on with the channel in a cell, or F5
   abbrev pub channel_in : Cell → (ℕ → StepResult M) → StepResult M
-  channel_in cell.Undefined go = Fails fault.F5
-  channel_in (cell.Ordinal v) go = Fails fault.F5
   channel_in (cell.Channel c) go = go c
+  channel_in _ _ = Fails fault.F5
 
 module _ {M : Type 0} (ops : Ops M) (code : Parts) where
   -- what becomes of one operand, and of two; and whether something holds

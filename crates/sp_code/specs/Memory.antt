@@ -1,6 +1,7 @@
 -- All of this belongs to what the program promises (docs/promise.txt).
 -- The memory of a process: its frames and its counts beside its store. It is the memory with which the machine's
 -- definition runs; the store is left open, for the plain maps of PlainStore.antt.
+use Rattle.std.specs.Prelude.{option_map}
 use Rattle.std.specs.Prelude.{ℕ, zero, suc, ◌+◌, ◌-◌, pos, nat_abs, List, [], ◌∷◌, Option, Some, None, Bool, true}
 use Rattle.std.specs.Prelude.{false, ◌&&◌, if◌then◌else◌, nat_lt, nat_le, length, drop, sum, slice_set, slice_index_or}
 use Rattle.sp_base.specs.declared.fault.Fault.TheVariants as fault
@@ -123,8 +124,7 @@ cells_of_home ls (OfIndex x) = 0
 
 -- the result stands behind the parameters
 abbrev pub answer_by : ℕ → Option Layout → Option Address
-answer_by number None = None
-answer_by number (Some l) = Some (cell_at number (length l.formals))
+answer_by number l = option_map (λ l. cell_at number (length l.formals)) l
 
 abbrev pub answer_of : List Layout → ℕ → Home → Option Address
 answer_of ls number (OfBlock b) = answer_by number (layout_of ls b)

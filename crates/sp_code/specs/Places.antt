@@ -1,7 +1,8 @@
 -- All of this belongs to what the program promises (docs/promise.txt).
 -- Where the code of each part of a tree ends, from where it begins. Jumps and fork tables are said by it, here and in
 -- the generator's contracts.
-use Rattle.std.specs.Prelude.{ℕ, ◌+◌, ℤ, List, [], ◌∷◌, Option, Some, None}
+use Rattle.std.specs.Option.{option_map_or}
+use Rattle.std.specs.Prelude.{ℕ, ◌+◌, ℤ, List, [], ◌∷◌, Option}
 use Rattle.sp_tree.specs.declared.operators.UnaryOp.{UnaryOp}
 use Rattle.sp_tree.specs.declared.operators.UnaryOp.TheVariants as unary
 use Rattle.sp_tree.specs.declared.operators.StandardFn.{StandardFn}
@@ -11,14 +12,13 @@ use Rattle.sp_tree.specs.Plain.{Entire, Index, Field, Selectors, Whole, Select, 
 use Rattle.sp_tree.specs.Plain.{Pass, Program, Block, Stmt, Empty, Assign, Call, Sequence, If, IfElse, While, Repeat}
 use Rattle.sp_tree.specs.Plain.{For, Case, Parallel, Forall, Assume, ReadValue, ReadLine, WriteValue, WriteText}
 use Rattle.sp_tree.specs.Plain.{WriteLine, Open, Send, Receive, Stmts, No, And, On, Arms, NoArm, Or}
-use Rattle.sp_code.specs.Scopes.{Sort, Ordinals, Channels, Many, NoSort, sort}
+use Rattle.sp_code.specs.Scopes.{Sort, Many, sort}
 
 -- the place behind the code of a part that stands at q
 
 abbrev pub after_unary : UnaryOp → ℕ → ℕ
 after_unary unary.Plus q = q
-after_unary unary.Minus q = q + 1
-after_unary unary.Not q = q + 1
+after_unary _ q = q + 1
 
 abbrev pub after_standard : StandardFn → ℕ → ℕ
 after_standard standard.Ord q = q
@@ -55,21 +55,12 @@ abbrev mutual
   after_actuals q (Pass (ByReference v) rest) = after_actuals (after_var q v) rest
 
 abbrev pub after_width : ℕ → Option Expr → ℕ
-after_width q None = q
-after_width q (Some e) = after_value q e
+after_width q e = option_map_or (after_value q) e q
 
 -- the right side of an assignment: of an array or record it is an address alone
 abbrev pub after_right : ℕ → Sort → ExprForm → ℕ
-after_right q Ordinals form = after_form q form
-after_right q Channels form = after_form q form
 after_right q Many (Read v) = after_var q v
-after_right q Many (Number n) = after_form q (Number n)
-after_right q Many (Unary op a) = after_form q (Unary op a)
-after_right q Many (Binary op a b) = after_form q (Binary op a b)
-after_right q Many (Apply f args) = after_form q (Apply f args)
-after_right q Many (Standard f a) = after_form q (Standard f a)
-after_right q Many (AtInput f) = after_form q (AtInput f)
-after_right q NoSort form = after_form q form
+after_right q _ form = after_form q form
 
 -- a test for each constant of a case
 abbrev pub after_test : ℕ → List ℤ → ℕ

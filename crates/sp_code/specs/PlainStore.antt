@@ -6,7 +6,7 @@ use Rattle.std.specs.List.{list_all}
 use Rattle.std.specs.FinMap as map
 use Rattle.sp_cell.specs.declared.cell.Cell.{Cell}
 use Rattle.sp_cell.specs.declared.spot.Spot.{Spot}
-use Rattle.sp_cell.specs.Map.{Content, Own, Shared, Output, Away, Map, Plain, with_map, with_own_piece}
+use Rattle.sp_cell.specs.Map.{Content, Own, Shared, Away, Map, Plain, with_map, with_own_piece}
 use Rattle.sp_cell.specs.Map.{with_more_output, output_of}
 use Rattle.sp_cell.specs.Map.{output_spot}
 use Rattle.sp_cell.specs.Frame.{next_frame, last_own_frame, with_new_frame, without_newest_frame, root_map}
@@ -15,19 +15,14 @@ use Rattle.sp_code.specs.Memory.{Stores, is_there}
 
 -- the cells of a piece that is held, own or shared
 abbrev pub piece_of : Option Content → Option (List Cell)
-piece_of None = None
 piece_of (Some (Own cs)) = Some cs
 piece_of (Some (Shared cs)) = Some cs
-piece_of (Some (Output bs)) = None
-piece_of (Some Away) = None
+piece_of _ = None
 
 -- the spot is known and away
 abbrev pub is_away : Option Content → Bool
-is_away None = false
-is_away (Some (Own cs)) = false
-is_away (Some (Shared cs)) = false
-is_away (Some (Output bs)) = false
 is_away (Some Away) = true
+is_away _ = false
 
 -- nothing of a frame is away
 abbrev pub none_away : Map → ℕ → Bool

@@ -1,6 +1,7 @@
 -- All of this belongs to what the program promises (docs/promise.txt).
 -- Types, frames and scopes of a checked tree, as code needs them: sizes, offsets, slots and levels. The definition of
 -- code, its lengths and the generator's contracts share it.
+use Rattle.std.specs.Option.{option_map_or}
 use Rattle.std.specs.Prelude.{ℕ, suc, ◌==◌, List, [], ◌∷◌, ◌++◌, Option, Some, None, Bool, true, false}
 use Rattle.std.specs.Prelude.{if◌then◌else◌, slice_get, map, sum, take}
 use Rattle.sp_tree.specs.declared.checked.KindOf.{KindOf}
@@ -24,13 +25,10 @@ pub data Sort : Type 0 where
 -- how many cells a type has, and of what
 abbrev pub sort_by : Option KindOf → Sort
 sort_by None = NoSort
-sort_by (Some kind.Integer) = Ordinals
-sort_by (Some kind.Boolean) = Ordinals
-sort_by (Some kind.Char) = Ordinals
-sort_by (Some (kind.Enumeration n)) = Ordinals
 sort_by (Some (kind.Array low high index element)) = Many
 sort_by (Some (kind.Fields fs)) = Many
 sort_by (Some (kind.Channel ks)) = Channels
+sort_by _ = Ordinals
 
 -- the type of an expression
 abbrev pub kind_of : Expr → ℕ
@@ -57,38 +55,23 @@ index_among x n (y ∷ ys) = if x == y then n else index_among x (suc n) ys
 
 -- the type of a field
 abbrev pub second_or : ℕ → Option (List ℕ × ℕ) → ℕ
-second_or k None = k
-second_or k (Some x) = x.1
+second_or k x = option_map_or (λ x. x.1) x k
 
 -- the type that a field has, and that an element has
 abbrev pub field_type : ℕ → Option KindOf → ℕ → ℕ
-field_type k None f = k
-field_type k (Some kind.Integer) f = k
-field_type k (Some kind.Boolean) f = k
-field_type k (Some kind.Char) f = k
-field_type k (Some (kind.Enumeration n)) f = k
-field_type k (Some (kind.Array low high index element)) f = k
 field_type k (Some (kind.Fields fs)) f = second_or k (slice_get fs f)
-field_type k (Some (kind.Channel ks)) f = k
+field_type k _ _ = k
 
 -- the type of an array's elements
 abbrev pub element_type : ℕ → Option KindOf → ℕ
-element_type k None = k
-element_type k (Some kind.Integer) = k
-element_type k (Some kind.Boolean) = k
-element_type k (Some kind.Char) = k
-element_type k (Some (kind.Enumeration n)) = k
 element_type k (Some (kind.Array low high index element)) = element
-element_type k (Some (kind.Fields fs)) = k
-element_type k (Some (kind.Channel ks)) = k
+element_type k _ = k
 
 abbrev pub parameters_of : Option Block → List ℕ
-parameters_of None = []
-parameters_of (Some b) = b.formals ++ as_list b.answer
+parameters_of b = option_map_or (λ b. b.formals ++ as_list b.answer) b []
 
 abbrev pub type_by : Option Variable → ℕ
-type_by None = 0
-type_by (Some v) = v.kind
+type_by v = option_map_or (λ v. v.kind) v 0
 
 module _ (p : Program) where
   abbrev pub kind_at : ℕ → Option KindOf
@@ -115,8 +98,7 @@ module _ (p : Program) where
 
   -- a variable's number in its frame
   abbrev pub slot_by : ℕ → Option Variable → ℕ
-  slot_by x None = 0
-  slot_by x (Some v) = slot_in v.block x
+  slot_by x v = option_map_or (λ v. slot_in v.block x) v 0
 
   abbrev pub slot : ℕ → ℕ
   slot x = slot_by x (slice_get p.variables x)

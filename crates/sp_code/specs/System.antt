@@ -1,6 +1,7 @@
 -- Some of this belongs to what the program promises (docs/promise.txt).
 -- The system of all processes of a run of code, along a journal. The laws of histories and the kernel's contracts
 -- speak of it, and sp_link compares it with the meaning: a step for each entry, with no worker and no queue in it.
+use Rattle.std.specs.Option.{option_map_or}
 use Rattle.std.specs.Prelude.{◌≡◌, ℕ, zero, suc, ◌+◌, ◌-◌, ◌==◌, ℤ, pos, ◌+ℤ◌, List, [], ◌∷◌, Option, Some, None, Bool}
 use Rattle.std.specs.Prelude.{true, false, if◌then◌else◌, cond, nat_lt, length, slice_get}
 use Rattle.sp_base.specs.declared.fault.Fault.{Fault}
@@ -51,9 +52,8 @@ spot_of_address (Some a) = Some a.spot
 
 -- where variable k of a frame stands, by its formal if it is a parameter
 abbrev pub spot_by : Frame → ℕ → Option Formal → Option Spot
-spot_by f k None = Some (record { frame = f.number; variable = k })
-spot_by f k (Some (formal.Value n)) = Some (record { frame = f.number; variable = k })
 spot_by f k (Some (formal.Reference n)) = spot_of_address (reference_target k f.references)
+spot_by f k _ = Some (record { frame = f.number; variable = k })
 
 -- the same of a variable with this place among the layout's
 abbrev pub spot_at : Frame → Layout → Option ℕ → Option Spot
@@ -76,9 +76,8 @@ or_outward None o = o
 
 -- where it stands, outward from the first of these frames: no more than n levels
 abbrev pub spot_from : List Layout → ℕ → List Frame → ℕ → Option Spot
-spot_from ls zero fs x = None
-spot_from ls (suc n) [] x = None
 spot_from ls (suc n) (f ∷ fs) x = or_outward (spot_in ls f f.home x) (spot_from ls n (last_frames f.link fs) x)
+spot_from _ _ _ _ = None
 
 -- the spot of variable x of the tree. The input and the output are variables 0 and 1 of frame 0
 abbrev pub spot_of : List Layout → List Frame → ℕ → Option Spot
@@ -86,8 +85,7 @@ spot_of ls fs x = if nat_lt x 2 then Some (record { frame = 0; variable = x }) e
 
 -- a spot before others, if there is one
 abbrev pub with_spot : Option Spot → List Spot → List Spot
-with_spot None ss = ss
-with_spot (Some s) ss = s ∷ ss
+with_spot s ss = option_map_or (λ s. s ∷ ss) s ss
 
 -- the spots of variables; one that stands nowhere has none
 abbrev pub spots_of : List Layout → List Frame → List ℕ → List Spot
@@ -156,10 +154,7 @@ clash_by way.Send k (Some (Sends d j cs)) = Some fault.F6
 clash_by way.Send k (Some (Receives d j a)) = if j == k then None else Some fault.F7
 clash_by way.Receive k (Some (Sends d j cs)) = if j == k then None else Some fault.F7
 clash_by way.Receive k (Some (Receives d j a)) = Some fault.F6
-clash_by w k (Some (Forks t value n)) = None
-clash_by w k (Some (Opens a)) = None
-clash_by w k (Some Ends) = None
-clash_by w k (Some Pauses) = None
+clash_by _ _ _ = None
 
 -- the first of two
 abbrev pub first_fault : Option Fault → Option Fault → Option Fault
@@ -206,10 +201,9 @@ module _ {S : Type 0} where
       (if nat_lt lim.processes (s.births.processes + n) then Some fault.F13 else None)
   limit_of lim s (Opens a) = one_more_entry lim s
       (if nat_lt lim.channels (s.births.channels + 1) then Some fault.F14 else None)
-  limit_of lim s (Sends c k cs) = one_more_entry lim s None
-  limit_of lim s (Receives c k a) = one_more_entry lim s None
   limit_of lim s Ends = None
   limit_of lim s Pauses = None
+  limit_of lim s _ = one_more_entry lim s None
 
   -- the fault of an offer against what is pending
   abbrev pub clash_of : System S → Stop → Option Fault
@@ -326,13 +320,8 @@ module _ {S : Type 0} (stores : Stores S) (g : CodeRun) where
 
   -- the cells that are sent
   abbrev pub message_of : Option Stop → List Cell
-  message_of None = []
-  message_of (Some (Forks t value n)) = []
-  message_of (Some (Opens a)) = []
   message_of (Some (Sends c k cs)) = cs
-  message_of (Some (Receives c k a)) = []
-  message_of (Some Ends) = []
-  message_of (Some Pauses) = []
+  message_of _ = []
 
   -- an offer waits, or it meets the pending one, and then both go on
   abbrev pub apply_send : ℕ → Stop → (channel : ℕ) → List Cell → Config (Memory S) → Option ℕ → System S → System S

@@ -1,6 +1,7 @@
 -- All of this belongs to what the program promises (docs/promise.txt).
 -- The code of each part of a tree, as a list of instructions; its fork tables and texts. The generator promises it,
 -- and the proof of generated code reads it: it is said in lists, with no labels to be filled in later.
+use Rattle.std.specs.Option.{option_map_or}
 use Rattle.std.specs.Prelude.{ℕ, suc, ◌+◌, ◌==◌, ℤ, pos, List, [], ◌∷◌, ◌++◌, Option, Some, None, Bool, if◌then◌else◌}
 use Rattle.std.specs.Prelude.{slice_get, map}
 use Rattle.sp_tree.specs.Cells.{cells_by, sizes}
@@ -61,13 +62,11 @@ binary_instr binary.And = i.And
 
 -- a standard function with a result of a type
 abbrev pub least_of : Option KindOf → ℤ
-least_of None = pos 0
-least_of (Some t) = least_ordinal t
+least_of t = option_map_or least_ordinal t (pos 0)
 
 -- the greatest number of an ordinal type
 abbrev pub greatest_of : Option KindOf → ℤ
-greatest_of None = pos 0
-greatest_of (Some t) = greatest_ordinal t
+greatest_of t = option_map_or greatest_ordinal t (pos 0)
 
 abbrev pub standard_code : StandardFn → Option KindOf → List Instr
 standard_code standard.Abs t = i.Abs ∷ []
@@ -92,61 +91,41 @@ read_instr Many n = i.Pack n
 read_instr NoSort n = i.Nocase
 
 abbrev pub index_instr : Option KindOf → (element_cells : ℕ) → Instr
-index_instr None n = i.Nocase
-index_instr (Some kind.Integer) n = i.Nocase
-index_instr (Some kind.Boolean) n = i.Nocase
-index_instr (Some kind.Char) n = i.Nocase
-index_instr (Some (kind.Enumeration m)) n = i.Nocase
 index_instr (Some (kind.Array low high index element)) n = i.Index low high n
-index_instr (Some (kind.Fields fs)) n = i.Nocase
-index_instr (Some (kind.Channel ks)) n = i.Nocase
+index_instr _ _ = i.Nocase
 
 -- an item written, in a width or not; read
 abbrev pub write_instr : Option KindOf → Bool → Instr
-write_instr None w = i.Nocase
 write_instr (Some kind.Integer) w = if w then i.WritewInt else i.WriteInt
 write_instr (Some kind.Boolean) w = if w then i.WritewBool else i.WriteBool
 write_instr (Some kind.Char) w = if w then i.WritewChar else i.WriteChar
-write_instr (Some (kind.Enumeration n)) w = i.Nocase
-write_instr (Some (kind.Array low high index element)) w = i.Nocase
-write_instr (Some (kind.Fields fs)) w = i.Nocase
-write_instr (Some (kind.Channel ks)) w = i.Nocase
+write_instr _ _ = i.Nocase
 
 abbrev pub reading_instr : Option KindOf → Instr
-reading_instr None = i.Nocase
 reading_instr (Some kind.Integer) = i.ReadInt
-reading_instr (Some kind.Boolean) = i.Nocase
 reading_instr (Some kind.Char) = i.ReadChar
-reading_instr (Some (kind.Enumeration n)) = i.Nocase
-reading_instr (Some (kind.Array low high index element)) = i.Nocase
-reading_instr (Some (kind.Fields fs)) = i.Nocase
-reading_instr (Some (kind.Channel ks)) = i.Nocase
+reading_instr _ = i.Nocase
 
 -- the instruction that assigns
 abbrev pub assign_instr : Sort → (cells : ℕ) → Instr
-assign_instr Ordinals n = i.Store
-assign_instr Channels n = i.Store
 assign_instr Many n = i.Copy n
 assign_instr NoSort n = i.Nocase
+assign_instr _ _ = i.Store
 
 -- the address of an entire variable
 abbrev pub addr_by : List Scope → ℕ → ℕ → Variable → Role → Instr
 addr_by sc x slot v role.Console = i.Nocase
-addr_by sc x slot v role.Local = i.Addr (or_none (level (is_block v.block) sc)) slot
-addr_by sc x slot v role.Value = i.Addr (or_none (level (is_block v.block) sc)) slot
 addr_by sc x slot v role.Reference = i.Deref (or_none (level (is_block v.block) sc)) slot
 addr_by sc x slot v role.Index = i.Addr (or_none (level (is_index x) sc)) 0
-addr_by sc x slot v role.Answer = i.Addr (or_none (level (is_block v.block) sc)) slot
+addr_by sc _ slot v _ = i.Addr (or_none (level (is_block v.block) sc)) slot
 
 -- the instruction that gives a variable's address, by its role
 abbrev pub addr_of : List Scope → ℕ → ℕ → Option Variable → Instr
-addr_of sc x slot None = i.Nocase
-addr_of sc x slot (Some v) = addr_by sc x slot v v.role
+addr_of sc x slot v = option_map_or (λ v. addr_by sc x slot v v.role) v i.Nocase
 
 -- a call of block f: the level of the block around it
 abbrev pub call_up : List Scope → Option ℕ → ℕ
-call_up sc None = 0
-call_up sc (Some b) = or_none (level (is_block b) sc)
+call_up sc b = option_map_or (λ b. or_none (level (is_block b) sc)) b 0
 
 -- the call of a block, so many static levels outward
 abbrev pub call_instr : List Scope → ℕ → Option Block → Instr
@@ -251,14 +230,8 @@ module _ (p : Program) where
   addr_code sc x = addr_of sc x (slot p x) (slice_get p.variables x)
 
   abbrev pub field_instr : ℕ → Option KindOf → Instr
-  field_instr f None = i.Nocase
-  field_instr f (Some kind.Integer) = i.Nocase
-  field_instr f (Some kind.Boolean) = i.Nocase
-  field_instr f (Some kind.Char) = i.Nocase
-  field_instr f (Some (kind.Enumeration n)) = i.Nocase
-  field_instr f (Some (kind.Array low high index element)) = i.Nocase
   field_instr f (Some (kind.Fields fs)) = i.Field (field_offset p fs f)
-  field_instr f (Some (kind.Channel ks)) = i.Nocase
+  field_instr _ _ = i.Nocase
 
   abbrev mutual
     -- an expression: its operands in order, and then its operator
@@ -297,16 +270,8 @@ module _ (p : Program) where
 
   -- the right side of an assignment
   abbrev pub right_code : List Scope → ℕ → Sort → ExprForm → List Instr
-  right_code sc k Ordinals form = form_code sc k form
-  right_code sc k Channels form = form_code sc k form
   right_code sc k Many (Read v) = var_code sc v
-  right_code sc k Many (Number n) = form_code sc k (Number n)
-  right_code sc k Many (Unary op a) = form_code sc k (Unary op a)
-  right_code sc k Many (Binary op a b) = form_code sc k (Binary op a b)
-  right_code sc k Many (Apply f args) = form_code sc k (Apply f args)
-  right_code sc k Many (Standard f a) = form_code sc k (Standard f a)
-  right_code sc k Many (AtInput f) = form_code sc k (AtInput f)
-  right_code sc k NoSort form = form_code sc k form
+  right_code sc k _ form = form_code sc k form
 
   -- the tests of all arms, whose statements stand from b on
   abbrev pub tests_code : Arms → ℕ → List Instr
