@@ -32,8 +32,9 @@ module _ (p : Program) (moves shares : plain.Stmt → List ℕ) {M : Type 0} (op
       → BeginsOrFaults b c (Faulted f d) (Runs ops code c (Faulted f d)) → b ≡ true
       → (m : Mark) × (slice_get (marks p) (next_of d) ≡ Some m)
   by_begin false c f d h e = absurd cc
-  by_begin true c f d h e = subst (λ (x : Config M). (m : Mark) × (slice_get (marks p) (next_of x) ≡ Some m))
-      (sym h.2.1) (by_step h.0 f h.2.0)
+  by_begin true c f d (last, _, (fails, same)) e =
+      subst (λ (x : Config M). (m : Mark) × (slice_get (marks p) (next_of x) ≡ Some m))
+      (sym same) (by_step last f fails)
 
   pub fault_marked : (c : Config M) (f : Fault) (d : Config M) → IsTurn ops code c (Faulted f d)
       → frames_fit ops code c ≡ true → (m : Mark) × (slice_get (marks p) (next_of d) ≡ Some m)

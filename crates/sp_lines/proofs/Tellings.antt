@@ -36,22 +36,23 @@ module _ (g : CodeRun) where
   pub of_turn : (s t : System Plain) (q : ℕ) (e : Event) → EntryLeads plain g s q e t → (c : Config (Memory Plain))
       → s.condition q ≡ Working c → (turn : Turn (Memory Plain)) → IsTurn (memory plain g) g.code c turn
       → EntryTells g s q e (told_of s turn) t
-  of_turn s t q e h c works turn is =
-      let w : c ≡ h.0 = same_works c h.0 (sym works ∙ h.1) in
-      let mine : IsTurn (memory plain g) g.code h.0 turn =
+  of_turn s t q e (runs, works_too, taken, is_taken, event, after) c works turn is =
+      let w : c ≡ runs = same_works c runs (sym works ∙ works_too) in
+      let mine : IsTurn (memory plain g) g.code runs turn =
       subst (λ (d : Config (Memory Plain)). IsTurn (memory plain g) g.code d turn) w is in
-      let same : turn ≡ h.2 = turn_same (memory plain g) g.code h.0 turn h.2 mine h.3 in
-      (h.0, h.1, h.2, h.3, h.4, h.5, ap (λ (x : Turn (Memory Plain)). told_of s x) same)
+      let same : turn ≡ taken = turn_same (memory plain g) g.code runs turn taken mine is_taken in
+      (runs, works_too, taken, is_taken, event, after, ap (λ (x : Turn (Memory Plain)). told_of s x) same)
 
   -- one thing is told of an entry, and of a journal
   entry_once : (s t u : System Plain) (q : ℕ) (e : Event) (w x : Told) → EntryTells g s q e w t
       → EntryTells g s q e x u → w ≡ x
-  entry_once s t u q e w x h k =
-      let v : k.0 ≡ h.0 = same_works k.0 h.0 (sym k.1 ∙ h.1) in
-      let turn : IsTurn (memory plain g) g.code h.0 k.2 =
-      subst (λ (c : Config (Memory Plain)). IsTurn (memory plain g) g.code c k.2) v k.3 in
-      h.6 ∙ ap (λ (y : Turn (Memory Plain)). told_of s y) (turn_same (memory plain g) g.code h.0 h.2 k.2 h.3 turn)
-      ∙ sym k.6
+  entry_once s t u q e w x (runs, works, taken, is, _, _, it) (other, works_too, taken_too, is_too, _, _, it_too) =
+      let v : other ≡ runs = same_works other runs (sym works_too ∙ works) in
+      let turn : IsTurn (memory plain g) g.code runs taken_too =
+      subst (λ (c : Config (Memory Plain)). IsTurn (memory plain g) g.code c taken_too) v is_too in
+      it ∙ ap (λ (y : Turn (Memory Plain)). told_of s y)
+      (turn_same (memory plain g) g.code runs taken taken_too is turn)
+      ∙ sym it_too
 
   lead : (s t : System Plain) (q : ℕ) (e : Event) (w : Told) → EntryTells g s q e w t → EntryLeads plain g s q e t
   lead s t q e w (c, works, turn, is, event, after, it) = (c, works, turn, is, event, after)

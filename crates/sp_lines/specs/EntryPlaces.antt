@@ -7,7 +7,7 @@ use Rattle.sp_cell.specs.Map.{Plain}
 use Rattle.sp_journal.specs.declared.entry.Event.{Event}
 use Rattle.sp_journal.specs.declared.entry.Entry.{Entry}
 use Rattle.sp_journal.specs.Maps.{at_key}
-use Rattle.sp_code.specs.Machine.{Stop, Forks, Opens, Sends, Receives, Ends, Pauses, Config}
+use Rattle.sp_code.specs.Machine.{Stop, Sends, Receives, Config}
 use Rattle.sp_code.specs.Memory.{CodeRun, Memory, memory}
 use Rattle.sp_code.specs.PlainStore.{plain}
 use Rattle.sp_code.specs.System.{System, Working, event_of, system_after_turn, pending_stop, opening_system}
@@ -17,13 +17,8 @@ use Rattle.sp_lines.specs.AtTurn.{at_turn}
 
 -- the cells that an offer sends
 abbrev pub sent_by : Option Stop → Option (List Cell)
-sent_by None = None
-sent_by (Some (Forks table first count)) = None
-sent_by (Some (Opens target)) = None
 sent_by (Some (Sends channel message cells)) = Some cells
-sent_by (Some (Receives channel message target)) = None
-sent_by (Some Ends) = None
-sent_by (Some Pauses) = None
+sent_by _ = None
 
 -- a message of this type, if one has these cells
 abbrev pub of_type : (message : ℕ) → Option (List Cell) → Option (ℕ × List Cell)
@@ -55,9 +50,8 @@ module _ (g : CodeRun) where
   -- the entries, in order
   abbrev pub EntriesTell : System Plain → List Entry → List Told → System Plain → Type 0
   EntriesTell s [] [] t = t ≡ s
-  EntriesTell s [] (w ∷ ws) t = ⊥
-  EntriesTell s (e ∷ es) [] t = ⊥
   EntriesTell s (e ∷ es) (w ∷ ws) t = (u : System Plain) × EntryTells s e.process e.event w u × EntriesTell u es ws t
+  EntriesTell _ _ _ _ = ⊥
 
   -- this is told of a journal, and the system along it is this one
   abbrev pub DescribesEntries : List Entry → List Told → System Plain → Type 0
@@ -65,6 +59,5 @@ module _ (g : CodeRun) where
 
 -- for each process the instruction at which its last turn ended
 abbrev pub lasts_after : List Entry → List Told → (ℕ → ℕ) → ℕ → ℕ
-lasts_after [] ws at = at
-lasts_after (e ∷ es) [] at = at
 lasts_after (e ∷ es) (w ∷ ws) at = lasts_after es ws (at_key ◌==◌ e.process w.instruction at)
+lasts_after _ _ at = at

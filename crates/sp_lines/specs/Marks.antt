@@ -1,7 +1,8 @@
 -- All of this belongs to what the program promises (docs/promise.txt).
 -- Where each instruction of the code of a tree stands in the text. Clause by clause it is the definition of the code
 -- (`Emitted` of `sp_code`), with a mark instead of each instruction: so the two lists go side by side.
-use Rattle.std.specs.Prelude.{ℤ, List, [], ◌∷◌, ◌++◌, Option, Some, None, Bool, true, false, slice_get}
+use Rattle.std.specs.Option.{option_map_or}
+use Rattle.std.specs.Prelude.{ℤ, List, [], ◌∷◌, ◌++◌, Option, Some, Bool, true, false, slice_get}
 use Rattle.sp_base.specs.declared.place.Place.{Place}
 use Rattle.sp_tree.specs.declared.checked.KindOf.{KindOf}
 use Rattle.sp_tree.specs.declared.checked.KindOf.TheVariants as kind
@@ -29,8 +30,7 @@ own s = mark s s
 -- a sign and a standard function have at most one instruction, like their code
 abbrev pub unary_marks : Mark → UnaryOp → List Mark
 unary_marks m unary.Plus = []
-unary_marks m unary.Minus = m ∷ []
-unary_marks m unary.Not = m ∷ []
+unary_marks m _ = m ∷ []
 
 abbrev pub standard_marks : Mark → StandardFn → List Mark
 standard_marks m standard.Ord = []
@@ -44,14 +44,9 @@ begins (ExpressionAt at k form) = at
 
 -- values of the type are many cells: an assignment of one has the address alone of the variable on its right
 abbrev pub is_many : Option KindOf → Bool
-is_many None = false
-is_many (Some kind.Integer) = false
-is_many (Some kind.Boolean) = false
-is_many (Some kind.Char) = false
-is_many (Some (kind.Enumeration n)) = false
 is_many (Some (kind.Array low high index element)) = true
 is_many (Some (kind.Fields fs)) = true
-is_many (Some (kind.Channel ks)) = false
+is_many _ = false
 
 -- the parts of the statement that begins at s
 abbrev mutual
@@ -89,18 +84,12 @@ abbrev mutual
   actual_marks s (ByReference v) = variable_marks s v
 
 abbrev pub width_marks : Place → Option Expression → List Mark
-width_marks s None = []
-width_marks s (Some e) = value_marks s e
+width_marks s e = option_map_or (value_marks s) e []
 
 -- the right side of an assignment, by whether its values are many cells
 abbrev pub right_form_marks : (many : Bool) → (s at : Place) → ExpressionForm → List Mark
-right_form_marks false s at form = form_marks s at form
 right_form_marks true s at (Read v) = variable_marks s v
-right_form_marks true s at (Number n) = form_marks s at (Number n)
-right_form_marks true s at (Unary op a) = form_marks s at (Unary op a)
-right_form_marks true s at (Binary op a b) = form_marks s at (Binary op a b)
-right_form_marks true s at (Apply f name args) = form_marks s at (Apply f name args)
-right_form_marks true s at (Standard f args) = form_marks s at (Standard f args)
+right_form_marks _ s at form = form_marks s at form
 
 -- a test for each constant of a `case`
 abbrev pub test_marks : Mark → List ℤ → List Mark
