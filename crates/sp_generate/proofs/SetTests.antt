@@ -156,8 +156,8 @@ module _ (tree : c.Program) (sets : Sets) where
     use_targets_is s x (CallOf b args) h e =
         let two = and_parts (is_given (slice_get tree.blocks b)) (has (implicit_targets_of sets b) x) e in
         let k = block_given tree b two.0 in
-        let i = ((are.blocks b k.0 k.1).targets x).0 two.1 in
-        (b ∷ i.3.0, (args, h, i.0, i.1, i.2, i.3.1))
+        let (called, found, free, (calls, reach)) = ((are.blocks b k.0 k.1).targets x).0 two.1 in
+        (b ∷ calls, (args, h, called, found, free, reach))
     use_targets_is s x (ParallelOf ss) h e = absurd (true≢false (sym e))
     use_targets_is s x (ForallOf y t) h e = absurd (true≢false (sym e))
     use_targets_is s x Stop h e = absurd (true≢false (sym e))
@@ -185,8 +185,8 @@ module _ (tree : c.Program) (sets : Sets) where
     use_reads_is s x (CallOf b args) h e =
         let two = and_parts (is_given (slice_get tree.blocks b)) (has (implicit_expressions_of sets b) x) e in
         let k = block_given tree b two.0 in
-        let i = ((are.blocks b k.0 k.1).expressions x).0 two.1 in
-        (b ∷ i.3.0, (args, h, i.0, i.1, i.2, i.3.1))
+        let (called, found, free, (calls, reach)) = ((are.blocks b k.0 k.1).expressions x).0 two.1 in
+        (b ∷ calls, (args, h, called, found, free, reach))
     use_reads_is s x (ParallelOf ss) h e = absurd (true≢false (sym e))
     use_reads_is s x (ForallOf y t) h e = absurd (true≢false (sym e))
     use_reads_is s x Stop h e = absurd (true≢false (sym e))

@@ -5,9 +5,10 @@ use Rattle.sp_generate.proofs.code_buffer.mend_branch.Goals as goal
 
 pub returns : goal.returns
 returns c k =
-    let t = c.number-to.ensures _ c.sum.ensures k in
-    let e = c.place-end.ensures t.0 in (
-      e.0,
+    let (target_good, (target_same, target_is)) = c.number-to.ensures _ c.sum.ensures k in
+    let (end_good, (end_same, end_is)) = c.place-end.ensures target_good in (
+      end_good,
       λ a b x h m. c.set.ensures ∙ patched a b c.number-to.new.self.items.items x _ c.args.at
-          (t.1.0 ∙ e.1.0 ∙ h) m ∙ ap (λ (n : ℕ). a ++ i.Jumpf n ∷ b) (t.1.1 ∙ ap (λ (n : ℕ). n + c.args.beyond) e.1.1),
+          (target_same ∙ end_same ∙ h) m
+          ∙ ap (λ (n : ℕ). a ++ i.Jumpf n ∷ b) (target_is ∙ ap (λ (n : ℕ). n + c.args.beyond) end_is),
     )

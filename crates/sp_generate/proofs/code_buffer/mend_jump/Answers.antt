@@ -5,8 +5,8 @@ use Rattle.sp_generate.proofs.code_buffer.mend_jump.Goals as goal
 
 pub returns : goal.returns
 returns c k =
-    let e = c.place-end.ensures k in (
-      e.0,
-      λ a b x h m. c.set.ensures ∙ patched a b c.place-end.new.code.items.items x _ c.args.at (e.1.0 ∙ h) m
-          ∙ ap (λ (n : ℕ). a ++ i.Jump n ∷ b) e.1.1,
+    let (good, (same, end_is)) = c.place-end.ensures k in (
+      good,
+      λ a b x h m. c.set.ensures ∙ patched a b c.place-end.new.code.items.items x _ c.args.at (same ∙ h) m
+          ∙ ap (λ (n : ℕ). a ++ i.Jump n ∷ b) end_is,
     )

@@ -3,5 +3,5 @@ use Rattle.sp_generate.proofs.code_buffer.place.Goals as goal
 
 pub returns : goal.returns
 returns c k =
-    let n = c.number.ensures _ c.narrow-n.ensures k in
-    (n.0, (n.1.0, n.1.1 ∙ c.count.ensures))
+    let (good, (same, count_is)) = c.number.ensures _ c.narrow-n.ensures k in
+    (good, (same, count_is ∙ c.count.ensures))

@@ -25,23 +25,23 @@ loop-b-preserved c h =
     let number = c.number-number.result in
     let entry = c.place-entry.result in
     let b = c.put_block.ensures h in
-    let f = c.push_to.ensures _ c.layout_of.ensures b.0 in
-    let q = c.place-entry.ensures f.0 in
-    let n = c.number-number.ensures _ c.narrow.ensures q.0 in
-    let inv = c.loop-b.invariant n.0 in
-    let kept = f.1.0 ∙ q.1.0 ∙ n.1.0 in
+    let (layout_good, (layout_same, layouts_are)) = c.push_to.ensures _ c.layout_of.ensures b.0 in
+    let (entry_good, (entry_same, entry_is)) = c.place-entry.ensures layout_good in
+    let (number_good, (number_same, number_is)) = c.number-number.ensures _ c.narrow.ensures entry_good in
+    let (good, (rest_put, rest_layouts)) = c.loop-b.invariant number_good in
+    let kept = layout_same ∙ entry_same ∙ number_same in
     let block = b.1 ∙ (λ j. written_block p mv sh (buffer_of (kept j) d.forks d.texts) number (block_of k)) in (
-      inv.0,
+      good,
       (
-        block_next p mv sh d d2 c.loop-b.b number (block_of k) rest n.1.1 block
+        block_next p mv sh d d2 c.loop-b.b number (block_of k) rest number_is block
             ∙ ap (λ (ks : List placed.Block). written_blocks p mv sh d c.loop-b.b ks) (sym on)
-            ∙ inv.1.0,
+            ∙ rest_put,
         layout_next p mv sh c.loop-b.layouts c.push_to.new.list d d2 c.loop-b.b number entry
-            (layout_of p number entry (bare_block (block_of k))) (block_of k) rest n.1.1 (q.1.1 ∙ ap length n.1.0) refl
-            f.1.1 block
+            (layout_of p number entry (bare_block (block_of k))) (block_of k) rest number_is
+            (entry_is ∙ ap length number_same) refl layouts_are block
             ∙ ap (λ (ks : List placed.Block). c.loop-b.layouts
             ++ layouts_from p c.loop-b.b (length d.instrs) (map bare_block ks)) (sym on)
-            ∙ inv.1.1,
+            ∙ rest_layouts,
       ),
     )
 
@@ -53,15 +53,15 @@ returns c h =
     let xs = c.args.g.now.checked.now.blocks in
     let d = written c.loop-b.d in
     let end = blocks_end xs c.items-k-items.result.now c.loop-b.b c.items-k-items.ensures c.loop-b-test.false in
-    let inv = c.loop-b.invariant h in (
-      inv.0,
+    let (good, (rest_put, rest_layouts)) = c.loop-b.invariant h in (
+      good,
       (
         sym (blocks_none p mv sh d c.loop-b.b)
             ∙ ap (λ ys. written_blocks p mv sh d c.loop-b.b (map block_of ys)) end
-            ∙ inv.1.0,
+            ∙ rest_put,
         sym (append-nil c.loop-b.layouts)
             ∙ ap (λ ys. c.loop-b.layouts ++ layouts_from p c.loop-b.b (length d.instrs) (map bare_block (map block_of
             ys))) end
-            ∙ inv.1.1,
+            ∙ rest_layouts,
       ),
     )

@@ -363,10 +363,10 @@ put_while-returns t c k =
     let va = value_code p sc (bare_expression e) in
     let b = c.put_while_body.ensures k in
     let v = c.put_value.ensures b.0 in
-    let q = c.place-start.ensures v.0 in
-    let code = v.1 ∙ ap (λ (ys : List Instr). ys ++ va) q.1.0 in (
-      q.0,
-      b.1 ∙ (λ j. buffer_after_loop p mv sh (buffer_of (code j) d.forks d.texts) sc s i.Jumpf (i.Jump (q.1.1 j)))
+    let (good, (same, start_is)) = c.place-start.ensures v.0 in
+    let code = v.1 ∙ ap (λ (ys : List Instr). ys ++ va) same in (
+      good,
+      b.1 ∙ (λ j. buffer_after_loop p mv sh (buffer_of (code j) d.forks d.texts) sc s i.Jumpf (i.Jump (start_is j)))
           ∙ while_is p mv sh sc d e s,
     )
 
@@ -385,11 +385,11 @@ put_repeat-returns t c k =
     let v = c.put_value.ensures z.0 in
     let b = c.put_statement.ensures v.0 in
     let x = c.put.ensures b.0 in
-    let q = c.place-start.ensures x.0 in
-    let tick = x.1 ∙ ap (λ (ys : List Instr). ys ++ i.Tick ∷ []) q.1.0 in (
-      q.0,
+    let (good, (same, start_is)) = c.place-start.ensures x.0 in
+    let tick = x.1 ∙ ap (λ (ys : List Instr). ys ++ i.Tick ∷ []) same in (
+      good,
       (λ j. buffer_of (z.1 j) d2.forks d2.texts)
-          ∙ (λ j. with_code (buffer_of (v.1 j) d2.forks d2.texts) (i.Jumpf (q.1.1 j) ∷ []))
+          ∙ (λ j. with_code (buffer_of (v.1 j) d2.forks d2.texts) (i.Jumpf (start_is j) ∷ []))
           ∙ (λ j. with_code (with_code (b.1 j) va) (i.Jumpf (length d.instrs) ∷ []))
           ∙ (λ j. with_code (with_code (buffer_after p mv sh (buffer_of (tick j) d.forks d.texts) sc s) va)
           (i.Jumpf (length d.instrs) ∷ []))
@@ -408,21 +408,22 @@ put_for_body-returns t c k =
     let d2 = written c.put_statement.new.d in
     let i0 = c.put.new.self.items.items in
     let i3 = c.put-3.new.self.items.items in
-    let e = c.place-end.ensures k in
-    let z = c.put-3.ensures e.0 in
+    let (end_good, (end_same, end_is)) = c.place-end.ensures k in
+    let z = c.put-3.ensures end_good in
     let s = c.put_statement.ensures z.0 in
     let y = c.put-2.ensures s.0 in
-    let q = c.place-tick.ensures y.0 in
-    let x = c.put.ensures q.0 in
-    let tick = q.1.1 ∙ one_more p mv sh sc d.instrs i0 _ x.1 in (
+    let (tick_good, (tick_same, tick_is)) = c.place-tick.ensures y.0 in
+    let x = c.put.ensures tick_good in
+    let tick = tick_is ∙ one_more p mv sh sc d.instrs i0 _ x.1 in (
       x.0,
       loop_is p mv sh sc d d2 (statement_of c.args.s.now) i0 c.put-2.new.self.items.items i3 c.set.new.code.items
           (for_instr down var) (next_instr down var (length d.instrs + 1)) c.count-at.result c.place-end.result
           c.count-at.ensures (x.1 ∙ ap (λ (x : Instr). d.instrs ++ x ∷ []) c.for_instr.ensures)
-          (y.1 ∙ ap (λ (ys : List Instr). ys ++ i.Tick ∷ []) q.1.0) s.1
+          (y.1 ∙ ap (λ (ys : List Instr). ys ++ i.Tick ∷ []) tick_same) s.1
           (z.1 ∙ ap (λ (x : Instr). d2.instrs ++ x ∷ []) (c.next_instr.ensures ∙ ap (next_instr down var) tick))
-          e.1.1
-          (λ a b x h m. c.set.ensures ∙ patched a b c.place-end.new.code.items.items x _ c.count-at.result (e.1.0 ∙ h) m
+          end_is
+          (λ a b x h m. c.set.ensures
+          ∙ patched a b c.place-end.new.code.items.items x _ c.count-at.result (end_same ∙ h) m
           ∙ ap (λ (y : Instr). a ++ y ∷ b) c.for_instr-2.ensures),
     )
 
@@ -510,17 +511,17 @@ put_spread-returns t c k =
     let b = c.put_inside.ensures z.0 in
     let y = c.put-2.ensures b.0 in
     let x = c.put.ensures y.0 in
-    let f = c.push_to.ensures _ c.index_table.ensures x.0 in
-    let e = c.number-entry.ensures _ c.sum.ensures f.0 in
-    let q = c.place-first.ensures e.0 in
-    let n = c.number-number.ensures _ c.narrow.ensures q.0 in
-    let kept = f.1.0 ∙ e.1.0 ∙ q.1.0 ∙ n.1.0 in (
-      n.0,
+    let (table_good, (table_same, forks_are)) = c.push_to.ensures _ c.index_table.ensures x.0 in
+    let (entry_good, (entry_same, entry_is)) = c.number-entry.ensures _ c.sum.ensures table_good in
+    let (first_good, (first_same, first_is)) = c.place-first.ensures entry_good in
+    let (number_good, (number_same, number_is)) = c.number-number.ensures _ c.narrow.ensures first_good in
+    let kept = table_same ∙ entry_same ∙ first_same ∙ number_same in (
+      number_good,
       spread_is p mv sh sc d d2 c.args.x s c.push_to.new.list i0 c.put-2.new.self.items.items i3
           c.mend_jump.new.code.items.items
           (index_table c.args.g.now c.args.sets.now c.args.x c.number-entry.result s)
-          c.number-number.result c.number-entry.result c.count-at.result (length i3) (n.1.1 ∙ c.len.ensures)
-          (e.1.1 ∙ ap (λ (m : ℕ). m + 2) (q.1.1 ∙ ap length n.1.0)) refl f.1.1
+          c.number-number.result c.number-entry.result c.count-at.result (length i3) (number_is ∙ c.len.ensures)
+          (entry_is ∙ ap (λ (m : ℕ). m + 2) (first_is ∙ ap length number_same)) refl forks_are
           (x.1 ∙ ap (λ (ys : List Instr). ys ++ i.Forall c.number-number.result ∷ []) kept)
           c.count-at.ensures y.1 b.1 z.1
           refl m.1,
@@ -536,20 +537,20 @@ put_parallel-returns t c k =
     let d2 = written c.put_children-children.new.d in
     let i0 = c.put.new.self.items.items in
     let m = c.mend_jump.ensures k in
-    let s = c.put_children-children.ensures m.0 in
-    let y = c.put-2.ensures s.0 in
+    let (children_good, (children_put, lines_are)) = c.put_children-children.ensures m.0 in
+    let y = c.put-2.ensures children_good in
     let x = c.put.ensures y.0 in
-    let f = c.push_to.ensures _ refl x.0 in
-    let n = c.number-number.ensures _ c.narrow.ensures f.0 in (
-      n.0,
+    let (table_good, (table_same, forks_are)) = c.push_to.ensures _ refl x.0 in
+    let (number_good, (number_same, number_is)) = c.number-number.ensures _ c.narrow.ensures table_good in (
+      number_good,
       parallel_is p mv sh sc d d2 (statements (map statement_of c.args.ss.now)) c.push_to.new.list
           c.patch_table.new.forks i0 c.put-2.new.self.items.items c.mend_jump.new.code.items.items
           _ c.put_children-children.result c.len-table.result c.number-number.result c.count-at.result
           (length d2.instrs)
-          c.len-table.ensures n.1.1 f.1.1
-          (x.1 ∙ ap (λ (ys : List Instr). ys ++ i.Fork c.number-number.result ∷ []) (f.1.0 ∙ n.1.0))
+          c.len-table.ensures number_is forks_are
+          (x.1 ∙ ap (λ (ys : List Instr). ys ++ i.Fork c.number-number.result ∷ []) (table_same ∙ number_same))
           c.count-at.ensures y.1
-          s.1.0 s.1.1 refl m.1 c.patch_table.ensures,
+          children_put lines_are refl m.1 c.patch_table.ensures,
     )
 
 pub put_choices-returns : goal.put_choices-returns
@@ -562,19 +563,19 @@ put_choices-returns t c k =
     let xs = arms (map arm_of c.args.xs.now) in
     let d2 = written c.put_arms-starts.new.d in
     let i4 = c.fill_ends.new.code.items in
-    let w = c.note.ensures k in
-    let filled = noted c.fill_tests-filled.result c.fill_tests-filled.ensures w.1.1 in
-    let e = c.place-end.ensures w.0 in
-    let a = c.put_arms-starts.ensures e.0 in
-    let n = c.put.ensures a.0 in
+    let (note_good, (note_same, note_is)) = c.note.ensures k in
+    let filled = noted c.fill_tests-filled.result c.fill_tests-filled.ensures note_is in
+    let (end_good, (end_same, end_is)) = c.place-end.ensures note_good in
+    let (arms_good, (arms_put, starts_are, ends_are)) = c.put_arms-starts.ensures end_good in
+    let n = c.put.ensures arms_good in
     let b = c.put_blanks.ensures n.0 in (
       b.0,
       choices_are p mv sh sc d d2 xs c.put_blanks.new.code.items.items c.put.new.self.items.items i4
           c.note.new.self.items.items c.put_arms-starts.result.0 c.put_arms-starts.result.1 c.count-first.result
           c.place-end.result
-          c.count-first.ensures b.1 n.1 a.1.0 a.1.1 a.1.2 e.1.1
-          (c.fill_ends.ensures ∙ (λ j. filled_ends (e.1.0 j) (c.items.ensures j) c.place-end.result))
-          (w.1.0 ∙ filled ∙ ap (λ (ys : List ℕ). filled_tests i4 c.count-first.result (bare_arms xs) ys)
+          c.count-first.ensures b.1 n.1 arms_put starts_are ends_are end_is
+          (c.fill_ends.ensures ∙ (λ j. filled_ends (end_same j) (c.items.ensures j) c.place-end.result))
+          (note_same ∙ filled ∙ ap (λ (ys : List ℕ). filled_tests i4 c.count-first.result (bare_arms xs) ys)
           c.items-2.ensures),
     )
 
@@ -627,24 +628,24 @@ put_children-loop-s-preserved t c k =
     let d2 = written c.put_statement.new.d in
     let z = c.put.ensures k in
     let b = c.put_statement.ensures z.0 in
-    let f = c.push_to.ensures _ c.child_line.ensures b.0 in
-    let q = c.place-entry.ensures f.0 in
-    let inv = c.loop-s.invariant q.0 in
-    let body = b.1 ∙ (λ j. buffer_after p mv sh (buffer_of ((f.1.0 ∙ q.1.0) j) d.forks d.texts) sc s) in
+    let (line_good, (line_same, lines_are)) = c.push_to.ensures _ c.child_line.ensures b.0 in
+    let (entry_good, (entry_same, entry_is)) = c.place-entry.ensures line_good in
+    let (good, (rest_put, rest_lines)) = c.loop-s.invariant entry_good in
+    let body = b.1 ∙ (λ j. buffer_after p mv sh (buffer_of ((line_same ∙ entry_same) j) d.forks d.texts) sc s) in
     let place = (λ j. length (z.1 j)) ∙ (λ j. length ((body j).instrs ++ i.End ∷ [])) ∙ ended_by p mv sh sc d s i.End in
     let behind = children p mv sh (after_statement p (length d.instrs) (bare_statement s) + 1) rest in (
-      inv.0,
+      good,
       (
         (λ j. buffer_after_children p mv sh (buffer_of (z.1 j) d2.forks d2.texts) sc rest)
             ∙ (λ j. buffer_after_children p mv sh (with_code (body j) (i.End ∷ [])) sc rest)
             ∙ child_next p mv sh sc d s rest
             ∙ (λ j. buffer_after_children p mv sh d sc (sym on j))
-            ∙ inv.1.0,
-        (λ j. (f.1.1 j) ++ children p mv sh (place j) rest)
+            ∙ rest_put,
+        (λ j. (lines_are j) ++ children p mv sh (place j) rest)
             ∙ append_assoc out (child_of c.args.g.now c.args.sets.now c.place-entry.result s ∷ []) behind
-            ∙ (λ j. out ++ (child p mv sh (q.1.1 j) None s ∷ behind))
+            ∙ (λ j. out ++ (child p mv sh (entry_is j) None s ∷ behind))
             ∙ (λ j. out ++ children p mv sh (length d.instrs) (sym on j))
-            ∙ inv.1.1,
+            ∙ rest_lines,
       ),
     )
 
@@ -657,12 +658,12 @@ put_children-returns t c k =
     let d = written c.loop-s.d in
     let end = rw c.items-s-items.ensures at (statements_end c.items-s-items.result.now c.loop-s.s-index
     c.loop-s-test.false) in
-    let inv = c.loop-s.invariant k in (
-      inv.0,
+    let (good, (rest_put, rest_lines)) = c.loop-s.invariant k in (
+      good,
       (
-        sym (children_none p mv sh sc d) ∙ (λ j. buffer_after_children p mv sh d sc (sym end j)) ∙ inv.1.0,
+        sym (children_none p mv sh sc d) ∙ (λ j. buffer_after_children p mv sh d sc (sym end j)) ∙ rest_put,
         sym (append-nil c.loop-s.lines) ∙ (λ j. c.loop-s.lines ++ children p mv sh (length d.instrs) (sym end j))
-            ∙ inv.1.1,
+            ∙ rest_lines,
       ),
     )
 
@@ -683,32 +684,32 @@ put_arms-loop-a-preserved t c k =
     let behind = after_statement p q s + 1 in
     let d2 = written c.put_statement.new.d in
     let z = c.put.ensures k in
-    let e = c.mark-in-loop-a.ensures z.0 in
-    let st = c.put_statement.ensures e.0 in
-    let b = c.mark.ensures st.0 in
-    let inv = c.loop-a.invariant b.0 in
-    let last = z.1 ∙ ap (λ (ys : List Instr). ys ++ i.Jump 0 ∷ []) e.1.0 in
-    let body = st.1 ∙ (λ j. buffer_after p mv sh (buffer_of (b.1.0 j) d.forks d.texts) sc
+    let (end_good, (end_same, end_is)) = c.mark-in-loop-a.ensures z.0 in
+    let st = c.put_statement.ensures end_good in
+    let (start_good, (start_same, start_is)) = c.mark.ensures st.0 in
+    let (good, (rest_put, rest_starts, rest_ends)) = c.loop-a.invariant start_good in
+    let last = z.1 ∙ ap (λ (ys : List Instr). ys ++ i.Jump 0 ∷ []) end_same in
+    let body = st.1 ∙ (λ j. buffer_after p mv sh (buffer_of (start_same j) d.forks d.texts) sc
     (statement_of (out-Arm c.a-item.result).body)) in
     let place = (λ j. length (last j)) ∙ (λ j. length ((body j).instrs ++ i.Jump 0 ∷ []))
     ∙ ended_by p mv sh sc d _ (i.Jump 0) in
     let end = (λ j. length (body j).instrs) ∙ written_place p mv sh sc d _ in (
-      inv.0,
+      good,
       (
         (λ j. buffer_after_arms p mv sh (buffer_of (last j) d2.forks d2.texts) sc rest 0)
             ∙ (λ j. buffer_after_arms p mv sh (with_code (body j) (i.Jump 0 ∷ [])) sc rest 0)
             ∙ arm_next p mv sh sc d _ _ rest
             ∙ (λ j. buffer_after_arms p mv sh d sc (sym on j) 0)
-            ∙ inv.1.0,
-        (λ j. (b.1.1 j) ++ starts_of p (place j) (bare_arms rest))
+            ∙ rest_put,
+        (λ j. (start_is j) ++ starts_of p (place j) (bare_arms rest))
             ∙ append_assoc starts (q ∷ []) (starts_of p behind (bare_arms rest))
             ∙ (λ j. starts ++ starts_of p q (bare_arms (sym on j)))
-            ∙ inv.1.1,
-        (λ j. (e.1.1 j) ++ ends_of p (place j) (bare_arms rest))
+            ∙ rest_starts,
+        (λ j. (end_is j) ++ ends_of p (place j) (bare_arms rest))
             ∙ append_assoc ends (length d2.instrs ∷ []) (ends_of p behind (bare_arms rest))
             ∙ (λ j. ends ++ ((end j) ∷ ends_of p behind (bare_arms rest)))
             ∙ (λ j. ends ++ ends_of p q (bare_arms (sym on j)))
-            ∙ inv.1.2,
+            ∙ rest_ends,
       ),
     )
 
@@ -721,15 +722,15 @@ put_arms-returns t c k =
     let d = written c.loop-a.d in
     let end = rw c.items-a-items.ensures at (arms_end c.items-a-items.result.now c.loop-a.a-index
     c.loop-a-test.false) in
-    let inv = c.loop-a.invariant k in (
-      inv.0,
+    let (good, (rest_put, rest_starts, rest_ends)) = c.loop-a.invariant k in (
+      good,
       (
-        sym (arms_none p mv sh sc d 0) ∙ (λ j. buffer_after_arms p mv sh d sc (sym end j) 0) ∙ inv.1.0,
+        sym (arms_none p mv sh sc d 0) ∙ (λ j. buffer_after_arms p mv sh d sc (sym end j) 0) ∙ rest_put,
         sym (append-nil c.loop-a.starts)
             ∙ (λ j. c.loop-a.starts ++ starts_of p (length d.instrs) (bare_arms (sym end j)))
-            ∙ inv.1.1,
+            ∙ rest_starts,
         sym (append-nil c.loop-a.ends)
             ∙ (λ j. c.loop-a.ends ++ ends_of p (length d.instrs) (bare_arms (sym end j)))
-            ∙ inv.1.2,
+            ∙ rest_ends,
       ),
     )

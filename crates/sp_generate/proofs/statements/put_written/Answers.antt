@@ -1,3 +1,5 @@
+-- The text gets the next number; its code is that of its width and the instruction that writes it. Each call says that
+-- nothing was lost before it (`good`) where nothing is lost behind it, so the last one comes first here.
 use Rattle.std.proofs.Common.{[], ◌∷◌, ◌++◌, ◌∙◌, if◌then◌else◌}
 use Rattle.sp_tree.specs.CheckedOf.{width_of}
 use Rattle.sp_tree.specs.Bare.{bare_width}
@@ -17,15 +19,15 @@ returns c k =
     let sc = scopes c.args.sc.now in
     let d = written c.args.d.now in
     let w = bare_width (width_of c.args.w.now) in
-    let f = c.push_to.ensures _ c.duplicate.ensures k in
-    let x = c.put_text.ensures f.0 in
-    let n = c.number-number.ensures _ c.narrow.ensures x.0 in
-    let number = n.1.1 ∙ c.len.ensures in (
-      n.0,
-      (λ j. buffer_of (f.1.0 j) d.forks (f.1.1 j))
+    let (text_good, (text_same, texts_are)) = c.push_to.ensures _ c.duplicate.ensures k in
+    let (put_good, code_is) = c.put_text.ensures text_good in
+    let (number_good, (number_same, count_is)) = c.number-number.ensures _ c.narrow.ensures put_good in
+    let number = count_is ∙ c.len.ensures in (
+      number_good,
+      (λ j. buffer_of (text_same j) d.forks (texts_are j))
           ∙ text_is p (moved_of c.args.sets.now) (shared_of c.args.sets.now) sc d c.args.text.now (width_of
           c.args.w.now)
           c.put_text.new.code.items.items
-          (x.1 ∙ (λ j. n.1.0 j ++ (width_code p sc w
+          (code_is ∙ (λ j. number_same j ++ (width_code p sc w
           ++ (if is_given w then i.WritewText (number j) else i.WriteText (number j)) ∷ []))),
     )
