@@ -42,9 +42,7 @@ KEPT = {
 OPEN = {
     "sp_code/proofs/CodePositions": "right_stands",
     "sp_code/specs/CodeOfTree": "RightAt",
-    "sp_code/specs/TreeCode": "field_instr",
     "sp_code/specs/Ranks": "ways",
-    "sp_code/specs/Scopes": "field_type",
     "sp_codefile/proofs/InstrLaws": "operands_small",
     "sp_codegen/proofs/AssignSteps": "assign_makes",
     "sp_codegen/proofs/Follows": "push_follows",
