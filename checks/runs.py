@@ -82,7 +82,6 @@ OPEN = {
     "sp_link/proofs/Replay": "one_event",
     "sp_link/proofs/DeclaredUses": "right",
     "sp_link/proofs/SortedWaiters": "by",
-    "sp_meaning/specs/SuperPascal": "is_pausing",
     "sp_race/proofs/NotesFrames": "notes_swap",
     "sp_replay/proofs/LiveRoots": "awaits",
     "sp_report/specs/Census": "is_counted",

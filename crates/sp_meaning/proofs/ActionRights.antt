@@ -225,11 +225,11 @@ module _ (set : RunInput) (q : Name) (W R : Loc → Type 0) (low : ℕ) (own : (
       same : (b : Block) (link : ℕ) (en : Encloses fs b.parent link) (w : Identity) (o : LocalState) → w.name ≡ q
           → o.frames ≡ fs
           → (pushed_frame set f link (references b.formals gs) w o).frames ≡ fresh_of b link en ∷ fs
-      same b link en w o n e = λ i. record {
+      same b link (_, _, _, _, link_is) w o n e = λ i. record {
         owner = n i;
         number = length (e i);
         home = OfBlock f;
-        link = sym en.4 i;
+        link = sym link_is i;
         references = references b.formals gs;
       } ∷ e i
 
@@ -241,12 +241,13 @@ module _ (set : RunInput) (q : Name) (W R : Loc → Type 0) (low : ℕ) (own : (
       laid b is link en hs h = after q W R _ _
           (lay_stays (fresh_of b link en ∷ fs) (length hs) h (variables_of f 0 set.program.variables))
           (λ u _. after q W R _ _ (copy_stays (fresh_of b link en ∷ fs) (length hs) h b.formals gs) (λ u _.
+          let (parent, frame, is_parent, is_found, _) = en in
           gives q W R b (
             is,
-            fresh_linked set.program q W R low own reads free fs f b args gs en.0 en.1 l is g
-                (free.parents f b en.0 is en.2) en.3,
-            fresh_sound set.program q W R low own reads free fs f b args gs en.0 en.1 l is g
-                (free.parents f b en.0 is en.2) en.3 high s,
+            fresh_linked set.program q W R low own reads free fs f b args gs parent frame l is g
+                (free.parents f b parent is is_parent) is_found,
+            fresh_sound set.program q W R low own reads free fs f b args gs parent frame l is g
+                (free.parents f b parent is is_parent) is_found high s,
             fresh_of b link en,
             refl,
             refl,
@@ -329,10 +330,10 @@ module _ (set : RunInput) (q : Name) (W R : Loc → Type 0) (low : ℕ) (own : (
           (push_good set.program W R z hs b.body (Leave ∷ todo) h.2 (back hs b h))))
         where
           back : (hs : List Frame) (b : Block) → BodyIsSound g fs b hs → Fit set.program W R z hs (Leave ∷ todo)
-          back hs b h = record {
-            linked = h.1;
-            ready = subst (λ y. ItemsAreSound set.program W R (frames_below y) todo) (sym h.4) f.ready;
-            ends = subst (λ y. last_of (frames_below y) todo ≡ z) (sym h.4) f.ends;
+          back hs b (_, linked, _, _, frames_are, _, _) = record {
+            linked = linked;
+            ready = subst (λ y. ItemsAreSound set.program W R (frames_below y) todo) (sym frames_are) f.ready;
+            ends = subst (λ y. last_of (frames_below y) todo ≡ z) (sym frames_are) f.ends;
           }
       start_from (Sequence ss) todo so f = went (push_all ss todo) (push_all_good set.program W R z fs ss todo so f)
       start_from (If e a) todo so f = after q W R _ _ (test e (part (λ u. inl) so)) (λ n _. go (int_le n (pos 0)))
@@ -516,23 +517,23 @@ module _ (set : RunInput) (q : Name) (W R : Loc → Type 0) (low : ℕ) (own : (
   answer_stays : (fs hs : List Frame) → low ≤ length fs → (f : ℕ) (b : Block) → BodyIsSound f fs b hs → (x : Option ℕ)
       → b.answer ≡ x → KeepsRights q W R hs Any (function_result set x)
   answer_stays fs hs high f b h None e = lost_stays q W R hs _
-  answer_stays fs hs high f b h (Some x) e =
+  answer_stays fs hs high f b (body_is, linked, _, new, frames_are, owner_is, home_is) (Some x) e =
       then_keeps q W R hs _ _ (place_of_keeps q W R hs set x) (λ y d. read_stays q W R hs set y (may y d))
     where
-      it : (i : Variable) × (slice_get set.program.variables x ≡ Some i) × (i.role ≡ role.Answer) × (i.block ≡ f)
-      it = free.answers f b x h.0 e
+      number : low ≤ new.number
+      number = let l : Linked (new ∷ fs) = subst Linked frames_are linked in let e = l.0 in omega (arith, high, e)
 
-      number : low ≤ h.3.number
-      number = let l : Linked (h.3 ∷ fs) = subst Linked h.4 h.1 in let e = l.0 in omega (arith, high, e)
-
-      is : location_of set.program hs x ≡ Some (Cell h.3.owner h.3.number x)
-      is = ap (λ y. location_of set.program y x) h.4 ∙ answer_stands h.3 fs f x h.6 it.0 it.1 it.2 it.3
+      is : location_of set.program hs x ≡ Some (Cell new.owner new.number x)
+      is =
+          let (answer, is_answer, has_role, of_block) = free.answers f b x body_is e in
+          ap (λ y. location_of set.program y x) frames_are
+          ∙ answer_stands new fs f x home_is answer is_answer has_role of_block
 
       may : (y : Place) → IsComponentOf q W R hs (location_of set.program hs x) y → MayRead q W R hs set y
       may (AtAddress a) d =
-          let same : Cell h.3.owner h.3.number x ≡ a.spot =
-          same_Some (Cell h.3.owner h.3.number x) a.spot (sym is ∙ d) in
-          reads a.spot (subst W same (subst (λ y. W (Cell y h.3.number x)) (sym h.5) (own h.3.number x number)))
+          let same : Cell new.owner new.number x ≡ a.spot =
+          same_Some (Cell new.owner new.number x) a.spot (sym is ∙ d) in
+          reads a.spot (subst W same (subst (λ y. W (Cell y new.number x)) (sym owner_is) (own new.number x number)))
       may (Fixed n) d = tt
 
   pub call_keeps : (n : ℕ) → AllKeep n → (fs : List Frame) → low ≤ length fs → Linked fs
@@ -552,15 +553,17 @@ module _ (set : RunInput) (q : Name) (W R : Loc → Type 0) (low : ℕ) (own : (
       finish b = bind (function_result set b.answer) (λ v. bind (leave set) (λ u. give v))
 
       finished : (f : ℕ) (b : Block) (hs : List Frame) → BodyIsSound f fs b hs → From q W R hs Ended (finish b)
-      finished f b hs h = after q W R _ _ (answer_stays fs hs high f b h b.answer refl)
-          (λ v _. after_from q W R _ _ (leave_from hs) (λ u gs e. gives q W R v (e ∙ ap frames_below h.4, tt)))
+      finished f b hs h = let (_, _, _, _, frames_are, _, _) = h in
+          after q W R _ _ (answer_stays fs hs high f b h b.answer refl)
+          (λ v _. after_from q W R _ _ (leave_from hs) (λ u gs e. gives q W R v (e ∙ ap frames_below frames_are, tt)))
 
       whole : (f : ℕ) (args : Actuals) (gs : List ArgumentValue) → Sound set.program W R fs (In_call f args)
           → AreArgumentsOf set.program fs args gs → From q W R fs Ended
           (bind (enter set f gs) (λ b. bind (run_items set n (push b.body [])) (λ rest. finish b)))
       whole f args gs so gave = after_from q W R _ _ (enter_from fs high f args gs l so gave) (λ b hs h.
-          after_from q W R _ _ (ih.proof hs hs (push b.body []) (higher hs h.3 h.4)
-          (push_good set.program W R hs hs b.body [] h.2 (record { linked = h.1; ready = tt; ends = refl })))
+          let (_, linked, sound, new, frames_are, _, _) = h in
+          after_from q W R _ _ (ih.proof hs hs (push b.body []) (higher hs new frames_are)
+          (push_good set.program W R hs hs b.body [] sound (record { linked = linked; ready = tt; ends = refl })))
           (λ rest is e. at_same Ended hs is (finish b) e (finished f b hs h)))
 
   rest_by_from : (n : ℕ) → AllKeep n → (z fs : List Frame) (todo : List Item) → low ≤ length z

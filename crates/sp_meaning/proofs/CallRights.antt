@@ -34,13 +34,14 @@ references_older : (fits : Home → Bool) (n : ℕ) (fs : List Frame) (f : Frame
     → frame_found fits n fs ≡ Some f
     → AreOlder (length fs) f.references
 references_older fits n [] f l e = absurd (cc e)
-references_older fits n (g ∷ fs) f l e = go (λ m x. all_older_more (length fs) (suc (length fs)) f.references
-    (omega arith) (references_older fits m fs f l.3 x)) (length (g ∷ fs) == n) e
+references_older fits n (g ∷ fs) f (_, _, are_older, below) e =
+    go (λ m x. all_older_more (length fs) (suc (length fs)) f.references (omega arith)
+    (references_older fits m fs f below x)) (length (g ∷ fs) == n) e
   where
     inner : ((m : ℕ) → frame_found fits m fs ≡ Some f → AreOlder (suc (length fs)) f.references) → (b : Bool)
         → (if b then Some g else frame_found fits g.link fs) ≡ Some f → AreOlder (suc (length fs)) f.references
     inner ih true e = subst (λ (z : Frame). AreOlder (suc (length fs)) z.references) (same_Some g f e)
-        (all_older_more (length fs) (suc (length fs)) g.references (omega arith) l.2)
+        (all_older_more (length fs) (suc (length fs)) g.references (omega arith) are_older)
     inner ih false e = ih g.link e
 
     go : ((m : ℕ) → frame_found fits m fs ≡ Some f → AreOlder (suc (length fs)) f.references) → (b : Bool)
@@ -179,7 +180,9 @@ module _ (p : Program) (fs : List Frame) where
             g.0
                 ∙ ap (λ (y : Address). Some y.spot) (same_Some c b d),
           )
-      go ih false es false et e d = let r = ih e d in (r.0, r.1, inr r.2, inr r.3, r.4, r.5, r.6)
+      go ih false es false et e d =
+          let (one, other, is_one, is_other, differs, at_one, at_other) = ih e d in
+          (one, other, inr is_one, inr is_other, differs, at_one, at_other)
 
   given_older : Linked fs → (args : Actuals) (zs : List ℕ) (gs : List ArgumentValue) → AreArgumentsOf p fs args gs
       → AreOlder (length fs) (references zs gs)
@@ -234,7 +237,8 @@ module _ (p : Program) (q : Name) (W R : Loc → Type 0) (low : ℕ) (own : (n x
     (reads : (l : Loc) → W l → R l) (free : IsFreeOfInterference p) where
   below_le : (n c b : ℕ) → IsBelow p n c b → b ≤ c
   below_le zero c b h = omega (arith, h)
-  below_le (suc n) c b h = omega (arith, free.parents c h.0 h.2 h.1 h.3, below_le n h.2 b h.4)
+  below_le (suc n) c b (k, is_there, parent, is_parent, above) =
+      omega (arith, free.parents c k parent is_there is_parent, below_le n parent b above)
 
   free_if : (b x : ℕ) (i : Variable) → slice_get p.variables x ≡ Some i → i.block < b → IsFree p b x
   free_if b x i e lt j d n h =
@@ -390,9 +394,10 @@ module _ (p : Program) (q : Name) (W R : Loc → Type 0) (low : ℕ) (own : (n x
         differ bs cs u v r t x y l n a b (NewCell e) (Outer f d) = own_is_new x l e (older y l d)
         differ bs cs u v r t x y l n a b (Refers f d g) (NewCell e) = own_is_new y l e (referred_is_older x f l d g)
         differ bs cs u v r t x y l n a b1 (Refers f d g) (Refers h e i) =
-            let z = two p fs args k.formals gs gave (s.kept (CallOf b args) (inl refl)).0 x y f h n d e in
-            s.apart [] [] (Target z.0) (Target z.1) (target z.0 z.2) (target z.1 z.3) z.0 z.1 l z.4
-            (refl, z.5 ∙ ap Some g) (refl, z.6 ∙ ap Some i)
+            let (one, other, is_one, is_other, differs, at_one, at_other) =
+            two p fs args k.formals gs gave (s.kept (CallOf b args) (inl refl)).0 x y f h n d e in
+            s.apart [] [] (Target one) (Target other) (target one is_one) (target other is_other) one other l differs
+            (refl, at_one ∙ ap Some g) (refl, at_other ∙ ap Some i)
         differ bs cs u v r t x y l n a b (Refers f d g) (Outer h e) = crossed cs v y x l t b h e f d g
         differ bs cs u v r t x y l n a b (Outer h e) (NewCell d) = own_is_new y l d (older x l e)
         differ bs cs u v r t x y l n a b (Outer h e) (Refers f d g) = crossed bs u x y l r a h e f d g

@@ -46,7 +46,8 @@ module _ (p : Program) (W R : Loc → Type 0) where
   born_clear fs (s ∷ ss) (c ∷ bs) b zero zero l n h k = n refl
   born_clear fs (s ∷ ss) (c ∷ bs) b zero (suc j) l n h k = (clear_with fs s ss b.2 j l).0 h k
   born_clear fs (s ∷ ss) (c ∷ bs) b (suc i) zero l n h k = (clear_with fs s ss b.2 i l).1 k h
-  born_clear fs (s ∷ ss) (c ∷ bs) b (suc i) (suc j) l n h k = born_clear fs ss bs b.3 i j l (λ e. n (ap suc e)) h k
+  born_clear fs (s ∷ ss) (c ∷ bs) (_, _, _, others) (suc i) (suc j) l n h k =
+      born_clear fs ss bs others i j l (λ e. n (ap suc e)) h k
 
   used_right : (fs : List Frame) (s : Stmt) (l : Loc) → ((l : Loc) → W l → R l) → Sound p W R fs (In_stmt s)
       → Used p fs s l → R l
@@ -61,9 +62,11 @@ module _ (p : Program) (W R : Loc → Type 0) where
       → (i : ℕ) (l : Loc) → (AimedAt fs (slice_get ss i) l → W l) × (UsedAt fs (slice_get ss i) l → R l)
   born_right fs [] bs reads b i l = (λ h. absurd h, λ h. absurd h)
   born_right fs (s ∷ ss) [] reads b i l = absurd b
-  born_right fs (s ∷ ss) (c ∷ bs) reads b zero l =
-      (λ h. b.1.allowed h.1.0 (Target h.0) h.1.1 h.0 l (refl, h.2), λ h. used_right fs s l reads b.1 h)
-  born_right fs (s ∷ ss) (c ∷ bs) reads b (suc i) l = born_right fs ss bs reads b.3 i l
+  born_right fs (s ∷ ss) (c ∷ bs) reads (_, sound, _, _) zero l = (
+    λ (x, (path, is_reached), is_there). sound.allowed path (Target x) is_reached x l (refl, is_there),
+    λ h. used_right fs s l reads sound h,
+  )
+  born_right fs (s ∷ ss) (c ∷ bs) reads (_, _, _, others) (suc i) l = born_right fs ss bs reads others i l
 
 -- the index of a forall hides nothing
 module _ (p : Program) (fs : List Frame) (q : Name) (ix : Option (ℕ × ℤ)) where

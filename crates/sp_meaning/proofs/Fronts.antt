@@ -73,10 +73,10 @@ module _ (g : RunInput) where
     where
       pair : {a b : ℕ} {c d : StateOf g} → a ≡ b → c ≡ d → ◌≡◌ {A = ℕ × StateOf g} (a, c) (b, d)
       pair e f = λ i. (e i, f i)
-  only_by (q ∷ front) rest k s t l h =
-      ap (λ x. go_on_or g (longest_from g (front ++ rest) (suc k)) (k, s) x (next_state g s q)) l.1
-      ∙ ap (go_on_or g (longest_from g (front ++ rest) (suc k)) (k, s) None) l.2
-      ∙ only_by front rest (suc k) l.0 t l.3 h ∙ ap (λ n. (n, t)) (next_goes_right k (length front))
+  only_by (q ∷ front) rest k s t (next, no_fault, steps, leads) h =
+      ap (λ x. go_on_or g (longest_from g (front ++ rest) (suc k)) (k, s) x (next_state g s q)) no_fault
+      ∙ ap (go_on_or g (longest_from g (front ++ rest) (suc k)) (k, s) None) steps
+      ∙ only_by front rest (suc k) next t leads h ∙ ap (λ n. (n, t)) (next_goes_right k (length front))
 
   pub only : (qs : List Name) (n : ℕ) (t : StateOf g) → IsLongestFront g (start g) qs n t → longest_front g qs ≡ (n, t)
   only qs n t f = ap (λ z. longest_from g z 0 (start g)) f.whole ∙ only_by f.front f.rest 0 (start g) t f.leads f.stops

@@ -70,19 +70,20 @@ module _ (g : RunInput) where
     where
       zero_add : n ≡ 0 + n
       zero_add = omega arith
-  turned turn since q (suc k) s m paused n t h f go =
-      let still = no_fault_step s q h.0 h.3 None h.1 h.2 tt h.4 f in
-      subst (λ z. FaultFreeSchedule s z t) suc_add (first s q h.3 (k + n) t f h.4
-      (rest (is_due_after g turn since s h.0 q h.3) h.5 still (λ x. turned turn since q k h.3 m paused n t x still go)))
+  turned turn since q (suc k) s m paused n t (own, runs, enters_none, next, steps, ahead) f go =
+      let still = no_fault_step s q own next None runs enters_none tt steps f in
+      subst (λ z. FaultFreeSchedule s z t) suc_add (first s q next (k + n) t f steps
+      (rest (is_due_after g turn since s own q next) ahead still
+      (λ x. turned turn since q k next m paused n t x still go)))
     where
       suc_add : suc (k + n) ≡ suc k + n
       suc_add = omega arith
 
-      rest : (b : Bool) → Either b ((k ≡ 0) × (m ≡ h.3) × (paused ≡ true)) (Turn g turn since q k h.3 m paused)
-          → h.3.fault ≡ None → (Turn g turn since q k h.3 m paused → FaultFreeSchedule h.3 (k + n) t)
-          → FaultFreeSchedule h.3 (k + n) t
-      rest true x still later = subst (λ z. FaultFreeSchedule h.3 (z + n) t) (sym x.0)
-          (subst (λ z. FaultFreeSchedule h.3 z t) zero_add
+      rest : (b : Bool) → Either b ((k ≡ 0) × (m ≡ next) × (paused ≡ true)) (Turn g turn since q k next m paused)
+          → next.fault ≡ None → (Turn g turn since q k next m paused → FaultFreeSchedule next (k + n) t)
+          → FaultFreeSchedule next (k + n) t
+      rest true x still later = subst (λ z. FaultFreeSchedule next (z + n) t) (sym x.0)
+          (subst (λ z. FaultFreeSchedule next z t) zero_add
           (subst (λ z. FaultFreeSchedule z n t) x.1 (go (ap (λ (z : StateOf g). z.fault) x.1 ∙ still))))
         where
           zero_add : n ≡ 0 + n
@@ -95,9 +96,10 @@ module _ (g : RunInput) where
       → ((c1 : JournalState) (u : StateOf g) (r : ℕ) → left c1 u r → u.fault ≡ None → FaultFreeSchedule u r t)
       → m.fault ≡ None
       → FaultFreeSchedule m n t
-  kernel_goes left c m paused q w n t ok h next_goes f =
-      let still = no_fault_step m q h.5.0 h.2 (Some w) h.5.1 h.5.2 ok h.5.3 f in
-      subst (λ z. FaultFreeSchedule m z t) (sym h.4) (first m q h.2 h.3 t f h.5.3 (next_goes _ h.2 h.3 h.6 still))
+  kernel_goes left c m paused q w n t ok (_, _, after, rest, size, (own, runs, enters, steps), others) next_goes f =
+      let still = no_fault_step m q own after (Some w) runs enters ok steps f in
+      subst (λ z. FaultFreeSchedule m z t) (sym size) (first m q after rest t f steps
+      (next_goes _ after rest others still))
 
   entered_goes : (left : JournalState → StateOf g → ℕ
       → Type 0) (c : JournalState) (m : StateOf g) (paused : Bool) (q : Name)
@@ -121,7 +123,7 @@ module _ (g : RunInput) where
     leads = a.1;
     still = ap (λ (z : StateOf g). z.fault) a.1 ∙ f;
   }
-  along_goes turn (e ∷ es) c s n t a clean f =
-      subst (λ z. FaultFreeSchedule s z t) (sym a.5) (turned turn (c.since e.who) e.who a.1 s a.3 a.4 a.2 t a.6 f
-      (entered_goes _ c a.3 a.4 e.who e.what a.2 t clean.0 a.7
+  along_goes turn (e ∷ es) c s n t (_, steps, rest, m, paused, size, turns, entry) clean f =
+      subst (λ z. FaultFreeSchedule s z t) (sym size) (turned turn (c.since e.who) e.who steps s m paused rest t turns f
+      (entered_goes _ c m paused e.who e.what rest t clean.0 entry
       (λ c1 u r b still. along_goes turn es c1 u r t b clean.1 still)))

@@ -309,8 +309,8 @@ module _ (p : Program) where
     births_keep i [] [] d b a u v = v
     births_keep i [] (e ∷ cs) d b a u v = absurd b
     births_keep i (t ∷ ts) [] d b a u v = absurd b
-    births_keep i (t ∷ ts) (e ∷ cs) d b a u v =
-        births_keep (suc i) ts cs (at_key same_name ((f q, i) ∷ q) (Works (new_process w o i e)) d) b.3
+    births_keep i (t ∷ ts) (e ∷ cs) d (todo_is, sound, _, others) a u v =
+        births_keep (suc i) ts cs (at_key same_name ((f q, i) ∷ q) (Works (new_process w o i e)) d) others
         (λ j l h. subst (λ n. OwnOrGiven W' ((f q, n) ∷ q) l) (next_goes_right j i) (a (suc j) l h))
         (λ j l h. subst (λ n. OwnOrGiven R' ((f q, n) ∷ q) l) (next_goes_right j i) (u (suc j) l h))
         (becomes W' R' d f' ((f q, i) ∷ q) (Works (new_process w o i e)) v (omega (arith, f'_is)) child)
@@ -328,8 +328,9 @@ module _ (p : Program) where
           last = _;
           fit = child_fit p (OwnOrGiven W q) (OwnOrGiven R q) (OwnOrGiven W' ((f q, i) ∷ q))
               (OwnOrGiven R' ((f q, i) ∷ q)) o.frames
-              ((w.forks, i) ∷ w.name) e.index t b.1 (λ l h. subst (λ n. OwnOrGiven W' ((f q, n) ∷ q) l) first (a 0 l h))
-              (λ l h. subst (λ n. OwnOrGiven R' ((f q, n) ∷ q) l) first (u 0 l h)) linked e.todo b.0;
+              ((w.forks, i) ∷ w.name) e.index t sound
+              (λ l h. subst (λ n. OwnOrGiven W' ((f q, n) ∷ q) l) first (a 0 l h))
+              (λ l h. subst (λ n. OwnOrGiven R' ((f q, n) ∷ q) l) first (u 0 l h)) linked e.todo todo_is;
         }
 
     pub forks_keep : (count : ℕ) → Inv W' R'
@@ -631,8 +632,8 @@ module _ (set : RunInput) (totals : Totals) (free : IsFreeOfInterference set.pro
     writes = λ a l x. absurd x;
     accesses = λ a l x. absurd x;
   }
-  tracked W R s (q ∷ ps) t inv h = go (λ W1 R1 i. tracked W1 R1 h.0 ps t i h.3)
-      (own_part_in s.condition q (s.condition q)) refl h.2
+  tracked W R s (q ∷ ps) t inv (next, _, steps, leads) = go (λ W1 R1 i. tracked W1 R1 next ps t i leads)
+      (own_part_in s.condition q (s.condition q)) refl steps
     where
       here_w : (a : Name) (l : Loc) (pr : Process) → own_part_in s.condition q (s.condition q) ≡ Some pr
           → WritesIn s q pr a l → OwnOrGiven W a l
@@ -643,11 +644,11 @@ module _ (set : RunInput) (totals : Totals) (free : IsFreeOfInterference set.pro
       here_r a l pr e w = let k = works_well W R s inv q pr e in accesses_right W R s inv q pr k.0 k.1 a l w
 
       later : (it : State L → Name → Process → Type 0) (m : State L) → step totals s q ≡ Some m → Happens totals it m ps
-          → Happens totals it h.0 ps
-      later it m e x = subst (λ z. Happens totals it z ps) (same_Some m h.0 (sym e ∙ h.2)) x
+          → Happens totals it next ps
+      later it m e x = subst (λ z. Happens totals it z ps) (same_Some m next (sym e ∙ steps)) x
 
       both : (W1 R1 : Name → Loc → Type 0) → ((r : Name) (l : Loc) → OwnOrGiven W r l → OwnOrGiven W1 r l)
-          → ((r : Name) (l : Loc) → OwnOrGiven R r l → OwnOrGiven R1 r l) → Tracked W1 R1 h.0 ps
+          → ((r : Name) (l : Loc) → OwnOrGiven R r l → OwnOrGiven R1 r l) → Tracked W1 R1 next ps
           → Tracked W R s (q ∷ ps)
       both W1 R1 gw gr k = record {
         W' = k.W';
@@ -665,16 +666,16 @@ module _ (set : RunInput) (totals : Totals) (free : IsFreeOfInterference set.pro
             ps). k.accesses a l (later (λ u r own. AccessesIn u r own a l) y.0 y.1 y.2)) x;
       }
 
-      go : ((W1 R1 : Name → Loc → Type 0) → Inv set.program W1 R1 h.0.condition h.0.forks → Tracked W1 R1 h.0 ps)
-          → (x : Option Process) → own_part_in s.condition q (s.condition q) ≡ x → step_with totals s q x ≡ Some h.0
+      go : ((W1 R1 : Name → Loc → Type 0) → Inv set.program W1 R1 next.condition next.forks → Tracked W1 R1 next ps)
+          → (x : Option Process) → own_part_in s.condition q (s.condition q) ≡ x → step_with totals s q x ≡ Some next
           → Tracked W R s (q ∷ ps)
       go ih None e d = absurd (none-some _ d)
       go ih (Some pr) e d =
           let k = works_well W R s inv q pr e in
           let n : NextRights W R (result_of s q (fault_or (limit_fault totals s.totals (cost (L.next pr s.store)))
           (act_outcome s q (L.next pr s.store)))) = step_keeps W R s inv q pr k.0 k.1 in
-          let i : Inv set.program n.W' n.R' h.0.condition h.0.forks =
-          subst (λ (z : State L). Inv set.program n.W' n.R' z.condition z.forks) (same_Some _ h.0 d) n.inv in
+          let i : Inv set.program n.W' n.R' next.condition next.forks =
+          subst (λ (z : State L). Inv set.program n.W' n.R' z.condition z.forks) (same_Some _ next d) n.inv in
           both n.W' n.R' n.grow_w n.grow_r (ih n.W' n.R' i)
 
   -- from a state with the invariant on, no process writes what a parallel one uses

@@ -250,7 +250,9 @@ module _ (set : RunInput) (free : IsFreeOfInterference set.program) (pure : AreF
       go : (w : Identity) (s : Store) (r : WorkOutcome A × Store) → ((l : Loc) → (s l ≡ r.1 l) ⊎ IsCell l)
           → Result G r.0
           → SilentStep s (then_run (λ a. give (g a)) w r)
-      go w s (Computed a o, m) i f = ((next a f).0, λ h. absurd ((next a f).1.0 h), λ h. absurd ((next a f).1.1 h))
+      go w s (Computed a o, m) i f =
+          let (is_pure, (no_stop, no_opening)) = next a f in
+          (is_pure, λ h. absurd (no_stop h), λ h. absurd (no_opening h))
       go w s (EndsInFault x, m) i f = ⊎_elim (λ (e : s Output ≡ m Output). e) (λ d. absurd d) (i Output)
       go w s (IllFormed, m) i f = tt
       go w s (OutOfFuel, m) i f = tt
@@ -487,13 +489,13 @@ module _ (set : RunInput) (free : IsFreeOfInterference set.program) (pure : AreF
         go true = went todo k
         go false = go_on (push s (Do (While e s) ∷ todo)) (push_pure p s (Do (While e s) ∷ todo) h.1 (h, k))
     start_tells (Repeat s e) todo h k so = go_on (push s (Test s e ∷ todo)) (push_pure p s (Test s e ∷ todo) h.1 (h, k))
-    start_tells (For x from down to s) todo h k so =
-        then_tells _ _ (test from h.0 (part (λ u i. inr (inl i)) so))
-        (λ m _. then_tells _ _ (test to h.1 (part (λ u i. inr (inr (inl i))) so))
+    start_tells (For x from down to s) todo (pure_from, pure_to, is_local, pure_body) k so =
+        then_tells _ _ (test from pure_from (part (λ u i. inr (inl i)) so))
+        (λ m _. then_tells _ _ (test to pure_to (part (λ u i. inr (inr (inl i))) so))
         (λ z _. go m z (is_range down m z)))
       where
         go : (m z : ℤ) (b : Bool) → StepIsSilent (give (Stepped (if b then First x m z down s ∷ todo else todo)))
-        go m z true = went (First x m z down s ∷ todo) ((h.2, h.3), k)
+        go m z true = went (First x m z down s ∷ todo) ((is_local, pure_body), k)
         go m z false = went todo k
     start_tells (Case e arms) todo h k so = then_tells _ _ (test e h.0 (part (λ u. inl) so))
         (λ m _. go (arm_for m arms) (arm_pure p m arms h.1))
@@ -557,18 +559,20 @@ module _ (set : RunInput) (free : IsFreeOfInterference set.program) (pure : AreF
       act_tells : (i : Item) (todo : List Item) → PureItems p (i ∷ todo) → Fit p W R z fs (i ∷ todo)
           → StepIsSilent (item_action set calls i todo)
       act_tells (Do s) todo h f = start_tells s todo h.0 h.1 f.ready.0
-      act_tells (First x m limit down s) todo h f = turns x m limit down s todo h.0.0 h.0.1 h.1
-      act_tells (Again x limit down s) todo h f =
+      act_tells (First x m limit down s) todo ((is_local, pure_body), pure_rest) f =
+          turns x m limit down s todo is_local pure_body pure_rest
+      act_tells (Again x limit down s) todo ((is_local, pure_body), pure_rest) f =
           then_tells _ _ (place_of_keeps q New AnyLocation fs set x)
           (λ y e. then_tells _ _ (read_stays q New AnyLocation fs set y (any_read y))
           (λ v _. then_tells _ _ (ordinal_stays q New AnyLocation fs v)
-          (λ m _. turns x (next_value down m) limit down s todo h.0.0 h.0.1 h.1)))
-      act_tells (Test s e) todo h f = then_tells _ _ (test e h.0.0 (part (λ u. inl) f.ready.0))
+          (λ m _. turns x (next_value down m) limit down s todo is_local pure_body pure_rest)))
+      act_tells (Test s e) todo ((pure_test, pure_body), pure_rest) f =
+          then_tells _ _ (test e pure_test (part (λ u. inl) f.ready.0))
           (λ m _. go (int_le m (pos 0)))
         where
           go : (b : Bool) → StepIsSilent (give (Stepped (if b then Do (Repeat s e) ∷ todo else todo)))
-          go true = went (Do (Repeat s e) ∷ todo) (h.0, h.1)
-          go false = went todo h.1
+          go true = went (Do (Repeat s e) ∷ todo) ((pure_test, pure_body), pure_rest)
+          go false = went todo pure_rest
       act_tells Leave todo h f = record { proof = λ w o m n e. (h, λ y. absurd y, λ y. absurd y) }
       act_tells (Break x) todo h f = fails x
 

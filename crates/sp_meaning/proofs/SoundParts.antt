@@ -113,7 +113,8 @@ module _ {p : Program} {W R : Loc → Type 0} {fs : List Frame} (x : ℕ) (from 
       → Reach p (In_stmt (Forall x from to s)) bs u
   lifted [] u r y l t = ⊎_elim (λ (h : (y : ℕ) (l : Loc) → Touches p fs u y l → ⊥). absurd (h y l t))
       (λ (o : IsOther x u). inr (inr (inr (inl (r, o))))) (other_or u)
-  lifted (b ∷ bs) u r y l t = (r.0, inr (inr (inr (inl (r.1, tt)))), r.2, r.3, r.4, r.5)
+  lifted (b ∷ bs) u (args, here, body, is_body, is_of_callers, inside) y l t =
+      (args, inr (inr (inr (inl (here, tt)))), body, is_body, is_of_callers, inside)
 
   rules : (u : Use) → In_stmt s u → IsFreeUse p u
   rules (Target y) h = tt
@@ -181,7 +182,7 @@ in_arm n (Or (On ms s) rest) = go (has_constant n ms) (arm_for n rest) (in_arm n
 
 pub linked_below : (fs : List Frame) → Linked fs → Linked (frames_below fs)
 linked_below [] l = tt
-linked_below (f ∷ fs) l = l.3
+linked_below (f ∷ fs) (_, _, _, below) = below
 
 -- no more frames are left than there were
 pub last_shorter : (fs : List Frame) (todo : List Item) → length (last_of fs todo) ≤ length fs

@@ -35,13 +35,14 @@ sought fits n fs g gs l e = (sym (find_is fits n fs) ∙ ap top_frame e, numbere
     numbered : (fits : Home → Bool) (n : ℕ) (fs : List Frame) (g : Frame) (gs : List Frame) → Linked fs
         → seek fits n fs ≡ g ∷ gs → length (g ∷ gs) ≡ suc g.number
     numbered fits n [] g gs l e = absurd (nil_is g gs e)
-    numbered fits n (f ∷ fs) g gs l e = go (λ m x. numbered fits m fs g gs l.3 x) (length (f ∷ fs) == n) (fits f.home) e
+    numbered fits n (f ∷ fs) g gs (number_is, _, _, below) e =
+        go (λ m x. numbered fits m fs g gs below x) (length (f ∷ fs) == n) (fits f.home) e
       where
         go : ((m : ℕ) → seek fits m fs ≡ g ∷ gs → length (g ∷ gs) ≡ suc g.number) → (a b : Bool)
             → (if a then (if b then f ∷ fs else seek fits f.link fs) else seek fits n fs) ≡ g ∷ gs
             → length (g ∷ gs) ≡ suc g.number
         go ih true true e =
-            let h : length (f ∷ fs) ≡ suc f.number = ap suc (sym l.0) in
+            let h : length (f ∷ fs) ≡ suc f.number = ap suc (sym number_is) in
             let tail : f ∷ fs ≡ g ∷ gs = e in
             sym (ap length tail) ∙ h ∙ ap (λ (z : List Frame). suc (head_number z)) tail
           where
@@ -54,11 +55,11 @@ sought fits n fs g gs l e = (sym (find_is fits n fs) ∙ ap top_frame e, numbere
 pub lower : (fits : Home → Bool) (n : ℕ) (fs : List Frame) (f : Frame) → Linked fs → frame_found fits n fs ≡ Some f
     → f.number < length fs
 lower fits n [] f l e = absurd (cc e)
-lower fits n (g ∷ fs) f l e = go (λ m x. lower fits m fs f l.3 x) (length (g ∷ fs) == n) e
+lower fits n (g ∷ fs) f (number_is, _, _, below) e = go (λ m x. lower fits m fs f below x) (length (g ∷ fs) == n) e
   where
     inner : ((m : ℕ) → frame_found fits m fs ≡ Some f → f.number < length fs) → (b : Bool)
         → (if b then Some g else frame_found fits g.link fs) ≡ Some f → f.number < suc (length fs)
-    inner ih true e = let d : g ≡ f = same_Some g f e in omega (arith, sym (ap (λ (z : Frame). z.number) d) ∙ l.0)
+    inner ih true e = let d : g ≡ f = same_Some g f e in omega (arith, sym (ap (λ (z : Frame). z.number) d) ∙ number_is)
     inner ih false e = omega (arith, ih g.link e)
 
     go : ((m : ℕ) → frame_found fits m fs ≡ Some f → f.number < length fs) → (b : Bool)
@@ -75,7 +76,8 @@ home_is c (OfIndex x n) e = absurd (cc e)
 pub through : (c d n : ℕ) (f g : Frame) (fs : List Frame) → Linked fs → frame_found (is_block c) n fs ≡ Some f
     → frame_found (is_block d) (suc f.number) fs ≡ Some g → (frame_found (is_block d) n fs ≡ Some g) × (d ≤ c)
 through c d n f g [] l e h = absurd (cc e)
-through c d n f g (k ∷ fs) l e h = go (λ m x y. through c d m f g fs l.3 x y) (length (k ∷ fs) == n) e
+through c d n f g (k ∷ fs) (number_is, is_inside, _, below) e h =
+    go (λ m x y. through c d m f g fs below x y) (length (k ∷ fs) == n) e
   where
     skip : f.number < length fs → frame_found (is_block d) (suc f.number) fs ≡ Some g
     skip lt = subst (λ z. (if z then (if is_block d k.home then Some k else frame_found (is_block d) k.link fs) else
@@ -84,7 +86,7 @@ through c d n f g (k ∷ fs) l e h = go (λ m x y. through c d m f g fs l.3 x y)
 
     deeper : (z : Bool) → is_block d k.home ≡ z → (frame_found (is_block d) k.link fs ≡ Some g) × (d ≤ c)
         → ((if z then Some k else frame_found (is_block d) k.link fs) ≡ Some g) × (d ≤ c)
-    deeper true m r = absurd (omega (arith, subst (λ x. IsInside x k.link fs) (home_is d k.home m) l.1 d g r.0))
+    deeper true m r = absurd (omega (arith, subst (λ x. IsInside x k.link fs) (home_is d k.home m) is_inside d g r.0))
     deeper false m r = r
 
     same : (z : Bool) → is_block d k.home ≡ z → is_block c k.home ≡ true
@@ -93,7 +95,7 @@ through c d n f g (k ∷ fs) l e h = go (λ m x y. through c d m f g fs l.3 x y)
         let e1 : OfBlock c ≡ OfBlock d = sym (home_is c k.home mc) ∙ home_is d k.home m in
         let e2 : c ≡ d = cc e1 in
         omega (arith, e2)
-    same false m mc r = omega (arith, subst (λ x. IsInside x k.link fs) (home_is c k.home mc) l.1 d g r)
+    same false m mc r = omega (arith, subst (λ x. IsInside x k.link fs) (home_is c k.home mc) is_inside d g r)
 
     inner : ((m : ℕ) → frame_found (is_block c) m fs ≡ Some f → frame_found (is_block d) (suc f.number) fs ≡ Some g
         → (frame_found (is_block d) m fs ≡ Some g) × (d ≤ c)) → (z : Bool) → is_block c k.home ≡ z
@@ -106,10 +108,10 @@ through c d n f g (k ∷ fs) l e h = go (λ m x y. through c d m f g fs l.3 x y)
         let h2 : (if is_block d k.home then Some k else frame_found (is_block d) k.link fs) ≡ Some g =
         subst (λ z. (if z then (if is_block d k.home then Some k else frame_found (is_block d) k.link fs) else
         frame_found (is_block d) (suc k.number) fs) ≡ Some g)
-        (eq-eqb (length (k ∷ fs)) (suc k.number) (ap suc (sym l.0)))
+        (eq-eqb (length (k ∷ fs)) (suc k.number) (ap suc (sym number_is)))
         h1 in
         (h2, same (is_block d k.home) refl m h2)
-    inner ih false m e = deeper (is_block d k.home) refl (ih k.link e (skip (lower (is_block c) k.link fs f l.3 e)))
+    inner ih false m e = deeper (is_block d k.home) refl (ih k.link e (skip (lower (is_block c) k.link fs f below e)))
 
     go : ((m : ℕ) → frame_found (is_block c) m fs ≡ Some f → frame_found (is_block d) (suc f.number) fs ≡ Some g
         → (frame_found (is_block d) m fs ≡ Some g) × (d ≤ c)) → (z : Bool)
@@ -120,4 +122,4 @@ through c d n f g (k ∷ fs) l e h = go (λ m x y. through c d m f g fs l.3 x y)
         (is_block d) n fs)
         ≡ Some g) × (d ≤ c)
     go ih true e = inner ih (is_block c k.home) refl e
-    go ih false e = ih n e (skip (lower (is_block c) n fs f l.3 e))
+    go ih false e = ih n e (skip (lower (is_block c) n fs f below e))

@@ -165,37 +165,37 @@ module _ (g : RunInput) where
   well_by : (t f : ℕ) (p : Name) (pr : Process) (ws : List (Loc × LocationContent)) → Light t f p pr
       → (r : WorkOutcome Action)
       → Result pr.own.ticks (ActionFalls g K pr.own.ticks (weights pr.todo)) r → ActsWell K t f p (act_of pr.who r ws)
-  well_by t f p pr ws h (Computed (Stepped todo) o) x =
+  well_by t f p pr ws h (Computed (Stepped todo) o) (is_later, (_, light)) =
       record {
         named = record { name = h.named.name; forks_are = h.named.forks_are };
-        light = x.1.1;
-        later = omega (arith, h.later, x.0);
+        light = light;
+        later = omega (arith, h.later, is_later);
       }
-  well_by t f p pr ws h (Computed (Ticked todo) o) x =
+  well_by t f p pr ws h (Computed (Ticked todo) o) (is_later, (_, light)) =
       record {
         named = record { name = h.named.name; forks_are = h.named.forks_are };
-        light = x.1.1;
-        later = omega (arith, h.later, x.0);
+        light = light;
+        later = omega (arith, h.later, is_later);
       }
-  well_by t f p pr ws h (Computed (Opened todo) o) x =
+  well_by t f p pr ws h (Computed (Opened todo) o) (is_later, light) =
       record {
         named = record { name = h.named.name; forks_are = h.named.forks_are };
-        light = x.1;
-        later = omega (arith, h.later, x.0);
+        light = light;
+        later = omega (arith, h.later, is_later);
       }
-  well_by t f p pr ws h (Computed (Forked_it bs todo) o) x = (
+  well_by t f p pr ws h (Computed (Forked_it bs todo) o) (is_later, (born, light)) = (
     record {
       named = record { name = h.named.name; forks_are = ap (λ n. n + 1) h.named.forks_are };
-      light = x.1.1;
-      later = omega (arith, h.later, x.0);
+      light = light;
+      later = omega (arith, h.later, is_later);
     },
-    born_well K f p pr.who o h.named.name h.named.forks_are 0 bs x.1.0,
+    born_well K f p pr.who o h.named.name h.named.forks_are 0 bs born,
   )
-  well_by t f p pr ws h (Computed (Offered c n payload todo) o) x =
+  well_by t f p pr ws h (Computed (Offered c n payload todo) o) (is_later, light) =
       record {
         named = record { name = h.named.name; forks_are = h.named.forks_are };
-        light = x.1;
-        later = omega (arith, h.later, x.0);
+        light = light;
+        later = omega (arith, h.later, is_later);
       }
   well_by t f p pr ws h (Computed actions.Ended o) x = tt
   well_by t f p pr ws h (EndsInFault e) x = tt
@@ -383,11 +383,11 @@ module _ (g : RunInput) where
 
   pub reached : (qs : List Name) (s t : StateOf g) → StateKeeps s → Lawful g s qs t → StateKeeps t
   reached [] s t k l = subst StateKeeps (sym l) k
-  reached (q ∷ qs) s t k l = reached qs l.0 t
+  reached (q ∷ qs) s t k (next, _, steps, leads) = reached qs next t
       (record {
-        sound = step_sound (total_limits g) s q l.0 k.sound l.2;
-        well = lowered (λ r. ticks_in (s.condition r)) l.0 (step_well s k.sound q (raised s k.well) l.0 l.2);
-      }) l.3
+        sound = step_sound (total_limits g) s q next k.sound steps;
+        well = lowered (λ r. ticks_in (s.condition r)) next (step_well s k.sound q (raised s k.well) next steps);
+      }) leads
 
   pub known : (s : StateOf g) → IsReached g s → StateKeeps s
   known s r = reached r.0 (start g) s (record { sound = start_sound; well = start_well }) r.1

@@ -65,7 +65,8 @@ within_then W R F G (WriteThen l v more) g w h k = (h.0, within_then W R F G mor
 pub reach_part : (p : Program) {Here Above : Use → Type 0} → ((u : Use) → Here u → Above u) → (bs : List ℕ) (u : Use)
     → Reach p Here bs u → Reach p Above bs u
 reach_part p i [] u r = i u r
-reach_part p i (b ∷ bs) u r = (r.0, i _ r.1, r.2, r.3, r.4, r.5)
+reach_part p i (b ∷ bs) u (args, here, body, is_body, is_of_callers, inside) =
+    (args, i _ here, body, is_body, is_of_callers, inside)
 
 pub part : {p : Program} {W R : Loc → Type 0} {fs : List Frame} {Here Above : Use → Type 0}
     → ((u : Use) → Here u → Above u) → Sound p W R fs Above → Sound p W R fs Here

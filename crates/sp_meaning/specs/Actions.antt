@@ -1,6 +1,7 @@
 -- All of this belongs to what the program promises (docs/promise.txt).
 -- Statements in steps: what a process does first, and what is left to do. The language of the model is made of it;
 -- generated code is compared with it, and rows of `run_tests` compute it.
+use Rattle.std.specs.Option.{option_map_or}
 use Rattle.std.specs.Prelude.{ℕ, zero, suc, ◌+◌, ◌-◌, ℤ, pos, ◌+ℤ◌, ◌-ℤ◌, nat_abs, int_lt, int_le, List, [], ◌∷◌, ◌++◌}
 use Rattle.std.specs.Prelude.{Option, Some, None, Bool, true, false, if◌then◌else◌, nat_lt, length, take, slice_get}
 use Rattle.std.specs.Fmt.{signed_decimal}
@@ -97,11 +98,9 @@ goes_on _ _ _ = true
 -- what stands at first in a variable of a frame, if it has cells of its own
 abbrev pub first_value_by : List Value → Role → ℕ → Option Value
 first_value_by initials role.Console k = None
-first_value_by initials role.Local k = slice_get initials k
-first_value_by initials role.Value k = slice_get initials k
 first_value_by initials role.Reference k = None
 first_value_by initials role.Index k = None
-first_value_by initials role.Answer k = slice_get initials k
+first_value_by initials _ k = slice_get initials k
 
 -- what the variable parameters stand for
 abbrev pub references : List ℕ → List ArgumentValue → List (ℕ × Address)
@@ -175,8 +174,7 @@ module _ (g : RunInput) where
 
   -- a variable gets its first value
   abbrev pub lay_one : ℕ → ℕ × Variable → Option Value → Work (Unit {0})
-  lay_one n x None = give tt
-  lay_one n x (Some v) = bind who (λ w. write_location (Cell w.name n x.0) (Tree v))
+  lay_one n x v = option_map_or (λ v. bind who (λ w. write_location (Cell w.name n x.0) (Tree v))) v (give tt)
 
   -- the variables of a new frame are undefined
   abbrev pub lay : ℕ → List (ℕ × Variable) → Work (Unit {0})
@@ -185,11 +183,10 @@ module _ (g : RunInput) where
 
   -- the value parameters are copied
   abbrev pub copy_in : ℕ → List ℕ → List ArgumentValue → Work (Unit {0})
-  copy_in n [] gs = give tt
-  copy_in n (x ∷ xs) [] = give tt
   copy_in n (x ∷ xs) (ValueOf v ∷ gs) =
       bind who (λ w. bind (write_location (Cell w.name n x) (Tree v)) (λ u. copy_in n xs gs))
   copy_in n (x ∷ xs) (PlaceOf a ∷ gs) = copy_in n xs gs
+  copy_in _ _ _ = give tt
 
   -- the own part with a new frame
   abbrev pub pushed_frame : ℕ → ℕ → List (ℕ × Address) → Identity → LocalState → LocalState
@@ -200,8 +197,7 @@ module _ (g : RunInput) where
 
   -- the frame of the block around
   abbrev pub enclosing_link : Option ℕ → Work ℕ
-  enclosing_link None = ill_formed
-  enclosing_link (Some q) = link_to (is_block q)
+  enclosing_link q = option_map_or (λ q. link_to (is_block q)) q ill_formed
 
   -- a call, after its arguments: tick, depth, cells, the new frame
   abbrev pub enter : ℕ → List ArgumentValue → Work Block
@@ -243,8 +239,7 @@ module _ (g : RunInput) where
 
   -- a width, if there is one
   abbrev pub width : Calls → Option Expr → Work (Option ℤ)
-  width call None = give None
-  width call (Some e) = bind (ordinal_of g call e) (λ m. give (Some m))
+  width call e = option_map_or (λ e. bind (ordinal_of g call e) (λ m. give (Some m))) e (give None)
 
   -- the value of the for variable, whatever it is
   abbrev pub peek : ℕ → Work Value
@@ -263,8 +258,7 @@ module _ (g : RunInput) where
 
   -- the chosen arm's statement, or F9
   abbrev pub arm_action : Option Stmt → List Item → Work Action
-  arm_action None todo = fail fault.F9
-  arm_action (Some s) todo = give (Stepped (push s todo))
+  arm_action s todo = option_map_or (λ s. give (Stepped (push s todo))) s (fail fault.F9)
 
   -- the step of a statement that is first
   abbrev pub statement_action : Calls → Stmt → List Item → Work Action
@@ -343,8 +337,7 @@ module _ (g : RunInput) where
 
   -- a function's result, or F4
   abbrev pub function_result : Option ℕ → Work Value
-  function_result None = ill_formed
-  function_result (Some x) = bind (place_of g x) (read_at g)
+  function_result x = option_map_or (λ x. bind (place_of g x) (read_at g)) x ill_formed
 
   -- a call of a function, where go does all that is left
   abbrev pub call_by : (List Item → Work (List Item)) → Calls

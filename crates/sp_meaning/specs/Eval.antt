@@ -83,8 +83,7 @@ standard_op standard.Ord k n = give (Ordinal n)
 standard_op standard.Chr k n = work_of (value_in_range (pos 0) (pos 255) n)
 standard_op standard.Succ k n = work_of (successor (greatest_ordinal k) n)
 standard_op standard.Pred k n = work_of (predecessor (least_ordinal k) n)
-standard_op standard.Eof k n = ill_formed
-standard_op standard.Eoln k n = ill_formed
+standard_op _ _ _ = ill_formed
 
 -- eof and eoln, of what is left of the input
 abbrev pub input_op : StandardFn → List ℕ → Work Value

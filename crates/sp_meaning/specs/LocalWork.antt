@@ -1,6 +1,7 @@
 -- All of this belongs to what the program promises (docs/promise.txt).
 -- What a process has of its own, and its local work as a tree of reads and writes. Expressions and statements are
 -- written in these words, as `bind` and `give`, so that order of evaluation is seen.
+use Rattle.std.specs.Option.{option_map_or}
 use Rattle.std.specs.Prelude.{ℕ, ◌+◌, ◌==◌, ℤ, List, [], ◌∷◌, Option, Some, None, Bool, true, false, ◌&&◌}
 use Rattle.std.specs.Prelude.{if◌then◌else◌, nat_lt, length}
 use Rattle.sp_base.specs.declared.fault.Fault.{Fault}
@@ -139,13 +140,11 @@ write_location l h w o = WriteThen l h (Leaf (Computed tt o))
 
 -- a value that has to be there
 abbrev pub or_ill_formed : {A : Type 0} → Option A → Work A
-or_ill_formed None = ill_formed
-or_ill_formed (Some a) = give a
+or_ill_formed a = option_map_or give a ill_formed
 
 abbrev pub value_in : LocationContent → Value
 value_in (Tree v) = v
-value_in (Position n) = Undefined
-value_in (Written bytes) = Undefined
+value_in _ = Undefined
 
 abbrev pub position_in : LocationContent → ℕ
 position_in (Tree v) = 0
@@ -153,9 +152,8 @@ position_in (Position n) = n
 position_in (Written bytes) = 0
 
 abbrev pub bytes_in : LocationContent → List ℕ
-bytes_in (Tree v) = []
-bytes_in (Position n) = []
 bytes_in (Written bytes) = bytes
+bytes_in _ = []
 
 -- a component is read or written by way of its whole location
 abbrev pub fetch : Address → Work Value
@@ -170,14 +168,9 @@ assign a v = bind (read_location a.spot) (λ h. write_location a.spot (content_w
 
 abbrev pub same_loc : Loc → Loc → Bool
 same_loc (Cell p f x) (Cell q g y) = same_name p q && ((f == g) && (x == y))
-same_loc (Cell p f x) Input = false
-same_loc (Cell p f x) Output = false
-same_loc Input (Cell q g y) = false
 same_loc Input Input = true
-same_loc Input Output = false
-same_loc Output (Cell q g y) = false
-same_loc Output Input = false
 same_loc Output Output = true
+same_loc _ _ = false
 
 -- frames
 

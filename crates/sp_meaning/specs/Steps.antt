@@ -1,6 +1,7 @@
 -- Some of this belongs to what the program promises (docs/promise.txt).
 -- One step of one process in a state: what it does, what it costs against the limits, and the state after it. Runs are
 -- made of it; limits are faults of the step that would pass them.
+use Rattle.std.specs.Option.{option_map_or}
 use Rattle.std.specs.Prelude.{◌≡◌, ℕ, suc, zero, ◌+◌, ◌<◌, ◌≤◌, Bool, true, false, ◌&&◌, if◌then◌else◌, List, [], ◌∷◌}
 use Rattle.std.specs.Prelude.{length, Option, Some, None, nat_lt, ◌==◌}
 use Rattle.sp_base.specs.declared.fault.Fault.{Fault}
@@ -71,8 +72,7 @@ way_of (Takes t) = way.Receive
 abbrev pub message : {V T : Type 0} → Payload V T → Payload V T → Option (T × V)
 message (Message v) (Takes t) = Some (t, v)
 message (Takes t) (Message v) = Some (t, v)
-message (Message v) (Message w) = None
-message (Takes t) (Takes u) = None
+message _ _ = None
 
 -- the cost of an entry
 abbrev pub entry_cost : Totals
@@ -140,8 +140,7 @@ limit_fault limits t (Some n) =
 
 -- a fault comes first
 abbrev pub fault_or : {L : Language} → Option Fault → ActOutcome L → ActOutcome L
-fault_or None x = x
-fault_or (Some f) x = Faulty f
+fault_or f x = option_map_or Faulty f x
 
 -- what a step does, or the limit that it would pass
 abbrev pub step_outcome : {L : Language} → Totals → State L → Name → ActOf L → ActOutcome L

@@ -1,7 +1,7 @@
 -- All of this belongs to what the program promises (docs/promise.txt).
 -- The language of this compiler as one of the model's: its acts, its root, its first store. Runs are those of this
 -- language; the weight of statements bounds what one step evaluates.
-use Rattle.std.specs.Prelude.{ℕ, zero, suc, ◌+◌, ◌-◌, ◌*◌, List, [], ◌∷◌, Bool, true, false, ◌==◌, if◌then◌else◌}
+use Rattle.std.specs.Prelude.{ℕ, zero, ◌+◌, ◌-◌, ◌*◌, List, [], ◌∷◌, Bool, true, false, ◌==◌, if◌then◌else◌}
 use Rattle.std.specs.Prelude.{nat_lt}
 use Rattle.sp_base.specs.declared.fault.Fault.TheVariants as fault
 use Rattle.sp_tree.specs.Plain.{Program, Variable, Block, Stmt, Call, Sequence, If, IfElse, While}
@@ -15,7 +15,7 @@ use Rattle.sp_meaning.specs.Values.{Value, Undefined, initials}
 use Rattle.sp_meaning.specs.LocalWork.{RunInput, Loc, Cell, Input, Output, LocationContent, Tree, Position, Written}
 use Rattle.sp_meaning.specs.LocalWork.{Address, content_with}
 use Rattle.sp_meaning.specs.LocalWork.{same_loc, OfBlock, LocalState, Identity, Item, Break, Process, WorkOutcome}
-use Rattle.sp_meaning.specs.LocalWork.{Computed, EndsInFault, IllFormed, OutOfFuel}
+use Rattle.sp_meaning.specs.LocalWork.{Computed, EndsInFault}
 use Rattle.sp_meaning.specs.Actions.{Action, Stepped, Ticked, Opened, Forked, Offered, Ended, push, new_processes}
 use Rattle.sp_meaning.specs.Actions.{next_action}
 use Rattle.sp_meaning.specs.Actions.{size_of_frame, first_value_by}
@@ -74,20 +74,12 @@ act_of w (Computed (Offered c k payload todo) o) ws =
     Offering (record { channel = c; kind = k; payload = payload; next = with_todo todo w o })
 act_of w (Computed Ended o) ws = EndsProcess
 act_of w (EndsInFault f) ws = MeetsFault f
-act_of w IllFormed ws = MeetsFault fault.F8
-act_of w OutOfFuel ws = MeetsFault fault.F8
+act_of _ _ _ = MeetsFault fault.F8
 
 -- the action is a tick of its own
 abbrev pub is_pausing : WorkOutcome Action → Bool
-is_pausing (Computed (Stepped todo) o) = false
 is_pausing (Computed (Ticked todo) o) = true
-is_pausing (Computed (Opened todo) o) = false
-is_pausing (Computed (Forked os todo) o) = false
-is_pausing (Computed (Offered c k payload todo) o) = false
-is_pausing (Computed Ended o) = false
-is_pausing (EndsInFault f) = false
-is_pausing IllFormed = false
-is_pausing OutOfFuel = false
+is_pausing _ = false
 
 module _ (g : RunInput) where
   -- the next step of a process, as a tree of reads and writes
@@ -138,7 +130,6 @@ module _ (g : RunInput) where
   -- nothing is read or written, and all variables of the program are undefined
   abbrev pub first_store : Loc → LocationContent
   first_store (Cell [] zero x) = Tree (first_value x)
-  first_store (Cell [] (suc n) x) = Tree Undefined
-  first_store (Cell (a ∷ q) n x) = Tree Undefined
   first_store Input = Position 0
   first_store Output = Written []
+  first_store _ = Tree Undefined

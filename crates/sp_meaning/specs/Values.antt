@@ -32,10 +32,8 @@ item (Then v vs) (suc i) = item vs i
 
 -- a part, undefined where it is not there
 abbrev pub part : Value → ℕ → Value
-part Undefined i = Undefined
-part (Ordinal n) i = Undefined
-part (Chan c) i = Undefined
 part (Parts vs) i = item vs i
+part _ _ = Undefined
 
 -- the value at a path
 abbrev pub get_at : List ℕ → Value → Value
