@@ -247,10 +247,10 @@ module _ (P : ℕ → Type 0) where
       → ((p : ℕ) → IsInCodeOf c a p → names_well c a (instr_at c p) ≡ true)
       → (n p : ℕ) (ss : List Shape) → BringsShapes c a n p ss → AllP ss
   brings_p c a found names zero p ss b = subst AllP (sym b.1) tt
-  brings_p c a found names (suc n) p ss b =
-      leads (instr_shapes c a (instr_at c b.0) b.0 b.1) p ss
-      (step c a found b.0 b.1 (brings_p c a found names n b.0 b.1 b.2) (instr_at c b.0)
-      (names b.0 (passes c a b.0 b.1 (record { steps = n; way = b.2 })))) b.3
+  brings_p c a found names (suc n) p ss (q, ts, before, leads_there) =
+      leads (instr_shapes c a (instr_at c q) q ts) p ss
+      (step c a found q ts (brings_p c a found names n q ts before) (instr_at c q)
+      (names q (passes c a q ts (record { steps = n; way = before })))) leads_there
 
 module _ (c : Parts) (k : KeepsCodeRules c) where
   -- a variable around an area is neither the input nor the output
@@ -258,12 +258,13 @@ module _ (c : Parts) (k : KeepsCodeRules c) where
   around_real a x area m = go (member_home c k x (homes c a) m)
     where
       go : (up : ℕ) × (h : Home) × (slice_get (homes c a) up ≡ Some h) × IsMember x (variables_in c.layouts h) → 2 ≤ x
-      go (up, OfBlock b, at, n) = let w = layout_variable c k b x n in k.real (InLayout w.2.0 w.2.1) x w.0.entry
-          (declared_here c k w.2.0 w.2.1 x w.0 w.2.2 w.2.3)
+      go (up, OfBlock b, at, n) =
+          let (l, _, (j, place, l_there, x_there)) = layout_variable c k b x n in
+          k.real (InLayout j place) x l.entry (declared_here c k j place x l l_there x_there)
       go (up, OfIndex y, at, inl e) =
-          let r = index_in c k a up x area (at ∙ ap (λ z. Some (OfIndex z)) (sym e)) in
-          let w = index_declared c k r.1 r.2 x r.4 in
-          k.real (OfChild w.0 r.2) x w.2.0 w.2.1
+          let (_, p, j, _, index_is, _) = index_in c k a up x area (at ∙ ap (λ z. Some (OfIndex z)) (sym e)) in
+          let (t, _, (child_entry, declared)) = index_declared c k p j x index_is in
+          k.real (OfChild t j) x child_entry declared
       go (up, OfIndex y, at, inr z) = absurd z
 
   -- where a variable is found by level and number, it is around

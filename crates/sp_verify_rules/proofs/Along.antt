@@ -122,17 +122,18 @@ module _ (g : CodeRun) {Area : Type 0} (H : Area → List Home) (E : Area → �
       → LivesIn g H E T Room Cells base b rs (after_message plain g cs x)
   received_fine base b rs cs Absent f r = tt
   received_fine base b rs cs (Working c) f r = f
-  received_fine base b rs cs (Waits (Receives d k p) (At pc st n)) f r = go f.0 f.1 f.2 f.3
+  received_fine base b rs cs (Waits (Receives d k p) (At pc st n)) (us, lives, stands, stop_holds) r =
+      go us lives stands stop_holds
     where
       go : (us : List Area) → HasActivations g H E T b us (At pc st n) → T us (At pc st n)
           → StopInvariant g H E T Room Cells (Receives d k p) us (At pc st n) → (vs : List Area)
           × HasActivations g H E T b vs (on_store (put_cells plain p cs) (At pc st n))
           × T vs (on_store (put_cells plain p cs) (At pc st n))
       go [] l t w = absurd w
-      go (a ∷ us) l t w = (
+      go (a ∷ us) l t ((left, room, aims), _) = (
         a ∷ us,
-        lives_received g H E T b a us pc st n p w.0.0 l w.0.2 cs
-            (r d k p (At pc st n) refl w.0.0 w.0.1),
+        lives_received g H E T b a us pc st n p left l aims cs
+            (r d k p (At pc st n) refl left room),
         t_store (a ∷ us) (At pc st n) (put_cells plain p cs) (λ m. refl) t,
       )
   received_fine base b rs cs (Waits (Sends d k bs) c) f r = (f.0, f.1, f.2)

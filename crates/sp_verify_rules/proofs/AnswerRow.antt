@@ -28,11 +28,12 @@ use Rattle.sp_verify_rules.specs.Effects.{IsCalled}
 use Rattle.sp_verify_rules.specs.Verdict.{V1, V2, V3, V4, V5, V6, V7, V8, V9, IsVerified}
 
 -- a test of each instruction
-abbrev all_instrs : (Option Instr → Bool) → List Instr → Bool
+abbrev pub all_instrs : (Option Instr → Bool) → List Instr → Bool
 all_instrs f [] = f None
 all_instrs f (x ∷ xs) = f (Some x) && all_instrs f xs
 
-each_instr : (f : Option Instr → Bool) (xs : List Instr) → all_instrs f xs ≡ true → (p : ℕ) → f (slice_get xs p) ≡ true
+pub each_instr : (f : Option Instr → Bool) (xs : List Instr) → all_instrs f xs ≡ true → (p : ℕ)
+    → f (slice_get xs p) ≡ true
 each_instr f [] e p = e
 each_instr f (x ∷ xs) e zero = (and_parts (f (Some x)) (all_instrs f xs) e).0
 each_instr f (x ∷ xs) e (suc p) = each_instr f xs (and_parts (f (Some x)) (all_instrs f xs) e).1 p
@@ -76,23 +77,25 @@ declared_twice (OfChild t k) x p e h = cc e
 pub keeps_v1 : (p : ℕ) → BreaksV1 product_as_int p → ⊥
 keeps_v1 p (NotThere (inl e)) = not_true_and_false (names_there product_as_int (instr_at product_as_int p))
     (each_instr (names_there product_as_int) product_as_int.instrs refl p) e
-keeps_v1 p (NotThere (inr m)) = ⊎_elim (λ z. let e = one_layout (λ l. l.entry ≡ p
-    → ⊥) (λ h. let past = m.past in omega (arith, h, past)) z.1.0 z.0 z.1.1 in e z.2) (λ z. cc z.3) m.of
+keeps_v1 p (NotThere (inr m)) = ⊎_elim
+    (λ (l, (j, there), entry_is). let e = one_layout (λ l. l.entry ≡ p → ⊥)
+    (λ h. let past = m.past in omega (arith, h, past)) j l there in e entry_is)
+    (λ (_, _, _, there, _). cc there) m.of
 keeps_v1 p (BlocksApart (zero, l, e, s, inl (zero, m, f, n, b))) = n refl
 keeps_v1 p (BlocksApart (zero, l, e, s, inl (suc k, m, f, n, b))) = cc f
 keeps_v1 p (BlocksApart (zero, l, e, s, inr h)) = not_true_and_false (leads_by 1 product_as_int.layouts (Some l))
     (one_layout (λ l. leads_by 1 product_as_int.layouts (Some l) ≡ true) refl zero l e) h
 keeps_v1 p (BlocksApart (suc j, l, e, s, h)) = cc e
 keeps_v1 p (WithoutProgram (inl h)) = cc h.0
-keeps_v1 p (WithoutProgram (inr h)) = not_true_and_false (is_program h.0)
-    (one_layout (λ l. is_program l ≡ true) refl h.1.0 h.0 h.1.1) h.4
-keeps_v1 p (Twice h) = declared_twice h.0 h.1 p h.2 h.3
-keeps_v1 p (SizesDiffer h) = not_true_and_false (has_sizes h.0)
-    (one_layout (λ l. has_sizes l ≡ true) refl h.1.0 h.0 h.1.1) h.3
+keeps_v1 p (WithoutProgram (inr (l, (j, there), _, _, differs))) = not_true_and_false (is_program l)
+    (one_layout (λ l. is_program l ≡ true) refl j l there) differs
+keeps_v1 p (Twice (d, x, declared, again)) = declared_twice d x p declared again
+keeps_v1 p (SizesDiffer (l, (j, there), _, differs)) = not_true_and_false (has_sizes l)
+    (one_layout (λ l. has_sizes l ≡ true) refl j l there) differs
 keeps_v1 p (TableUnnamed h) = cc h.2
-keeps_v1 p (TableIndexed (t, q, inl h)) = cc h.1.2
-keeps_v1 p (TableIndexed (t, q, inr h)) = cc h.1.2
-keeps_v1 p (TableUnknown h) = cc h.8
+keeps_v1 p (TableIndexed (t, q, inl (_, (_, _, is_child, _, _)))) = cc is_child
+keeps_v1 p (TableIndexed (t, q, inr (_, (_, _, is_child, _, _, _)))) = cc is_child
+keeps_v1 p (TableUnknown (_, _, _, _, _, _, _, _, is_child, _, _, _, _)) = cc is_child
 keeps_v1 p (LevelDiffers h) = misplaced (level_fits product_as_int) refl p h
 keeps_v1 p (InTwo (a, l, inl (b, m, n))) = n (only (λ a. a ≡ b) (only (λ b. Body 0 ≡ b) refl b m.0) a l.0)
 keeps_v1 p (InTwo (a, l, inr h)) = ends_there p h.1 h.0
@@ -106,9 +109,9 @@ sends_not (Some (i.Send k)) = false
 sends_not o = true
 
 no_send : (p k n : ℕ) → SendsAt product_as_int p k n → ⊥
-no_send p k n s = not_true_and_false (sends_not (instr_at product_as_int p))
+no_send p k n (_, _, _, is_send, _) = not_true_and_false (sends_not (instr_at product_as_int p))
     (each_instr sends_not product_as_int.instrs refl p)
-    (ap sends_not s.3)
+    (ap sends_not is_send)
 
 pub keeps_v4 : (p : ℕ) → BreaksV4 product_as_int p → ⊥
 keeps_v4 p (OtherLength k n q m s l r d) = no_send p k n s
@@ -172,8 +175,9 @@ verified V2 p h = keeps_v2 p h
 verified V3 p h = keeps_v3 p h
 verified V4 p h = keeps_v4 p h
 verified V5 p h = keeps_v5 p h
-verified V6 p h = no_child (table_named (instr_at product_as_int h.1)) h.2 h.3 h.5
+verified V6 p (_, q, j, t, _, there, _, _) = no_child (table_named (instr_at product_as_int q)) j t there
 verified V7 p (inl (a, b, up, ss, l, area, call, h)) = no_call a p b up ss l call
-verified V7 p (inr h) = no_call h.3.0.0 h.3.0.1 h.0.block h.3.0.2 h.3.0.3 h.3.0.4 h.3.0.6
-verified V8 p h = not_true_and_false h.0.answer h.3.0 (one_layout (λ l. l.answer ≡ false) refl h.1.0 h.0 h.1.1)
+verified V7 p (inr (l, _, _, ((a, q, up, ss, lay, _, call, _), _))) = no_call a q l.block up ss lay call
+verified V8 p (l, (j, there), _, (answers, _)) =
+    not_true_and_false l.answer answers (one_layout (λ l. l.answer ≡ false) refl j l there)
 verified V9 p h = keeps_v9 p h

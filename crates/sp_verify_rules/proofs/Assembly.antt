@@ -34,7 +34,7 @@ have_children c small t tb e = each HasChild c.forks small.children t tb e
 
 pub fits_types : (c : Parts) → KeepsSizes c → FitsTypes c
 fits_types c small b l at j n e = each IsSize l.sizes
-    (let w = found_layout c.layouts b l at in each HasSmallSizes c.layouts small.sizes w.1.0 l w.1.1) j n e
+    (let (_, (i, is)) = found_layout c.layouts b l at in each HasSmallSizes c.layouts small.sizes i l is) j n e
 
 module _ (c : Parts) (small : KeepsSizes c) (v : IsVerified c) where
   children : HaveChildren c

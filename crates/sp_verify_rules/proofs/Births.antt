@@ -75,8 +75,8 @@ module _ (ls : List Layout) (ha : List Home) (fs : List Frame) (chain : Chain ha
       (member_either x t.moved t.shared i)
 
   there : (x : ℕ) (q : Spot) → E x → spot_of ls fs x ≡ Some q → (q.frame < N) × HoldsVariable ls fs m x q
-  there x q e at = let w = a.held x e in subst (λ (s : Spot). (s.frame < N)
-      × HoldsVariable ls fs m x s) (same_Some _ _ (sym w.1 ∙ at)) (w.2, w.3)
+  there x q e at = let (_, stands, low, holds) = a.held x e in subst (λ (s : Spot). (s.frame < N)
+      × HoldsVariable ls fs m x s) (same_Some _ _ (sym stands ∙ at)) (low, holds)
 
   index_bound : index_frame h ≤ N
   index_bound =
@@ -111,22 +111,22 @@ module _ (ls : List Layout) (ha : List Home) (fs : List Frame) (chain : Chain ha
         (known_of_held (map.get m q) (Rattle.sp_verify_rules.proofs.ForkSteps.held_of_output (map.get m q) w)))) w)
         (λ j. absurd (no_output j))
         (member_either 1 t.moved t.shared i)
-    has_handed (suc (suc x)) q i e w = (
-      w.0,
-      same_cells (suc (suc x)) q w.0 i e w.1,
+    has_handed (suc (suc x)) q i e (cs, piece_is, extent_is, size_is) = (
+      cs,
+      same_cells (suc (suc x)) q cs i e piece_is,
       extends_on (suc (suc x)) i (omega arith)
-          ∙ w.2,
-      sized q (handed_below (suc (suc x)) q i e) ∙ w.3,
+          ∙ extent_is,
+      sized q (handed_below (suc (suc x)) q i e) ∙ size_is,
     )
 
     held_handed : (x : ℕ) → IsMember x (handed_to t) → (s : Spot) × (spot_of ls gs x ≡ Some s) × (s.frame < suc N)
         × HoldsVariable ls gs child x s
-    held_handed x i = let w = a.held x (effect x i) in (
-      w.0,
+    held_handed x i = let (s, stands, low, holds) = a.held x (effect x i) in (
+      s,
       stays x i
-          ∙ w.1,
-      omega (arith, w.2),
-      has_handed x w.0 i w.1 w.3,
+          ∙ stands,
+      omega (arith, low),
+      has_handed x s i stands holds,
     )
 
     apart_handed : (x y : ℕ) (s : Spot) → IsMember x (handed_to t) → IsMember y (handed_to t) → spot_of ls gs x ≡ Some s

@@ -177,16 +177,17 @@ module _ (ls : List Layout) (ha : List Home) (k : ℕ) (l : Layout) (fs : List F
             → spot_by f o.place u ≡ Some (new_spot o.place)
             → ((n : ℕ) → extent_by ls f fs o.place u ≡ size_at ls (OfBlock l.block) o.place) → IsNew y
         fresh u e plain at ext =
-            let w = pieces o.place y o.variable_is (subst IsPlain (sym e) plain) in
-            let size : size_at ls (OfBlock l.block) o.place ≡ Some (length w.2.0) = own_size o.place w.0 w.1
-            ∙ ap Some (sym w.2.2) in
+            let (count, size_is, (cs, piece_is, length_is)) = pieces o.place y o.variable_is
+            (subst IsPlain (sym e) plain) in
+            let size : size_at ls (OfBlock l.block) o.place ≡ Some (length cs) = own_size o.place count size_is
+            ∙ ap Some (sym length_is) in
             record {
               place = o.place;
               variable_is = o.variable_is;
               spot_is = o.stands_so (new_spot o.place) (ap (spot_by f o.place) e ∙ at);
-              cells = w.2.0;
-              piece = w.2.1;
-              whole = o.extends_so (length w.2.0) (ap (extent_by ls f fs o.place) e ∙ ext 0 ∙ size);
+              cells = cs;
+              piece = piece_is;
+              whole = o.extends_so (length cs) (ap (extent_by ls f fs o.place) e ∙ ext 0 ∙ size);
               size = size;
             }
 
@@ -194,17 +195,17 @@ module _ (ls : List Layout) (ha : List Home) (k : ℕ) (l : Layout) (fs : List F
         go None e = inl (fresh None e tt refl (λ n. refl))
         go (Some (formal.Value c)) e = inl (fresh (Some (formal.Value c)) e tt refl (λ n. refl))
         go (Some (formal.Reference c)) e =
-            let w = given o.place c e in
-            let p = passed o.place w.0 w.1 in
+            let (x, is_actual, (to, refers, stands)) = given o.place c e in
+            let p = passed o.place x is_actual in
             inr (record {
-              was = w.0;
+              was = x;
               effect = p.0;
-              became = inr (o.place, o.variable_is, w.1);
-              spot_is = o.stands_so w.2.0.spot (ap (spot_by f o.place) e ∙ ap spot_of_address w.2.1) ∙ sym w.2.2;
+              became = inr (o.place, o.variable_is, is_actual);
+              spot_is = o.stands_so to.spot (ap (spot_by f o.place) e ∙ ap spot_of_address refers) ∙ sym stands;
               console = λ lt. absurd (omega (arith, lt, real y m));
               true_one = λ r. p.1;
-              whole = λ r s n at ext size. (let same : w.2.0.spot ≡ s = same_Some _ _ (sym w.2.2 ∙ at) in
-                  o.extends_so n (ap (extent_by ls f fs o.place) e ∙ ap (size_behind ls fs) w.2.1
+              whole = λ r s n at ext size. (let same : to.spot ≡ s = same_Some _ _ (sym stands ∙ at) in
+                  o.extends_so n (ap (extent_by ls f fs o.place) e ∙ ap (size_behind ls fs) refers
                   ∙ ap (size_in ls fs) same ∙ size));
             })
 
@@ -267,12 +268,12 @@ module _ (ls : List Layout) (ha : List Home) (k : ℕ) (l : Layout) (fs : List F
         (let z : suc (suc x) ≡ 1 = e (omega arith) in omega (arith, z))
     has_old (suc (suc y)) zero s e r ext lt h = absurd (let z : 2 ≤ 0 = r (omega arith) in omega (arith, z))
     has_old (suc (suc y)) (suc zero) s e r ext lt h = absurd (let z : 2 ≤ 1 = r (omega arith) in omega (arith, z))
-    has_old (suc (suc y)) (suc (suc x)) s e r ext lt h = (
-      h.0,
+    has_old (suc (suc y)) (suc (suc x)) s e r ext lt (cs, piece_is, extent_is, size_is) = (
+      cs,
       ap piece_of (below s lt)
-          ∙ h.1,
-      ext (omega arith) (length h.0) h.2 h.3,
-      frame_old s lt ∙ h.3,
+          ∙ piece_is,
+      ext (omega arith) (length cs) extent_is size_is,
+      frame_old s lt ∙ size_is,
     )
 
     held_new : (y : ℕ) → D y → IsNew y ⊎ IsOld y → (s : Spot) × (spot_of ls (f ∷ fs) y ≡ Some s) × (s.frame < suc N)
@@ -285,12 +286,12 @@ module _ (ls : List Layout) (ha : List Home) (k : ℕ) (l : Layout) (fs : List F
         member zero (z ∷ ys) e = inl (sym (same_Some _ _ e))
         member (suc i) (z ∷ ys) e = inr (member i ys e)
     held_new y d (inr o) =
-        let w = caller.held o.was o.effect in (
-          w.0,
-          o.spot_is ∙ w.1,
-          omega (arith, w.2),
-          has_old y o.was w.0 o.console o.true_one
-              (λ r n a b. o.whole r w.0 n w.1 a b) w.2 w.3,
+        let (there, stands, low, holds) = caller.held o.was o.effect in (
+          there,
+          o.spot_is ∙ stands,
+          omega (arith, low),
+          has_old y o.was there o.console o.true_one
+              (λ r n a b. o.whole r there n stands a b) low holds,
         )
 
     old_frame : (y : ℕ) (o : IsOld y) (s : Spot) → spot_of ls (f ∷ fs) y ≡ Some s → s.frame < N

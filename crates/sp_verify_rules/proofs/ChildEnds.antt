@@ -172,16 +172,16 @@ module _ (g : CodeRun) {Area : Type 0} (H : Area → List Home) (E : Area → �
     -- what was there of a variable, and what the child has of it
     was : (q : Spot) (h : MovedSpot g H E T Room Cells j.area n.frames (base r) q)
         → HoldsVariable g.code.layouts n.frames j.whole h.variable q
-    was q h = let w = mother.held h.variable h.here in subst
+    was q h = let (_, stands, _, holds) = mother.held h.variable h.here in subst
         (λ (s : Spot). HoldsVariable g.code.layouts n.frames j.whole h.variable s)
-        (same_Some _ _ (sym w.1 ∙ h.stands)) w.3
+        (same_Some _ _ (sym stands ∙ h.stands)) holds
 
     is : (q : Spot) (h : MovedSpot g H E T Room Cells j.area n.frames (base r) q)
         → HoldsVariable g.code.layouts (base r).frames c.store.map h.variable q
-    is q h = let w = child.held h.variable h.there in subst
+    is q h = let (_, stands, _, holds) = child.held h.variable h.there in subst
         (λ (s : Spot). HoldsVariable g.code.layouts (base r).frames c.store.map h.variable s)
-        (same_Some _ _ (sym w.1 ∙ h.stood))
-        w.3
+        (same_Some _ _ (sym stands ∙ h.stood))
+        holds
 
     known_whole : (q : Spot) → In q c.store.moved → IsSome (map.get j.whole q)
     known_whole q i = let h = transferred q i in known_of_held (map.get j.whole q)

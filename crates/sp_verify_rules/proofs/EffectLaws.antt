@@ -40,9 +40,10 @@ module _ (c : Parts) (Does : EffectKind → Area → ℕ → Type 0) where
       → Becomes l ss y x → S u (Body f) y → S u a x) where
     within : (bs : List Area) (u : EffectKind) (a : Area) (x : ℕ) → EffectBy c Does bs u a x → S u a x
     within [] u a x d = does u a x d
-    within (b ∷ bs) u a x (inl d) = child u a d.0 d.1 x d.2 d.4 d.5 (subst (λ z. S u z x) d.3 (within bs u b x d.6))
-    within (b ∷ bs) u a x (inr d) = called u a d.0 d.1 d.2 x d.7.0 d.3 d.4 d.6 d.7.2
-        (subst (λ z. S u z d.7.0) d.5 (within bs u b d.7.0 d.7.1))
+    within (b ∷ bs) u a x (inl (p, k, t, is_child, started, counts, by_child)) = child u a p k x t started counts
+        (subst (λ z. S u z x) is_child (within bs u b x by_child))
+    within (b ∷ bs) u a x (inr (p, f, up, ss, l, is_body, call, (y, by_body, becomes))) = called u a p f up x y ss l
+        call becomes (subst (λ z. S u z y) is_body (within bs u b y by_body))
 
     pub effects_within : (u : EffectKind) (a : Area) (x : ℕ) → IsEffect c Does u a x → S u a x
     effects_within u a x e = within e.areas u a x e.proof
@@ -54,5 +55,7 @@ module _ (c : Parts) (Does : EffectKind → Area → ℕ → Type 0) where
       → S a) where
     pub stops_within : (bs : List Area) (a : Area) → StopsBy c Does Stops bs a → S a
     stops_within [] a d = stops a d
-    stops_within (b ∷ bs) a (inl d) = child a d.0 d.1 d.2 d.4 (subst S d.3 (stops_within bs b d.5))
-    stops_within (b ∷ bs) a (inr d) = called a d.0 d.1 d.2 d.3 d.4 d.6 (subst S d.5 (stops_within bs b d.7))
+    stops_within (b ∷ bs) a (inl (p, k, t, is_child, started, by_child)) = child a p k t started
+        (subst S is_child (stops_within bs b by_child))
+    stops_within (b ∷ bs) a (inr (p, f, up, ss, l, is_body, call, by_body)) = called a p f up ss l call
+        (subst S is_body (stops_within bs b by_body))

@@ -223,19 +223,13 @@ module _ (c : Parts) (k : KeepsCodeRules c) (e : KeepsEffects c (Does c)) (known
   -- ---- effects are around
 
   does_around : (u : EffectKind) (a : Area) (x : ℕ) → IsArea c a → Does c u a x → (x < 2) ⊎ Around a x
-  does_around u a x area (inl d) = go u d.3
+  does_around u a x area (inl (p, ss, reached, touches)) = go u touches
     where
-      p : ℕ
-      p = d.0
-
-      ss : List Shape
-      ss = d.1
-
       all : AllP (Around a) ss
-      all = addresses_around c k a area p ss d.2
+      all = addresses_around c k a area p ss reached
 
       loops : loops_well c a (instr_at c p) ≡ true
-      loops = k.loops a p (area, passes c a p ss d.2)
+      loops = k.loops a p (area, passes c a p ss reached)
 
       found : (var : ℕ) (f : VariableInfo) → variable_at c a 0 var ≡ Some f → is_loop_variable (Some f) ≡ true
           → Around a f.number
@@ -244,12 +238,12 @@ module _ (c : Parts) (k : KeepsCodeRules c) (e : KeepsEffects c (Does c)) (known
       go : (v : EffectKind) → IsIn x (does_at c v a p ss) → (x < 2) ⊎ Around a x
       go Stored m = stored_p (Around a) c a found ss all x (instr_at c p) loops m
       go Loaded m = loaded_p (Around a) c a found ss all x (instr_at c p) m
-  does_around u a x area (inr d) = ⊎_elim (λ (l : x < 2). inl l)
-      (λ (r : 2 ≤ x). inr (handed_around a d.0 d.1 x d.2 area d.3 (handed u d.4) r)) (below_two_or_not x)
+  does_around u a x area (inr (p, j, t, started, is_handed)) = ⊎_elim (λ (l : x < 2). inl l)
+      (λ (r : 2 ≤ x). inr (handed_around a p j x t area started (handed u is_handed) r)) (below_two_or_not x)
     where
-      handed : (v : EffectKind) → IsMember x (handed_as c v d.2) → IsMember x (handed_to d.2)
-      handed Stored m = member_front x d.2.moved d.2.shared m
-      handed Loaded m = member_back x d.2.moved d.2.shared m
+      handed : (v : EffectKind) → IsMember x (handed_as c v t) → IsMember x (handed_to t)
+      handed Stored m = member_front x t.moved t.shared m
+      handed Loaded m = member_back x t.moved t.shared m
 
   area_of_child : (a : Area) (p j : ℕ) (t : ChildTable) → IsArea c a → IsStarted c a p j t → IsArea c (Child a p j)
   area_of_child a p j t area s = (area, s.0, (t, s.1))
@@ -270,39 +264,40 @@ module _ (c : Parts) (k : KeepsCodeRules c) (e : KeepsEffects c (Does c)) (known
       → (x < 2)
       ⊎ Around a x
   around [] u a x area d = does_around u a x area d
-  around (b ∷ bs) u a x area (inl d) = ⊎_elim (λ (l : x < 2). inl l)
-      (λ m. inr (outside (index_of_child (child_at c d.0 d.1)) refl (subst (λ z. Around z x) d.3 m)))
-      (around bs u b x (subst (IsArea c) (sym d.3) child) d.6)
+  around (b ∷ bs) u a x area (inl (p, j, t, is_child, started, counts, by_child)) = ⊎_elim (λ (l : x < 2). inl l)
+      (λ m. inr (outside (index_of_child (child_at c p j)) refl (subst (λ z. Around z x) is_child m)))
+      (around bs u b x (subst (IsArea c) (sym is_child) child) by_child)
     where
-      child : IsArea c (Child a d.0 d.1)
-      child = area_of_child a d.0 d.1 d.2 area d.4
+      child : IsArea c (Child a p j)
+      child = area_of_child a p j t area started
 
-      outside : (o : Option ℕ) → index_of_child (child_at c d.0 d.1) ≡ o → Around (Child a d.0 d.1) x → Around a x
+      outside : (o : Option ℕ) → index_of_child (child_at c p j) ≡ o → Around (Child a p j) x → Around a x
       outside None is m = subst (λ z. IsMember x (all_variables c.layouts (with_home z (homes c a)))) is m
       outside (Some y) is m = ⊎_elim
-          (λ s. absurd (not_index u a d.0 d.1 x y d.2 child d.4.1 (sym (ap index_of_child d.4.1)
-          ∙ is) d.5 (record { areas = bs; proof = subst (λ z. EffectBy c (Does c) bs u z x) d.3 d.6 }) s))
+          (λ s. absurd (not_index u a p j x y t child started.1 (sym (ap index_of_child started.1) ∙ is) counts
+          (record { areas = bs; proof = subst (λ z. EffectBy c (Does c) bs u z x) is_child by_child }) s))
           (λ r. r)
           (subst (λ z. IsMember x (all_variables c.layouts (with_home z (homes c a)))) is m)
-  around (b ∷ bs) u a x area (inr d) = becomes
-      (around bs u b d.7.0 (subst (IsArea c) (sym d.5) (d.4, d.6.layout)) d.7.1) d.7.2
+  around (b ∷ bs) u a x area (inr (p, f, up, ss, lay, is_body, call, (y, by_body, as_caller))) = becomes
+      (around bs u b y (subst (IsArea c) (sym is_body) (lay, call.layout)) by_body) as_caller
     where
-      w : (homes c (Body d.1) ≡ OfBlock d.1 ∷ drop d.2 (homes c a)) × ((d.4.block ≡ d.1) × ((d.1 == 0) ≡ false))
-      w = called_homes a d.0 d.1 d.2 d.3 d.4 area d.6
+      called : (homes c (Body f) ≡ OfBlock f ∷ drop up (homes c a)) × ((lay.block ≡ f) × ((f == 0) ≡ false))
+      called = called_homes a p f up ss lay area call
 
-      variables : variables_in c.layouts (OfBlock d.1) ≡ d.4.variables
-      variables = ap variables_of d.6.layout
+      variables : variables_in c.layouts (OfBlock f) ≡ lay.variables
+      variables = ap variables_of call.layout
 
-      outer : (IsMember d.7.0 d.4.variables → ⊥) → Around b d.7.0 → Around a d.7.0
-      outer n m = ⊎_elim (λ z. absurd (n (subst (IsMember d.7.0) variables z))) (λ z. in_outer d.2 d.7.0 (homes c a) z)
-          (member_either d.7.0 (variables_in c.layouts (OfBlock d.1)) (all_variables c.layouts (drop d.2 (homes c a)))
-          (subst (λ hs. IsMember d.7.0 (all_variables c.layouts hs)) w.0 (subst (λ z. Around z d.7.0) d.5 m)))
+      outer : (IsMember y lay.variables → ⊥) → Around b y → Around a y
+      outer n m = ⊎_elim (λ z. absurd (n (subst (IsMember y) variables z))) (λ z. in_outer up y (homes c a) z)
+          (member_either y (variables_in c.layouts (OfBlock f)) (all_variables c.layouts (drop up (homes c a)))
+          (subst (λ hs. IsMember y (all_variables c.layouts hs)) called.0 (subst (λ z. Around z y) is_body m)))
 
-      becomes : (d.7.0 < 2) ⊎ Around b d.7.0 → Becomes d.4 d.3 d.7.0 x → (x < 2) ⊎ Around a x
-      becomes inside (inl q) = subst (λ z. (z < 2)
-          ⊎ Around a z) (sym q.0) (⊎_elim (λ (l : d.7.0 < 2). inl l) (λ m. inr (outer q.1 m)) inside)
-      becomes inside (inr q) = inr (at_p (Around a) d.3 (length d.4.formals - 1 - q.0) x q.2.1
-          (addresses_around c k a area d.0 d.3 d.6.reached) q.2.3)
+      becomes : (y < 2) ⊎ Around b y → Becomes lay ss y x → (x < 2) ⊎ Around a x
+      becomes inside (inl (same, absent)) = subst (λ z. (z < 2)
+          ⊎ Around a z) (sym same) (⊎_elim (λ (l : y < 2). inl l) (λ m. inr (outer absent m)) inside)
+      becomes inside (inr (j, _, (_, left, _, operand_is))) = inr
+          (at_p (Around a) ss (length lay.formals - 1 - j) x left (addresses_around c k a area p ss call.reached)
+          operand_is)
 
   pub effects_around : (a : Area) (x : ℕ) → IsArea c a → HasEffect c (Does c) a x → (x < 2) ⊎ Around a x
   effects_around a x area (inl h) = around h.areas Stored a x area h.proof
@@ -315,7 +310,7 @@ module _ (c : Parts) (k : KeepsCodeRules c) (e : KeepsEffects c (Does c)) (known
   may_effect (Child a p j) x area h = go (child_at c p j) refl h
     where
       go : (o : Option ChildTable) → child_at c p j ≡ o → HasEffect c (Does c) (Child a p j) x → Granted c o x
-      go None s h = absurd (cc (sym s ∙ area.2.1))
+      go None s h = let (_, _, (_, there)) = area in absurd (cc (sym s ∙ there))
       go (Some t) s (inl f) = inl (member_front x t.moved t.shared (e.stored a p j x t area s f))
       go (Some t) s (inr f) = index (t.index) refl
         where

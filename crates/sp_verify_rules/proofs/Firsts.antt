@@ -136,13 +136,13 @@ module _ {S : Type 0} (stores : Stores S) (g : CodeRun) (k : KeepsCodeRules g.co
           go [] h = refl
           go (ch ∷ cs) h = h ch refl
   kid p t n j (inr is) lt =
-      let f = k.foralls p t is in
+      let (_, ch, _, there, children_are, index_is) = k.foralls p t is in
       record {
         number = 0;
-        table = f.1;
+        table = ch;
         table_is = ap (λ o. child_of (table_at g.code.forks (table_named o)) 0) is
-            ∙ (ap (λ o. child_of o 0) f.3 ∙ ap (λ cs. slice_get cs 0) f.4);
-        begins = ap (λ o. child_or (table_child (table_or o) j)) f.3
-            ∙ (ap (λ cs. child_or (child_by cs (Rattle.sp_code.specs.Tables.first_index cs) j)) f.4
-            ∙ ap (λ o. child_or (child_by (f.1 ∷ []) o j)) f.5);
+            ∙ (ap (λ o. child_of o 0) there ∙ ap (λ cs. slice_get cs 0) children_are);
+        begins = ap (λ o. child_or (table_child (table_or o) j)) there
+            ∙ (ap (λ cs. child_or (child_by cs (Rattle.sp_code.specs.Tables.first_index cs) j)) children_are
+            ∙ ap (λ o. child_or (child_by (ch ∷ []) o j)) index_is);
       }

@@ -72,8 +72,10 @@ module _ (g : CodeRun) {Area : Type 0} (H : Area → List Home) (E : Area → �
       (a ∷ us) n.frames n.depth n.store l.holding in omega (arith, w, m)
 
   effect_known : (x : ℕ) (q : Spot) → E a x → spot_of ls n.frames x ≡ Some q → IsHeld (map.get n.store.map q)
-  effect_known x q e at = let w = mother.1.held x e in subst (λ (s : Spot). IsHeld (map.get n.store.map s))
-      (same_Some _ _ (sym w.1 ∙ at)) (has_held ls n.frames n.store.map x w.0 w.3)
+  effect_known x q e at =
+      let (there, stands, _, holds) = mother.1.held x e in
+      subst (λ (s : Spot). IsHeld (map.get n.store.map s)) (same_Some _ _ (sym stands ∙ at))
+      (has_held ls n.frames n.store.map x there holds)
 
   -- ---- a child
 
@@ -209,14 +211,14 @@ module _ (g : CodeRun) {Area : Type 0} (H : Area → List Home) (E : Area → �
 
     console_known : HasConsole g H E T e → IsSome (map.get (child_map n.store.map h) input_spot)
         ⊎ IsSome (map.get (child_map n.store.map h) output_spot)
-    console_known (inl r) = let w = begins.allowed.held 0 r in inl
+    console_known (inl r) = let (there, stands, _, holds) = begins.allowed.held 0 r in inl
         (known_of_held (map.get (child_map n.store.map h) input_spot)
-        (subst (λ (s : Spot). IsHeld (map.get (child_map n.store.map h) s)) (sym (same_Some _ _ w.1))
-        (has_held ls (frames_of child) (child_map n.store.map h) 0 w.0 w.3)))
-    console_known (inr r) = let w = begins.allowed.held 1 r in inr
+        (subst (λ (s : Spot). IsHeld (map.get (child_map n.store.map h) s)) (sym (same_Some _ _ stands))
+        (has_held ls (frames_of child) (child_map n.store.map h) 0 there holds)))
+    console_known (inr r) = let (there, stands, _, holds) = begins.allowed.held 1 r in inr
         (known_of_held (map.get (child_map n.store.map h) output_spot)
-        (subst (λ (s : Spot). IsHeld (map.get (child_map n.store.map h) s)) (sym (same_Some _ _ w.1))
-        (has_held ls (frames_of child) (child_map n.store.map h) 1 w.0 w.3)))
+        (subst (λ (s : Spot). IsHeld (map.get (child_map n.store.map h) s)) (sym (same_Some _ _ stands))
+        (has_held ls (frames_of child) (child_map n.store.map h) 1 there holds)))
 
     -- the child lives
     pub child_lives : HasActivations g H E T child_base (e ∷ []) child

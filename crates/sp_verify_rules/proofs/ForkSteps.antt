@@ -77,8 +77,8 @@ module _ (ls : List Layout) (K : Type 0) (E : ℕ
 
   -- what is there of a variable that stands at q
   there : (x : ℕ) (q : Spot) → E x → spot_of ls fs x ≡ Some q → HoldsVariable ls fs p.map x q
-  there x q e at = let w = a.held x e in
-      subst (λ (s : Spot). HoldsVariable ls fs p.map x s) (same_Some _ _ (sym w.1 ∙ at)) w.3
+  there x q e at = let (_, stands, _, holds) = a.held x e in
+      subst (λ (s : Spot). HoldsVariable ls fs p.map x s) (same_Some _ _ (sym stands ∙ at)) holds
 
   held : (q : Spot) → In q (moved_of (plan_from ls fs t value 0 n)) → IsHeld (map.get p.map q)
   held q i =

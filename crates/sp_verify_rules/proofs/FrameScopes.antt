@@ -87,7 +87,7 @@ found_layout (m ∷ ls) b l e = go (m.block == b) refl e (found_layout ls b l)
         → (layout_of ls b ≡ Some l → (l.block ≡ b) × ((j : ℕ) × (slice_get ls j ≡ Some l))) → (l.block ≡ b)
         × ((j : ℕ) × (slice_get (m ∷ ls) j ≡ Some l))
     go true t e on = let s = same_Some m l e in (ap (λ z. z.block) (sym s) ∙ eqb-true m.block b t, (0, ap Some s))
-    go false t e on = let r = on e in (r.0, (suc r.1.0, r.1.1))
+    go false t e on = let (block_is, (j, there)) = on e in (block_is, (suc j, there))
 
 no_parent : (o : Option ℕ) → is_none o ≡ true → o ≡ None
 no_parent None e = refl
@@ -203,8 +203,8 @@ module _ (c : Parts) (k : KeepsCodeRules c) where
           let p : homes_by n c.layouts (parent_of c.layouts l.parent) ≡ [] = ap
           (λ o. homes_by n c.layouts (parent_of c.layouts o)) (programs w.0 l w.1 t).0 ∙ none_homes n c.layouts in
           absurd (cc (subst (λ hs. slice_get hs up ≡ Some (OfBlock d)) p s1))
-      go false t e on = let r = on e s1 in
-          (r.0, r.1, omega (arith, r.2), ap (λ hs. drop (suc up) hs) (homes_more n l f) ∙ r.3)
+      go false t e on = let (m, leads, fewer, same) = on e s1 in
+          (m, leads, omega (arith, fewer), ap (λ hs. drop (suc up) hs) (homes_more n l f) ∙ same)
 
   pub leads_of : (b : ℕ) (l : Layout) → layout_of c.layouts b ≡ Some l
       → leads_by (length c.layouts) c.layouts (layout_of c.layouts b) ≡ true
@@ -232,10 +232,10 @@ module _ (c : Parts) (k : KeepsCodeRules c) where
   pub block_drop : (b : ℕ) (l : Layout) (up d : ℕ) → layout_of c.layouts b ≡ Some l
       → slice_get (block_homes c b) up ≡ Some (OfBlock d) → drop up (block_homes c b) ≡ block_homes c d
   block_drop b l up d e s =
-      let r = chain_drop (length c.layouts) (layout_of c.layouts b) up d (found_at_number b) (leads_of b l e)
-      (ap (λ hs. slice_get hs up) (sym (homes_of_block_nodes b)) ∙ s) in
+      let (m, leads, fewer, same) = chain_drop (length c.layouts) (layout_of c.layouts b) up d (found_at_number b)
+      (leads_of b l e) (ap (λ hs. slice_get hs up) (sym (homes_of_block_nodes b)) ∙ s) in
       ap (λ hs. drop up hs) (homes_of_block_nodes b)
-      ∙ (r.3 ∙ (sym (stable r.0 (length c.layouts) (layout_of c.layouts d) (found_at_number d) r.1 r.2)
+      ∙ (same ∙ (sym (stable m (length c.layouts) (layout_of c.layouts d) (found_at_number d) leads fewer)
       ∙ sym (homes_of_block_nodes d)))
 
   -- the blocks and indices around an area, from a block outward
@@ -259,13 +259,14 @@ module _ (c : Parts) (k : KeepsCodeRules c) where
   framed_up [] [] (suc up) h = tt
   framed_up [] (f ∷ fs) (suc up) h = absurd h
   framed_up (x ∷ hs) [] (suc up) h = absurd h
-  framed_up (x ∷ hs) (f ∷ fs) (suc up) h = framed_up hs (last_frames f.link fs) up h.3
+  framed_up (x ∷ hs) (f ∷ fs) (suc up) (_, _, _, rest) = framed_up hs (last_frames f.link fs) up rest
 
   pub chained : (hs : List Home) (fs : List Frame) → Framed c.layouts hs fs → Chain hs fs
   chained [] [] h = tt
   chained [] (f ∷ fs) h = absurd h
   chained (x ∷ hs) [] h = absurd h
-  chained (x ∷ hs) (f ∷ fs) h = (h.0, h.1, chained hs (last_frames f.link fs) h.3)
+  chained (x ∷ hs) (f ∷ fs) (home_is, link_fits, _, rest) =
+      (home_is, link_fits, chained hs (last_frames f.link fs) rest)
 
   some_frame : (h : Home) (hs : List Home) (fs : List Frame) → Framed c.layouts (h ∷ hs) fs → is_there fs ≡ true
   some_frame h hs [] x = absurd x
@@ -359,8 +360,10 @@ module _ (c : Parts) (k : KeepsCodeRules c) where
       go : (o : Option Layout) → layout_of c.layouts b ≡ o → IsMember x (variables_of o) → (l : Layout) × (o ≡ Some l)
           × ((j t : ℕ) × (slice_get c.layouts j ≡ Some l) × (slice_get l.variables t ≡ Some x))
       go None e m = absurd m
-      go (Some l) e m = let f = found_layout c.layouts b l e in let p = place_some x 0 l.variables m in
-          (l, refl, (f.1.0, p.0, f.1.1, p.2))
+      go (Some l) e m =
+          let (_, (j, there)) = found_layout c.layouts b l e in
+          let (place, _, has) = place_some x 0 l.variables m in
+          (l, refl, (j, place, there, has))
 
   pub declared_here : (j t x : ℕ) (l : Layout) → slice_get c.layouts j ≡ Some l → slice_get l.variables t ≡ Some x
       → declaration_at c (InLayout j t) ≡ Some (x, l.entry)
@@ -378,13 +381,14 @@ module _ (c : Parts) (k : KeepsCodeRules c) where
   pub one_block : (b d x : ℕ) → IsMember x (variables_in c.layouts (OfBlock b))
       → IsMember x (variables_in c.layouts (OfBlock d)) → b ≡ d
   one_block b d x m n =
-      let u = layout_variable b x m in
-      let v = layout_variable d x n in
-      let o = k.once (InLayout u.2.0 u.2.1) (InLayout v.2.0 v.2.1) x u.0.entry v.0.entry
-      (declared_here u.2.0 u.2.1 x u.0 u.2.2 u.2.3) (declared_here v.2.0 v.2.1 x v.0 v.2.2 v.2.3) in
-      let s : u.0 ≡ v.0 = same_Some u.0 v.0 (sym u.2.2
-      ∙ (ap (λ j. slice_get c.layouts j) (ap layout_number o) ∙ v.2.2)) in
-      sym (found_layout c.layouts b u.0 u.1).0 ∙ (ap (λ z. z.block) s ∙ (found_layout c.layouts d v.0 v.1).0)
+      let (one, one_found, (i, s, one_there, one_has)) = layout_variable b x m in
+      let (two, two_found, (j, t, two_there, two_has)) = layout_variable d x n in
+      let o = k.once (InLayout i s) (InLayout j t) x one.entry two.entry
+      (declared_here i s x one one_there one_has) (declared_here j t x two two_there two_has) in
+      let same : one ≡ two = same_Some one two (sym one_there
+      ∙ (ap (λ z. slice_get c.layouts z) (ap layout_number o) ∙ two_there)) in
+      sym (found_layout c.layouts b one one_found).0
+      ∙ (ap (λ z. z.block) same ∙ (found_layout c.layouts d two two_found).0)
 
   -- the variables of a layout are different
   pub layout_different : (j : ℕ) (l : Layout) → slice_get c.layouts j ≡ Some l → AllDifferent l.variables
@@ -413,13 +417,14 @@ module _ (c : Parts) (k : KeepsCodeRules c) where
     where
       go : (o : Option Layout) → layout_of c.layouts b ≡ o → AllDifferent (variables_of o)
       go None e = tt
-      go (Some l) e = let f = found_layout c.layouts b l e in layout_different f.1.0 l f.1.1
+      go (Some l) e = let (_, (j, there)) = found_layout c.layouts b l e in layout_different j l there
 
   -- where a variable around is
   pub member_home : (x : ℕ) (hs : List Home) → IsMember x (all_variables c.layouts hs) → (up : ℕ) × (h : Home)
       × (slice_get hs up ≡ Some h) × IsMember x (variables_in c.layouts h)
   member_home x [] m = absurd m
-  member_home x (h ∷ hs) m = ⊎_elim (λ z. (0, h, refl, z)) (λ z. let r = member_home x hs z in (suc r.0, r.1, r.2, r.3))
+  member_home x (h ∷ hs) m = ⊎_elim (λ z. (0, h, refl, z))
+      (λ z. let (up, home, at, has) = member_home x hs z in (suc up, home, at, has))
       (member_either x (variables_in c.layouts h) (all_variables c.layouts hs) m)
 
   -- no index is among the blocks around a block
@@ -472,12 +477,14 @@ module _ (c : Parts) (k : KeepsCodeRules c) where
           again x i (up, OfIndex y, s, m) = no_index n (parent_of c.layouts l.parent) up y s
           again x i (up, OfBlock d, s, m) =
               let same = one_block l.block d x i m in
-              let r = chain_drop n (parent_of c.layouts l.parent) up d (found_parent l.parent) e1 s in
+              let (steps, leads, fewer, same_homes) = chain_drop n (parent_of c.layouts l.parent) up d
+              (found_parent l.parent) e1 s in
               let at : layout_of c.layouts d ≡ Some l = subst (λ z. layout_of c.layouts z ≡ Some l) same here in
-              let lead : leads_by r.0 c.layouts (Some l) ≡ true = subst (λ o. leads_by r.0 c.layouts o ≡ true) at r.1 in
-              let st = stable r.0 (suc n) (Some l) f lead (omega (arith, r.2)) in
-              longer up (homes_by n c.layouts (parent_of c.layouts l.parent)) (OfBlock l.block) (ap length (r.3
-              ∙ (ap (λ o. homes_by r.0 c.layouts o) at ∙ (sym st ∙ homes_more n l f))))
+              let lead : leads_by steps c.layouts (Some l) ≡ true =
+              subst (λ o. leads_by steps c.layouts o ≡ true) at leads in
+              let st = stable steps (suc n) (Some l) f lead (omega (arith, fewer)) in
+              longer up (homes_by n c.layouts (parent_of c.layouts l.parent)) (OfBlock l.block) (ap length (same_homes
+              ∙ (ap (λ o. homes_by steps c.layouts o) at ∙ (sym st ∙ homes_more n l f))))
 
   -- how deep an area lies
   abbrev pub depth : Area → ℕ
@@ -508,7 +515,7 @@ module _ (c : Parts) (k : KeepsCodeRules c) where
           × (index_of_child (child_at c p j) ≡ Some x) × (suc (depth b) ≤ depth a))
           → (b : Area) × (q m : ℕ) × LiesIn c q b × (index_of_child (child_at c q m) ≡ Some x)
           × (suc (depth b) ≤ depth (Child a p j))
-      go None e up s on = let r = on up s in (r.0, r.1, r.2, r.3, r.4, deeper r.0 r.5)
+      go None e up s on = let (b, q, m, lies, index, deep) = on up s in (b, q, m, lies, index, deeper b deep)
       go (Some y) e zero s on = (
         a,
         p,
@@ -518,7 +525,7 @@ module _ (c : Parts) (k : KeepsCodeRules c) where
             ∙ ap Some (ap index_is (same_Some (OfIndex y) (OfIndex x) s)),
         here,
       )
-      go (Some y) e (suc up) s on = let r = on up s in (r.0, r.1, r.2, r.3, r.4, deeper r.0 r.5)
+      go (Some y) e (suc up) s on = let (b, q, m, lies, index, deep) = on up s in (b, q, m, lies, index, deeper b deep)
 
   -- what declares the index of a child
   pub index_declared : (p j x : ℕ) → index_of_child (child_at c p j) ≡ Some x → (t : ℕ) × Names c t p
@@ -546,19 +553,19 @@ module _ (c : Parts) (k : KeepsCodeRules c) where
       again : (x : ℕ) → index_of_child (child_at c p j) ≡ Some x → (up : ℕ) × (h : Home)
           × (slice_get (homes c a) up ≡ Some h) × IsMember x (variables_in c.layouts h) → ⊥
       again x e (up, OfBlock d, s, m) =
-          let u = layout_variable d x m in
-          let w = index_declared p j x e in
-          let o = k.once (InLayout u.2.0 u.2.1) (OfChild w.0 j) x u.0.entry w.2.0
-          (declared_here u.2.0 u.2.1 x u.0 u.2.2 u.2.3) w.2.1 in
+          let (l, _, (number, place, l_there, l_has)) = layout_variable d x m in
+          let (t, _, (child_entry, declared)) = index_declared p j x e in
+          let o = k.once (InLayout number place) (OfChild t j) x l.entry child_entry
+          (declared_here number place x l l_there l_has) declared in
           cc o
       again x e (up, OfIndex y, s, inl m) =
-          let r = index_in a up x i.0 (s ∙ ap (λ z. Some (OfIndex z)) (sym m)) in
-          let v = index_declared r.1 r.2 x r.4 in
-          let w = index_declared p j x e in
-          let o = k.once (OfChild v.0 r.2) (OfChild w.0 j) x v.2.0 w.2.0 v.2.1 w.2.1 in
-          let at : r.1 ≡ p = k.one_name w.0 r.1 p (subst (λ t. Names c t r.1) (ap table_number o) v.1) w.1 in
-          let same : r.0 ≡ a = k.apart p r.0 a (subst (λ q. LiesIn c q r.0) at r.3) (i.0, i.1) in
-          below (depth r.0) (depth a) r.5 (ap depth same)
+          let (b, q, n, lies, index, deep) = index_in a up x i.0 (s ∙ ap (λ z. Some (OfIndex z)) (sym m)) in
+          let (t, t_named, (t_entry, t_declared)) = index_declared q n x index in
+          let (u, u_named, (u_entry, u_declared)) = index_declared p j x e in
+          let o = k.once (OfChild t n) (OfChild u j) x t_entry u_entry t_declared u_declared in
+          let at : q ≡ p = k.one_name u q p (subst (λ z. Names c z q) (ap table_number o) t_named) u_named in
+          let same : b ≡ a = k.apart p b a (subst (λ z. LiesIn c z b) at lies) (i.0, i.1) in
+          below (depth b) (depth a) deep (ap depth same)
         where
           below : (m n : ℕ) → suc m ≤ n → m ≡ n → ⊥
           below m n h e = omega (arith, h, e)
@@ -750,8 +757,10 @@ module _ (c : Parts) (k : KeepsCodeRules c) where
 
   -- an index that is around an area is declared
   index_real : (a : Area) (up x : ℕ) → IsArea c a → slice_get (homes c a) up ≡ Some (OfIndex x) → 2 ≤ x
-  index_real a up x i s = let r = index_in a up x i s in let w = index_declared r.1 r.2 x r.4 in k.real
-      (OfChild w.0 r.2) x w.2.0 w.2.1
+  index_real a up x i s =
+      let (_, p, j, _, index, _) = index_in a up x i s in
+      let (t, _, (child_entry, declared)) = index_declared p j x index in
+      k.real (OfChild t j) x child_entry declared
 
   plain_at : (h : Home) (f : Frame) (gs : List Frame) (var : ℕ) (v : VariableInfo) → f.home ≡ h
       → found_at c.layouts h var ≡ Some v → is_plain v.naming ≡ true → ((x : ℕ) → h ≡ OfIndex x → 2 ≤ x)
@@ -855,18 +864,21 @@ module _ (c : Parts) (k : KeepsCodeRules c) where
   pub scoped : Scoped c
   scoped = record {
     plain = λ a fs up var v i fr e pn.
-        let w = home_of a up var v e in
-        let f = at_frame a fs up i fr w.0 w.1 in (
-          cell_at f.0.number var,
-          ap (λ gs. addr_in gs var) f.2,
-          pointing a fs up i fr w.0 w.1 f.0 f.1 v.number v.cells (cell_at f.0.number var) f.2
-              (plain_at w.0 f.0 f.1 var v f.3 w.2 pn (λ x s. index_real a up x i (w.1 ∙ ap Some s))),
+        let (h, at, found) = home_of a up var v e in
+        let (f, gs, frames_are, home_is, _) = at_frame a fs up i fr h at in (
+          cell_at f.number var,
+          ap (λ z. addr_in z var) frames_are,
+          pointing a fs up i fr h at f gs v.number v.cells (cell_at f.number var) frames_are
+              (plain_at h f gs var v home_is found pn (λ x s. index_real a up x i (at ∙ ap Some s))),
         );
     refers = λ a fs up var v i fr e rn.
-        let w = home_of a up var v e in
-        let f = at_frame a fs up i fr w.0 w.1 in
-        let r = reference_at w.0 f.0 f.1 var v f.3 f.4 w.2 rn in
-        (r.0, ap (λ gs. deref_in gs var) f.2 ∙ r.1, pointing a fs up i fr w.0 w.1 f.0 f.1 v.number v.cells r.0 f.2 r.2);
+        let (h, at, found) = home_of a up var v e in
+        let (f, gs, frames_are, home_is, refers_well) = at_frame a fs up i fr h at in
+        let (q, target_is, resolved) = reference_at h f gs var v home_is refers_well found rn in (
+          q,
+          ap (λ z. deref_in z var) frames_are ∙ target_is,
+          pointing a fs up i fr h at f gs v.number v.cells q frames_are resolved,
+        );
     outward = outward;
     inner = inner;
     named = λ b l e. (found_layout c.layouts b l e).0;

@@ -28,8 +28,8 @@ module _ (c : Parts) where
       → (d : Area) → IsAreaAmong c d (a ∷ us) → (bs : List Area) × StopsBy c (Does c) (HasStop c) bs d
   stops_below a us l s d (inl e) = subst (λ z. (bs : List Area) × StopsBy c (Does c) (HasStop c) bs z) (sym e) s
   stops_below a [] l s d (inr m) = absurd m
-  stops_below a (b ∷ us) l s d (inr m) =
-      stops_below b us l.1 (a ∷ s.0, inr (l.0.1, l.0.0, l.0.2, l.0.3, l.0.4, l.0.5, l.0.6, s.1)) d m
+  stops_below a (b ∷ us) ((f, p, up, ss, lay, is_body, call), below) (bs, stops) d (inr m) =
+      stops_below b us below (a ∷ bs, inr (p, f, up, ss, lay, is_body, call, stops)) d m
 
   -- where V8 is broken at no block, no activation below an instruction that stops is of a block that answers
   pub none_answers : ((f : ℕ) (l : Layout) → layout_of c.layouts f ≡ Some l → fork.BreaksV8 c (Does c) (HasStop c) l f
@@ -102,5 +102,6 @@ module _ (g : CodeRun) (k : KeepsCodeRules g.code) where
         × ((f : ℕ) (l : Layout) → IsAreaAmong g.code (Body f) (areas t) → layout_of g.code.layouts f ≡ Some l
         → l.answer ≡ false)
     answers_without_stop p q st s1 n m s h way is =
-        let w = safe.comes_in plain g k Both both_ready both_kept way.steps (At p st n) (At q s1 m) (s, h) way.proof in
-        (w.0, none_answers g.code eight w.0.area (areas_of w.0.callers) q w.0.shapes w.1.1 w.0.reached is)
+        let (t, (_, linked)) = safe.comes_in plain g k Both both_ready both_kept way.steps (At p st n) (At q s1 m)
+        (s, h) way.proof in
+        (t, none_answers g.code eight t.area (areas_of t.callers) q t.shapes linked t.reached is)

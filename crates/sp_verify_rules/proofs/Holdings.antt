@@ -32,12 +32,12 @@ module _ (ls : List Layout) {Area : Type 0} (H : Area → List Home) (E : Area �
   own_low base [] fs ns h n i = absurd h
   own_low base (a ∷ []) fs ns h n i = absurd (subst (λ xs. IsMember n xs) h i)
   own_low base (a ∷ b ∷ us) [] ns h n i = absurd h
-  own_low base (a ∷ b ∷ us) (f ∷ fs) ns h n i =
-      let len : length ns ≡ length h.0 + 1 = ap length h.1 ∙ length-append h.0 (f.number ∷ []) in
+  own_low base (a ∷ b ∷ us) (f ∷ fs) ns (older, numbers_are, low, rest) n i =
+      let len : length ns ≡ length older + 1 = ap length numbers_are ∙ length-append older (f.number ∷ []) in
       ⊎_elim
-      (λ j. omega (arith, len, own_low base (b ∷ us) fs h.0 h.3 n j))
-      (λ j. ⊎_elim (λ (e : n ≡ f.number). (let l = h.2 in omega (arith, l, e))) (λ k. absurd k) j)
-      (member_either n h.0 (f.number ∷ []) (subst (IsMember n) h.1 i))
+      (λ j. omega (arith, len, own_low base (b ∷ us) fs older rest n j))
+      (λ j. ⊎_elim (λ (e : n ≡ f.number). omega (arith, low, e)) (λ k. absurd k) j)
+      (member_either n older (f.number ∷ []) (subst (IsMember n) numbers_are i))
 
   pub head : (K : Type 0) (n : ℕ) (a : Area) (us : List Area) (fs : List Frame) (m : Map)
       → AllAllowed ls H E K n (a ∷ us) fs m → Chain (H a) fs × Allowed ls K (E a) n fs m
@@ -49,8 +49,8 @@ module _ (ls : List Layout) {Area : Type 0} (H : Area → List Home) (E : Area �
   rebound_one : (K : Type 0) (F : ℕ → Type 0) (n i : ℕ) (fs : List Frame) (m : Map)
       → ((q : Spot) → IsSome (map.get m q) → q.frame < i) → Allowed ls K F n fs m → Allowed ls K F i fs m
   rebound_one K F n i fs m h a = record {
-    held = λ x e. (let w = a.held x e in
-        (w.0, w.1, h w.0 (known_of_held (map.get m w.0) (has_held ls fs m x w.0 w.3)), w.3));
+    held = λ x e. (let (there, stands, _, holds) = a.held x e in
+        (there, stands, h there (known_of_held (map.get m there) (has_held ls fs m x there holds)), holds));
     apart = a.apart;
     console = a.console;
     clear = a.clear;
@@ -66,15 +66,15 @@ module _ (ls : List Layout) {Area : Type 0} (H : Area → List Home) (E : Area �
         (λ q k. (let b = known_below p.map q k in omega (arith, b))) h.1,
   )
   rebound K n base (a ∷ b ∷ us) [] p h o = h
-  rebound K n base (a ∷ b ∷ us) (f ∷ fs) p h o =
+  rebound K n base (a ∷ b ∷ us) (f ∷ fs) p (chain, allowed, _, rest) o =
       let top : IsMember f.number p.own = subst (IsMember f.number) (sym o.1)
       (member_back f.number o.0 (f.number ∷ []) (inl refl)) in
       let b = member_above p.own f.number top in (
-        h.0,
+        chain,
         rebound_one K (E a) n (next_frame p) (f ∷ fs) p.map
-            (λ q k. (let b = known_below p.map q k in omega (arith, b))) h.1,
+            (λ q k. (let b = known_below p.map q k in omega (arith, b))) allowed,
         omega (arith, b),
-        h.3,
+        rest,
       )
 
   module _ (K : Type 0) (us : List Area) (fs : List Frame) (d : ℕ) (p : Plain) (h : Holding ls H E K us fs d p) where
@@ -194,11 +194,12 @@ module _ (ls : List Layout) {Area : Type 0} (H : Area → List Home) (E : Area �
     pub holding_pop : Holding ls H E K (a ∷ us) fs (d - 1) (without_newest_frame p)
     holding_pop = record {
       bound = f.number;
-      allowed = all_keeps ls K p.map (without_newest_frame p).map H E f.number (a ∷ us) fs
+      allowed = (let (_, _, _, rest) = h.allowed in
+          all_keeps ls K p.map (without_newest_frame p).map H E f.number (a ∷ us) fs
           (keeps_same K f.number p.map (without_newest_frame p).map (λ q l. gone q (λ e. omega (arith, l, e))))
-          h.allowed.3;
+          rest);
       base = h.base;
-      own = subst (AreOwn ls H E h.base (a ∷ us) fs) (sym rest_is) h.own.3;
+      own = (let (_, _, _, rest) = h.own in subst (AreOwn ls H E h.base (a ∷ us) fs) (sym rest_is) rest);
       deep = omega (arith, h.deep, long, ap length rest_is);
       known = λ q k. (let w = still_known q k in ⊎_elim
           (λ i. inl (subst (IsMember q.frame) (sym rest_is)

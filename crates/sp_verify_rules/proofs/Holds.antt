@@ -92,10 +92,10 @@ module _ (g : CodeRun) (E : Area → ℕ → Type 0) (T : List Area → Config (
             (cell.Ordinal (pos (or_zero (position_in (piece_of (map.get n.store.map input_spot))) + k))))
 
         was : (v : ℕ) × (position_in (piece_of (map.get n.store.map input_spot)) ≡ Some v)
-        was = let w = held.held 0 e in (
-          w.3.0,
-          ap (λ q. position_in (piece_of (map.get n.store.map q))) (same_Some _ _ w.1)
-              ∙ w.3.1,
+        was = let (_, stands, _, (v, position_is)) = held.held 0 e in (
+          v,
+          ap (λ q. position_in (piece_of (map.get n.store.map q))) (same_Some _ _ stands)
+              ∙ position_is,
         )
 
         known_input : (o : Option Content) → position_in (piece_of o) ≡ Some was.0 → IsSome o
@@ -128,7 +128,8 @@ module _ (g : CodeRun) (E : Area → ℕ → Type 0) (T : List Area → Config (
     }
       where
         was : IsOutput (map.get n.store.map output_spot)
-        was = let w = held.held 1 e in subst (λ q. IsOutput (map.get n.store.map q)) (same_Some _ _ (sym w.1)) w.3
+        was = let (_, stands, _, is_output) = held.held 1 e in
+            subst (λ q. IsOutput (map.get n.store.map q)) (same_Some _ _ (sym stands)) is_output
 
   -- the newest frame goes
   closed : (a c : Area) (us : List Area) (p : ℕ) (st : List Entry) (n : Memory Plain) → L_ (a ∷ c ∷ us) (At p st n)

@@ -16,11 +16,13 @@ use Rattle.sp_code.specs.declared.code.Layout.{Layout}
 use Rattle.sp_code.specs.declared.code.ChildTable.{ChildTable}
 use Rattle.sp_code.specs.declared.code.ForkTable.{ForkTable}
 use Rattle.sp_code.specs.declared.code.Parts.{Parts}
+use Rattle.sp_code.specs.declared.instr.Instr.TheVariants as i
 use Rattle.sp_code.specs.Machine.{layout_of, Config}
 use Rattle.sp_code.specs.Memory.{OfBlock, OfIndex, CodeRun, Memory}
 use Rattle.sp_code.specs.PlainStore.{plain}
 use Rattle.sp_code.specs.System.{child_process, child_or, table_or}
-use Rattle.sp_verify_rules.specs.Areas.{Area, Body, Child, homes, with_home, child_at, child_of, index_of_child}
+use Rattle.sp_verify_rules.specs.Areas.{Area, Body, Child, instr_at, homes, with_home, child_at, child_of}
+use Rattle.sp_verify_rules.specs.Areas.{index_of_child}
 use Rattle.sp_verify_rules.specs.Chains.{variables_of, variables_in, all_variables}
 use Rattle.sp_verify_rules.specs.Effects.{EffectKind, Stored, Loaded, IsActual, IsStarted, IsCalled, IsEffect}
 use Rattle.sp_verify_rules.specs.Effects.{HasEffect}
@@ -87,6 +89,12 @@ module _ (c : Parts) (k : KeepsCodeRules c) (e : KeepsEffects c (Does c)) (known
     homes_are : (homes c (Body b) ≡ OfBlock b ∷ drop up (homes c a)) × ((l.block ≡ b) × ((b == 0) ≡ false))
     homes_are = called_homes c k e known a p b up ss l area call
 
+    same_block : l.block ≡ b
+    same_block = let (_, (block_is, _)) = homes_are in block_is
+
+    not_program : (l.block == 0) ≡ false
+    not_program = let (_, (block_is, inner)) = homes_are in ap (λ z. z == 0) block_is ∙ inner
+
     block : IsArea c (Body b)
     block = (l, call.layout)
 
@@ -102,11 +110,12 @@ module _ (c : Parts) (k : KeepsCodeRules c) (e : KeepsEffects c (Does c)) (known
     own y m = subst (λ o. IsMember y (variables_of o)) call.layout m
 
     pub actual_stored : (j x : ℕ) → IsActual l ss j x → IsEffect c (Does c) Stored a x
-    actual_stored j x w = record { areas = []; proof = inl (p, ss, call.reached, stored) }
+    actual_stored j x (cells, left, formal_is, operand_is) =
+        record { areas = []; proof = inl (p, ss, call.reached, stored) }
       where
         there : IsIn x (addresses (length l.formals) ss)
-        there = let b = slice_get_within l.formals j (formal.Reference w.0) w.2 in in_addresses (length l.formals)
-            (length l.formals - 1 - j) ss x w.1 (omega (arith, b)) w.3
+        there = let b = slice_get_within l.formals j (formal.Reference cells) formal_is in in_addresses
+            (length l.formals) (length l.formals - 1 - j) ss x left (omega (arith, b)) operand_is
 
         stored : IsIn x (does_at c Stored a p ss)
         stored = subst (λ o. IsIn x (stored_by c a o ss)) (sym call.call)
@@ -131,8 +140,8 @@ module _ (c : Parts) (k : KeepsCodeRules c) (e : KeepsEffects c (Does c)) (known
     pub keeps_calls : KeepsCalls c.layouts (homes c a) up l (May c a) (May c (Body b)) (IsActual l ss)
     keeps_calls = record {
       different = area_different c k a area;
-      lay = ap (layout_of c.layouts) homes_are.1.0 ∙ call.layout;
-      inner = ap (λ z. z == 0) homes_are.1.0 ∙ homes_are.1.1;
+      lay = ap (layout_of c.layouts) same_block ∙ call.layout;
+      inner = not_program;
       distinct = subst AllDifferent all_there (area_different c k (Body b) block);
       around = λ y d. ⊎_elim
           (λ f. ⊎_elim (λ (s : y < 2). inl s) (λ m. inr (subst (IsMember y) all_there m))
@@ -145,11 +154,11 @@ module _ (c : Parts) (k : KeepsCodeRules c) (e : KeepsEffects c (Does c)) (known
           (λ f. may_effect c k e known a y area
           (⊎_elim (λ g. inl (outer_effect Stored y g n)) (λ g. inr (outer_effect Loaded y g n)) f))
           (λ m. absurd (n (own y m))) d;
-      passed = λ j x w. (
+      passed = λ j x w. let (_, left, _, operand_is) = w in (
         may_effect c k e known a x area (inl (actual_stored j x w)),
         around_real c k a x area
-            (at_p (λ z. IsMember z (all_variables c.layouts (homes c a))) ss (length l.formals - 1 - j) x w.1
-            (addresses_around c k a area p ss call.reached) w.3),
+            (at_p (λ z. IsMember z (all_variables c.layouts (homes c a))) ss (length l.formals - 1 - j) x left
+            (addresses_around c k a area p ss call.reached) operand_is),
       );
       once = λ j m x u v. e.actual_once a p b up ss l area call j m x u v;
       none = λ j x u d. ⊎_elim (λ f. e.actual_none a p b up ss l area call j x u f) (λ m. own x m) d;
@@ -201,7 +210,7 @@ module _ (g : CodeRun) (k : KeepsCodeRules g.code) (e : KeepsEffects g.code (Doe
     forks_well = go at
       where
         go : ForksAt g.code p t n → ForkInvariant g (homes g.code) (May g.code) T a t value n d
-        go (inl w) = record {
+        go (inl (tb, is_fork, tb_there, count_is)) = record {
           area = λ j. Child a p j;
           children = λ j lt. (let c = fork_child j lt in subst
               (λ (z : ChildTable). IsChild g (homes g.code) (May g.code) T a (Child a p j) z) (sym c.2)
@@ -224,17 +233,22 @@ module _ (g : CodeRun) (k : KeepsCodeRules g.code) (e : KeepsEffects g.code (Doe
             fork_child : (j : ℕ) → j < n → (ch : ChildTable) × (child_at g.code p j ≡ Some ch)
                 × (table_of g (homes g.code) (May g.code) T t j ≡ ch)
             fork_child j lt =
-                let tb = w.0 in
-                let ch = item_there tb.children j (omega (arith, lt, w.3)) in (
+                let ch = item_there tb.children j (omega (arith, lt, count_is)) in (
                   ch.0,
                   ap (λ o. child_of (Rattle.sp_verify_rules.specs.Areas.table_at g.code.forks
-                      (Rattle.sp_verify_rules.specs.Areas.table_named o)) j) w.1 ∙ (ap (λ o. child_of o j) w.2 ∙ ch.1),
-                  ap (λ o. child_or (table_child (table_or o) j)) w.2
+                      (Rattle.sp_verify_rules.specs.Areas.table_named o)) j) is_fork
+                      ∙ (ap (λ o. child_of o j) tb_there ∙ ch.1),
+                  ap (λ o. child_or (table_child (table_or o) j)) tb_there
                       ∙ (ap (λ o. child_or (child_by tb.children o j))
-                      (no_index tb.children (λ ch s. k.forks p t 0 ch w.1 (ap (λ o. child_of o 0) w.2 ∙ s)))
+                      (no_index tb.children (λ ch s. k.forks p t 0 ch is_fork (ap (λ o. child_of o 0) tb_there ∙ s)))
                       ∙ ap child_or ch.1),
                 )
-        go (inr w) = record {
+        go (inr w) = of_forall w (k.foralls p t w)
+
+        of_forall : instr_at g.code p ≡ Some (i.Forall t) → (tb : ForkTable) × (ch : ChildTable) × (x : ℕ)
+            × (slice_get g.code.forks t ≡ Some tb) × (tb.children ≡ ch ∷ []) × (ch.index ≡ Some x)
+            → ForkInvariant g (homes g.code) (May g.code) T a t value n d
+        of_forall w (tb, child, x, tb_there, children_are, index_is) = record {
           area = λ j. Child a p 0;
           children = λ j lt. (let c = forall_child j lt in subst
               (λ (z : ChildTable). IsChild g (homes g.code) (May g.code) T a (Child a p 0) z) (sym c.2)
@@ -247,29 +261,25 @@ module _ (g : CodeRun) (k : KeepsCodeRules g.code) (e : KeepsEffects g.code (Doe
               (stands 0 q c.0 c.1 j));
         }
           where
-            one : (tb : ForkTable) × (ch : ChildTable) × (x : ℕ) × (slice_get g.code.forks t ≡ Some tb)
-                × (tb.children ≡ ch ∷ []) × (ch.index ≡ Some x)
-            one = k.foralls p t w
-
-            there : child_at g.code p 0 ≡ Some one.1
+            there : child_at g.code p 0 ≡ Some child
             there = ap (λ o. child_of (Rattle.sp_verify_rules.specs.Areas.table_at g.code.forks
                 (Rattle.sp_verify_rules.specs.Areas.table_named o)) 0) w
-                ∙ (ap (λ o. child_of o 0) one.3 ∙ ap (λ cs. slice_get cs 0) one.4)
+                ∙ (ap (λ o. child_of o 0) tb_there ∙ ap (λ cs. slice_get cs 0) children_are)
 
             forall_child : (j : ℕ) → j < n → (ch : ChildTable) × (child_at g.code p 0 ≡ Some ch)
                 × (table_of g (homes g.code) (May g.code) T t j ≡ ch)
             forall_child j lt = (
-              one.1,
+              child,
               there,
-              ap (λ o. child_or (table_child (table_or o) j)) one.3
-                  ∙ (ap (λ cs. child_or (child_by cs (first_index cs) j)) one.4
-                  ∙ ap (λ o. child_or (child_by (one.1 ∷ []) o j)) one.5),
+              ap (λ o. child_or (table_child (table_or o) j)) tb_there
+                  ∙ (ap (λ cs. child_or (child_by cs (first_index cs) j)) children_are
+                  ∙ ap (λ o. child_or (child_by (child ∷ []) o j)) index_is),
             )
 
             has_index : (ch : ChildTable) → child_at g.code p 0 ≡ Some ch → IsSome ch.index
             has_index ch is =
-                let same : one.1 ≡ ch = same_Some _ _ (sym there ∙ is) in
-                subst (λ (z : ChildTable). IsSome z.index) same (subst (λ o. IsSome o) (sym one.5) refl)
+                let same : child ≡ ch = same_Some _ _ (sym there ∙ is) in
+                subst (λ (z : ChildTable). IsSome z.index) same (subst (λ o. IsSome o) (sym index_is) refl)
 
             empty : (ch : ChildTable) → child_at g.code p 0 ≡ Some ch → ch.moved ≡ []
             empty ch is = e.no_moves a p 0 ch (area, pass, (ch, is)) is (has_index ch is)

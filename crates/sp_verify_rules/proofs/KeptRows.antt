@@ -1,24 +1,29 @@
 -- A code with a fork that keeps V6 and V7. Its areas are the program and the two children, and each child stores what
 -- moves to it alone.
-use Rattle.std.proofs.Common.{◌≡◌, ◌≢◌, ◌⊎◌, inl, inr, ⊎_elim, ℕ, zero, suc, ◌==◌, List, [], ◌∷◌, Some, None, Bool}
-use Rattle.std.proofs.Common.{true, false, if◌then◌else◌, refl, sym, ◌∙◌, subst, eqb-true, arith}
+use Rattle.std.proofs.Common.{◌≡◌, ◌≢◌, ◌⊎◌, inl, inr, ⊎_elim, ℕ, zero, suc, ◌+◌, ◌≤◌, ◌==◌, List, [], ◌∷◌, drop}
+use Rattle.std.proofs.Common.{Option, Some, None, Bool, true, false, ◌&&◌, if◌then◌else◌, refl, sym, ap, ◌∙◌, subst}
+use Rattle.std.proofs.Common.{eqb-true, arith}
 use Rattle.std.specs.Prelude.{IsSome}
+use Rattle.std.proofs.lemmas.Bool.{and_parts}
 use Rattle.std.proofs.lemmas.Option.{same_Some}
+use Rattle.sp_base.proofs.Facts.{not_true_and_false}
 use Rattle.sp_tree.specs.Interference.{IsMember, AllDifferent}
 use Rattle.sp_code.specs.declared.code.Layout.{Layout}
 use Rattle.sp_code.specs.declared.code.ChildTable.{ChildTable}
+use Rattle.sp_code.specs.declared.instr.Instr.{Instr}
 use Rattle.sp_code.specs.declared.instr.Instr.TheVariants as i
-use Rattle.sp_verify_rules.specs.Areas.{Area, Body, Child, child_at, instr_at}
+use Rattle.sp_verify_rules.specs.Areas.{Area, Body, Child, child_at, instr_at, child_of, table_at, table_named, entry}
 use Rattle.sp_verify_rules.specs.EffectRows.{doubly_moved}
 use Rattle.sp_verify_rules.specs.Effects.{EffectKind, Stored, Loaded, CountsAsEffect, IsStarted, IsCalled, Becomes}
 use Rattle.sp_verify_rules.specs.Effects.{Does}
 use Rattle.sp_verify_rules.specs.Effects.{IsEffect, does_at}
 use Rattle.sp_verify_rules.specs.Effects.{handed_to}
 use Rattle.sp_verify_rules.specs.Forks.{KeepsEffects}
-use Rattle.sp_verify_rules.specs.Reach.{IsIn, IsArea, IsBrought, IsInCodeOf, Reaches, LeadsInSteps, nexts}
+use Rattle.sp_verify_rules.specs.Reach.{IsIn, IsArea, IsInCodeOf, LeadsInSteps, nexts}
 use Rattle.sp_verify_rules.specs.Shapes.{Shape, O, A}
+use Rattle.sp_verify_rules.proofs.AnswerRow.{each_instr}
 use Rattle.sp_verify_rules.proofs.EffectLaws.{effects_within}
-use Rattle.sp_verify_rules.proofs.ShapeTables.{is_closed, reached_in}
+use Rattle.sp_verify_rules.proofs.ShapeTables.{is_closed, each_row, reached_passes}
 
 abbrev first : ChildTable
 first = record { entry = 2; moved = 2 ∷ []; shared = []; index = None }
@@ -37,128 +42,116 @@ main = record {
   formals = [];
 }
 
+-- ---- what its instructions do
+
+-- calls no block, starts no child, and goes on to the next instruction or nowhere
+abbrev is_simple : Option Instr → Bool
+is_simple None = true
+is_simple (Some (i.Addr up var)) = true
+is_simple (Some (i.Const v)) = true
+is_simple (Some i.Store) = true
+is_simple (Some i.End) = true
+is_simple (Some o) = false
+
+-- each instruction but the first one is so
+simple : (p : ℕ) → is_simple (instr_at doubly_moved (suc p)) ≡ true
+simple p = each_instr is_simple (drop 1 doubly_moved.instrs) refl p
+
+names_no_table : (o : Option Instr) → is_simple o ≡ true → table_named o ≡ None
+names_no_table None e = refl
+names_no_table (Some (i.Addr up var)) e = refl
+names_no_table (Some (i.Const v)) e = refl
+names_no_table (Some i.Store) e = refl
+names_no_table (Some i.End) e = refl
+names_no_table (Some o) e = absurd (cc e)
+
+goes_next : (p q : ℕ) (o : Option Instr) → is_simple o ≡ true → IsIn q (nexts p o) → q ≡ p + 1
+goes_next p q None e m = absurd m
+goes_next p q (Some (i.Addr up var)) e m = ⊎_elim (λ s. s) (λ z. absurd z) m
+goes_next p q (Some (i.Const v)) e m = ⊎_elim (λ s. s) (λ z. absurd z) m
+goes_next p q (Some i.Store) e m = ⊎_elim (λ s. s) (λ z. absurd z) m
+goes_next p q (Some i.End) e m = absurd m
+goes_next p q (Some o) e m = absurd (cc e)
+
+no_call : (p f up : ℕ) → instr_at doubly_moved p ≡ Some (i.Call f up) → ⊥
+no_call zero f up e = cc e
+no_call (suc p) f up e = not_true_and_false (is_simple (instr_at doubly_moved (suc p))) (simple p) (ap is_simple e)
+
 -- the only fork is the first instruction, and has two children
 at_fork : (p k : ℕ) (t : ChildTable) → child_at doubly_moved p k ≡ Some t → (p ≡ 0)
     × ((k ≡ 0) × (t ≡ first) ⊎ (k ≡ 1) × (t ≡ second))
 at_fork zero zero t e = (refl, inl (refl, sym (same_Some _ _ e)))
 at_fork zero (suc zero) t e = (refl, inr (refl, sym (same_Some _ _ e)))
 at_fork zero (suc (suc k)) t e = absurd (cc e)
-at_fork (suc zero) k t e = absurd (cc e)
-at_fork (suc (suc zero)) k t e = absurd (cc e)
-at_fork (suc (suc (suc zero))) k t e = absurd (cc e)
-at_fork (suc (suc (suc (suc zero)))) k t e = absurd (cc e)
-at_fork (suc (suc (suc (suc (suc zero))))) k t e = absurd (cc e)
-at_fork (suc (suc (suc (suc (suc (suc zero)))))) k t e = absurd (cc e)
-at_fork (suc (suc (suc (suc (suc (suc (suc zero))))))) k t e = absurd (cc e)
-at_fork (suc (suc (suc (suc (suc (suc (suc (suc zero)))))))) k t e = absurd (cc e)
-at_fork (suc (suc (suc (suc (suc (suc (suc (suc (suc zero))))))))) k t e = absurd (cc e)
-at_fork (suc (suc (suc (suc (suc (suc (suc (suc (suc (suc p)))))))))) k t e = absurd (cc e)
-
--- the shapes in the children
-one : List (ℕ × List Shape)
-one = (2, []) ∷ (3, A 2 1 ∷ []) ∷ (4, O ∷ A 2 1 ∷ []) ∷ (5, []) ∷ []
-
-two : List (ℕ × List Shape)
-two = (6, []) ∷ (7, A 3 1 ∷ []) ∷ (8, O ∷ A 3 1 ∷ []) ∷ (9, []) ∷ []
-
-one_closed : is_closed doubly_moved (Child (Body 0) 0 0) one ≡ true
-unfolding one
-one_closed = refl
-
-two_closed : is_closed doubly_moved (Child (Body 0) 0 1) two ≡ true
-unfolding two
-two_closed = refl
-
--- ---- the code of the children has no fork
-
-one_in : List ℕ
-one_in = 2 ∷ 3 ∷ 4 ∷ 5 ∷ []
-
-step_one : (p r : ℕ) → IsIn p (2 ∷ 3 ∷ 4 ∷ 5 ∷ []) → IsIn r (nexts p (instr_at doubly_moved p))
-    → IsIn r (2 ∷ 3 ∷ 4 ∷ 5 ∷ [])
-step_one p r (inl e) m = ⊎_elim (λ z. inr (inl z)) (λ z. absurd z)
-    (subst (λ z. IsIn r (nexts z (instr_at doubly_moved z))) e m)
-step_one p r (inr (inl e)) m = ⊎_elim (λ z. inr (inr (inl z))) (λ z. absurd z)
-    (subst (λ z. IsIn r (nexts z (instr_at doubly_moved z))) e m)
-step_one p r (inr (inr (inl e))) m = ⊎_elim (λ z. inr (inr (inr (inl z)))) (λ z. absurd z)
-    (subst (λ z. IsIn r (nexts z (instr_at doubly_moved z))) e m)
-step_one p r (inr (inr (inr (inl e)))) m = absurd (subst (λ z. IsIn r (nexts z (instr_at doubly_moved z))) e m)
-step_one p r (inr (inr (inr (inr e)))) m = absurd e
-
-step_two : (p r : ℕ) → IsIn p (6 ∷ 7 ∷ 8 ∷ 9 ∷ []) → IsIn r (nexts p (instr_at doubly_moved p))
-    → IsIn r (6 ∷ 7 ∷ 8 ∷ 9 ∷ [])
-step_two p r (inl e) m = ⊎_elim (λ z. inr (inl z)) (λ z. absurd z)
-    (subst (λ z. IsIn r (nexts z (instr_at doubly_moved z))) e m)
-step_two p r (inr (inl e)) m = ⊎_elim (λ z. inr (inr (inl z))) (λ z. absurd z)
-    (subst (λ z. IsIn r (nexts z (instr_at doubly_moved z))) e m)
-step_two p r (inr (inr (inl e))) m = ⊎_elim (λ z. inr (inr (inr (inl z)))) (λ z. absurd z)
-    (subst (λ z. IsIn r (nexts z (instr_at doubly_moved z))) e m)
-step_two p r (inr (inr (inr (inl e)))) m = absurd (subst (λ z. IsIn r (nexts z (instr_at doubly_moved z))) e m)
-step_two p r (inr (inr (inr (inr e)))) m = absurd e
-
-goes_within : (xs : List ℕ) → ((p r : ℕ) → IsIn p xs → IsIn r (nexts p (instr_at doubly_moved p)) → IsIn r xs)
-    → (n p q : ℕ)
-    → LeadsInSteps doubly_moved n p q → IsIn p xs → IsIn q xs
-goes_within xs step zero p q g i = subst (λ z. IsIn z xs) g i
-goes_within xs step (suc n) p q g i = goes_within xs step n g.0 q g.2 (step p g.0 i g.1)
-
-zero_out_one : IsIn 0 (2 ∷ 3 ∷ 4 ∷ 5 ∷ []) → ⊥
-zero_out_one (inl e) = omega (arith, e)
-zero_out_one (inr (inl e)) = omega (arith, e)
-zero_out_one (inr (inr (inl e))) = omega (arith, e)
-zero_out_one (inr (inr (inr (inl e)))) = omega (arith, e)
-zero_out_one (inr (inr (inr (inr e)))) = e
-
-zero_out_two : IsIn 0 (6 ∷ 7 ∷ 8 ∷ 9 ∷ []) → ⊥
-zero_out_two (inl e) = omega (arith, e)
-zero_out_two (inr (inl e)) = omega (arith, e)
-zero_out_two (inr (inr (inl e))) = omega (arith, e)
-zero_out_two (inr (inr (inr (inl e)))) = omega (arith, e)
-zero_out_two (inr (inr (inr (inr e)))) = e
-
--- nothing is started in a child
-none_one : (p k : ℕ) (t : ChildTable) → IsStarted doubly_moved (Child (Body 0) 0 0) p k t → ⊥
-none_one p k t s = zero_out_one
-    (goes_within (2 ∷ 3 ∷ 4 ∷ 5 ∷ []) step_one s.0.steps 2 0
-    (subst (λ z. LeadsInSteps doubly_moved s.0.steps 2 z) (at_fork p k t s.1).0 s.0.way) (inl refl))
-
-none_two : (p k : ℕ) (t : ChildTable) → IsStarted doubly_moved (Child (Body 0) 0 1) p k t → ⊥
-none_two p k t s = zero_out_two
-    (goes_within (6 ∷ 7 ∷ 8 ∷ 9 ∷ []) step_two s.0.steps 6 0
-    (subst (λ z. LeadsInSteps doubly_moved s.0.steps 6 z) (at_fork p k t s.1).0 s.0.way) (inl refl))
-
--- ---- what their instructions do
-
--- a fact of each row
-each_one : (P : ℕ → List Shape → Type 0) → P 2 [] → P 3 (A 2 1 ∷ []) → P 4 (O ∷ A 2 1 ∷ []) → P 5 []
-    → (p : ℕ) (ss : List Shape) → Reaches doubly_moved (Child (Body 0) 0 0) p ss → P p ss
-unfolding one
-each_one P a b c d p ss r = go (reached_in doubly_moved (Child (Body 0) 0 0) one one_closed p ss r)
+at_fork (suc p) k t e = absurd
+    (nothing (table_named (instr_at doubly_moved (suc p)))
+    (names_no_table (instr_at doubly_moved (suc p)) (simple p)) e)
   where
-    at : (q : ℕ) (ts : List Shape) → P q ts → p ≡ q → ss ≡ ts → P p ss
-    at q ts h e f = subst (λ z. P z ss) (sym e) (subst (λ z. P q z) (sym f) h)
+    nothing : (o : Option ℕ) → o ≡ None → child_of (table_at doubly_moved.forks o) k ≡ Some t → ⊥
+    nothing None is e = cc e
+    nothing (Some n) is e = cc is
 
-    go : IsBrought p ss ((2, []) ∷ (3, A 2 1 ∷ []) ∷ (4, O ∷ A 2 1 ∷ []) ∷ (5, []) ∷ []) → P p ss
-    go (inl z) = at 2 [] a z.0 z.1
-    go (inr (inl z)) = at 3 (A 2 1 ∷ []) b z.0 z.1
-    go (inr (inr (inl z))) = at 4 (O ∷ A 2 1 ∷ []) c z.0 z.1
-    go (inr (inr (inr (inl z)))) = at 5 [] d z.0 z.1
-    go (inr (inr (inr (inr z)))) = absurd z
+-- a way that begins behind the fork does not come to it
+stays_behind : (n p q : ℕ) → LeadsInSteps doubly_moved n p q → 1 ≤ p → 1 ≤ q
+stays_behind zero p q w h = let same : p ≡ q = w in omega (arith, h, same)
+stays_behind (suc n) zero q w h = absurd (omega (arith, h))
+stays_behind (suc n) (suc p) q (r, m, w) h = stays_behind n r q w
+    (let next = goes_next (suc p) r (instr_at doubly_moved (suc p)) (simple p) m in omega (arith, next))
 
-each_two : (P : ℕ → List Shape → Type 0) → P 6 [] → P 7 (A 3 1 ∷ []) → P 8 (O ∷ A 3 1 ∷ []) → P 9 []
-    → (p : ℕ) (ss : List Shape) → Reaches doubly_moved (Child (Body 0) 0 1) p ss → P p ss
-unfolding two
-each_two P a b c d p ss r = go (reached_in doubly_moved (Child (Body 0) 0 1) two two_closed p ss r)
-  where
-    at : (q : ℕ) (ts : List Shape) → P q ts → p ≡ q → ss ≡ ts → P p ss
-    at q ts h e f = subst (λ z. P z ss) (sym e) (subst (λ z. P q z) (sym f) h)
+-- ---- what a child does
 
-    go : IsBrought p ss ((6, []) ∷ (7, A 3 1 ∷ []) ∷ (8, O ∷ A 3 1 ∷ []) ∷ (9, []) ∷ []) → P p ss
-    go (inl z) = at 6 [] a z.0 z.1
-    go (inr (inl z)) = at 7 (A 3 1 ∷ []) b z.0 z.1
-    go (inr (inr (inl z))) = at 8 (O ∷ A 3 1 ∷ []) c z.0 z.1
-    go (inr (inr (inr (inl z)))) = at 9 [] d z.0 z.1
-    go (inr (inr (inr (inr z)))) = absurd z
+-- the shapes in a child whose code begins at n and stores variable x
+abbrev shapes : ℕ → ℕ → List (ℕ × List Shape)
+shapes n x = (n, []) ∷ (suc n, A x 1 ∷ []) ∷ (suc (suc n), O ∷ A x 1 ∷ []) ∷ (suc (suc (suc n)), []) ∷ []
+
+abbrev are_all : ℕ → List ℕ → Bool
+are_all x [] = true
+are_all x (y ∷ ys) = (y == x) && are_all x ys
+
+all_are : (x y : ℕ) (ys : List ℕ) → are_all x ys ≡ true → IsIn y ys → y ≡ x
+all_are x y [] e m = absurd m
+all_are x y (z ∷ zs) e (inl s) = s ∙ eqb-true z x (and_parts (z == x) (are_all x zs) e).0
+all_are x y (z ∷ zs) e (inr m) = all_are x y zs (and_parts (z == x) (are_all x zs) e).1 m
+
+abbrev is_nothing : List ℕ → Bool
+is_nothing [] = true
+is_nothing (x ∷ xs) = false
+
+none_in : (x : ℕ) (xs : List ℕ) → is_nothing xs ≡ true → IsIn x xs → ⊥
+none_in x [] e m = m
+none_in x (y ∷ ys) e m = cc e
+
+module _ (k : ℕ) (begins : 1 ≤ entry doubly_moved (Child (Body 0) 0 k)) where
+  -- the fork is not in its code, so it starts nothing
+  without_fork : IsInCodeOf doubly_moved (Child (Body 0) 0 k) 0 → ⊥
+  without_fork z =
+      let behind = stays_behind z.steps (entry doubly_moved (Child (Body 0) 0 k)) 0 z.way begins in
+      omega (arith, behind)
+
+  starts_none : (p j : ℕ) (t : ChildTable) → IsStarted doubly_moved (Child (Body 0) 0 k) p j t → ⊥
+  starts_none p j t (way, there) = without_fork
+      (subst (IsInCodeOf doubly_moved (Child (Body 0) 0 k)) (at_fork p j t there).0 way)
+
+  module _ (n v : ℕ) (closed : is_closed doubly_moved (Child (Body 0) 0 k) (shapes n v) ≡ true) where
+    stores : each_row (λ p ss. are_all v (does_at doubly_moved Stored (Child (Body 0) 0 k) p ss)) (shapes n v) ≡ true
+        → (x : ℕ) → Does doubly_moved Stored (Child (Body 0) 0 k) x → x ≡ v
+    stores e x (inl (p, ss, reached, touches)) = all_are v x (does_at doubly_moved Stored (Child (Body 0) 0 k) p ss)
+        (reached_passes doubly_moved (Child (Body 0) 0 k) (shapes n v) closed
+        (λ p ss. are_all v (does_at doubly_moved Stored (Child (Body 0) 0 k) p ss)) e p ss reached) touches
+    stores e x (inr (p, j, t, started, _)) = absurd (starts_none p j t started)
+
+    loads : each_row (λ p ss. is_nothing (does_at doubly_moved Loaded (Child (Body 0) 0 k) p ss)) (shapes n v) ≡ true
+        → (x : ℕ) → Does doubly_moved Loaded (Child (Body 0) 0 k) x → ⊥
+    loads e x (inl (p, ss, reached, touches)) = none_in x (does_at doubly_moved Loaded (Child (Body 0) 0 k) p ss)
+        (reached_passes doubly_moved (Child (Body 0) 0 k) (shapes n v) closed
+        (λ p ss. is_nothing (does_at doubly_moved Loaded (Child (Body 0) 0 k) p ss)) e p ss reached) touches
+    loads e x (inr (p, j, t, started, _)) = starts_none p j t started
+
+first_begins : 1 ≤ entry doubly_moved (Child (Body 0) 0 0)
+first_begins = let low : 1 ≤ 2 = omega arith in low
+
+second_begins : 1 ≤ entry doubly_moved (Child (Body 0) 0 1)
+second_begins = let low : 1 ≤ 6 = omega arith in low
 
 -- a closed set: the first child stores variable 2 alone, the second one variable 3 alone, and they load nothing
 abbrev Set : EffectKind → Area → ℕ → Type 0
@@ -168,54 +161,26 @@ Set Loaded (Child (Body zero) zero zero) x = ⊥
 Set Loaded (Child (Body zero) zero (suc zero)) x = ⊥
 Set u a x = Unit {0}
 
-alone : (x y : ℕ) → IsIn x (y ∷ []) → x ≡ y
-alone x y (inl e) = e
-alone x y (inr z) = absurd z
-
 set_does : (u : EffectKind) (a : Area) (x : ℕ) → Does doubly_moved u a x → Set u a x
-set_does Stored (Child (Body zero) zero zero) x (inl d) = each_one
-    (λ p ss. IsIn x (does_at doubly_moved Stored (Child (Body 0) 0 0) p ss)
-    → x ≡ 2) (λ m. absurd m) (λ m. absurd m) (λ m. alone x 2 m) (λ m. absurd m) d.0 d.1 d.2 d.3
-set_does Stored (Child (Body zero) zero zero) x (inr d) = absurd (none_one d.0 d.1 d.2 d.3)
-set_does Stored (Child (Body zero) zero (suc zero)) x (inl d) = each_two
-    (λ p ss. IsIn x (does_at doubly_moved Stored (Child (Body 0) 0 1) p ss)
-    → x ≡ 3) (λ m. absurd m) (λ m. absurd m) (λ m. alone x 3 m) (λ m. absurd m) d.0 d.1 d.2 d.3
-set_does Stored (Child (Body zero) zero (suc zero)) x (inr d) = absurd (none_two d.0 d.1 d.2 d.3)
-set_does Loaded (Child (Body zero) zero zero) x (inl d) = each_one
-    (λ p ss. IsIn x (does_at doubly_moved Loaded (Child (Body 0) 0 0) p ss)
-    → ⊥) (λ m. m) (λ m. m) (λ m. m) (λ m. m) d.0 d.1 d.2 d.3
-set_does Loaded (Child (Body zero) zero zero) x (inr d) = none_one d.0 d.1 d.2 d.3
-set_does Loaded (Child (Body zero) zero (suc zero)) x (inl d) = each_two
-    (λ p ss. IsIn x (does_at doubly_moved Loaded (Child (Body 0) 0 1) p ss)
-    → ⊥) (λ m. m) (λ m. m) (λ m. m) (λ m. m) d.0 d.1 d.2 d.3
-set_does Loaded (Child (Body zero) zero (suc zero)) x (inr d) = none_two d.0 d.1 d.2 d.3
+set_does Stored (Child (Body zero) zero zero) x d = stores 0 first_begins 2 2 refl refl x d
+set_does Stored (Child (Body zero) zero (suc zero)) x d = stores 1 second_begins 6 3 refl refl x d
+set_does Loaded (Child (Body zero) zero zero) x d = loads 0 first_begins 2 2 refl refl x d
+set_does Loaded (Child (Body zero) zero (suc zero)) x d = loads 1 second_begins 6 3 refl refl x d
 set_does u a x d = tt
 
 set_child : (u : EffectKind) (a : Area) (p k x : ℕ) (t : ChildTable) → IsStarted doubly_moved a p k t
     → CountsAsEffect u t.index x
     → Set u (Child a p k) x → Set u a x
-set_child Stored (Child (Body zero) zero zero) p k x t s o h = absurd (none_one p k t s)
-set_child Stored (Child (Body zero) zero (suc zero)) p k x t s o h = absurd (none_two p k t s)
-set_child Loaded (Child (Body zero) zero zero) p k x t s o h = none_one p k t s
-set_child Loaded (Child (Body zero) zero (suc zero)) p k x t s o h = none_two p k t s
+set_child Stored (Child (Body zero) zero zero) p k x t s o h = absurd (starts_none 0 first_begins p k t s)
+set_child Stored (Child (Body zero) zero (suc zero)) p k x t s o h = absurd (starts_none 1 second_begins p k t s)
+set_child Loaded (Child (Body zero) zero zero) p k x t s o h = starts_none 0 first_begins p k t s
+set_child Loaded (Child (Body zero) zero (suc zero)) p k x t s o h = starts_none 1 second_begins p k t s
 set_child u a p k x t s o h = tt
-
-no_call_one : (p f up : ℕ) (ss : List Shape) (l : Layout) → IsCalled doubly_moved (Child (Body 0) 0 0) p f up ss l → ⊥
-no_call_one p f up ss l c = each_one (λ q ts. instr_at doubly_moved q ≡ Some (i.Call f up)
-    → ⊥) (λ e. cc e) (λ e. cc e) (λ e. cc e) (λ e. cc e) p ss c.reached c.call
-
-no_call_two : (p f up : ℕ) (ss : List Shape) (l : Layout) → IsCalled doubly_moved (Child (Body 0) 0 1) p f up ss l → ⊥
-no_call_two p f up ss l c = each_two (λ q ts. instr_at doubly_moved q ≡ Some (i.Call f up)
-    → ⊥) (λ e. cc e) (λ e. cc e) (λ e. cc e) (λ e. cc e) p ss c.reached c.call
 
 set_called : (u : EffectKind) (a : Area) (p f up x y : ℕ) (ss : List Shape) (l : Layout)
     → IsCalled doubly_moved a p f up ss l
     → Becomes l ss y x → Set u (Body f) y → Set u a x
-set_called Stored (Child (Body zero) zero zero) p f up x y ss l c b h = absurd (no_call_one p f up ss l c)
-set_called Stored (Child (Body zero) zero (suc zero)) p f up x y ss l c b h = absurd (no_call_two p f up ss l c)
-set_called Loaded (Child (Body zero) zero zero) p f up x y ss l c b h = no_call_one p f up ss l c
-set_called Loaded (Child (Body zero) zero (suc zero)) p f up x y ss l c b h = no_call_two p f up ss l c
-set_called u a p f up x y ss l c b h = tt
+set_called u a p f up x y ss l c b h = absurd (no_call p f up c.call)
 
 in_set : (u : EffectKind) (a : Area) (x : ℕ) → IsEffect doubly_moved (Does doubly_moved) u a x → Set u a x
 in_set = effects_within doubly_moved (Does doubly_moved) Set set_does set_child set_called
@@ -229,52 +194,33 @@ passes_start (Body (suc b)) i w = absurd (other (0 == suc b) refl i.1)
     other : (t : Bool) → (0 == suc b) ≡ t → (if t then Some main else None) ≡ Some i.0 → ⊥
     other true e s = absurd (omega (arith, eqb-true 0 (suc b) e))
     other false e s = cc s
-passes_start (Child a p k) i w = absurd
-    (go (at_fork p k i.2.0 i.2.1) (λ e. passes_start a i.0 (subst (IsInCodeOf doubly_moved a) e i.1)))
+passes_start (Child a p k) (area, way, (t, there)) w = absurd
+    (go (at_fork p k t there) (λ e. passes_start a area (subst (IsInCodeOf doubly_moved a) e way)))
   where
-    first_out : IsInCodeOf doubly_moved (Child (Body 0) 0 0) 0 → ⊥
-    first_out z = zero_out_one (goes_within (2 ∷ 3 ∷ 4 ∷ 5 ∷ []) step_one z.steps 2 0 z.way (inl refl))
+    in_child : (j : ℕ) → k ≡ j → p ≡ 0 → a ≡ Body 0 → IsInCodeOf doubly_moved (Child (Body 0) 0 j) 0
+    in_child j k_is p_is a_is = subst (λ z. IsInCodeOf doubly_moved (Child (Body 0) 0 z) 0) k_is
+        (subst (λ q. IsInCodeOf doubly_moved (Child (Body 0) q k) 0) p_is
+        (subst (λ b. IsInCodeOf doubly_moved (Child b p k) 0) a_is w))
 
-    second_out : IsInCodeOf doubly_moved (Child (Body 0) 0 1) 0 → ⊥
-    second_out z = zero_out_two (goes_within (6 ∷ 7 ∷ 8 ∷ 9 ∷ []) step_two z.steps 6 0 z.way (inl refl))
-
-    go : (p ≡ 0) × ((k ≡ 0) × (i.2.0 ≡ first) ⊎ (k ≡ 1) × (i.2.0 ≡ second)) → (p ≡ 0 → a ≡ Body 0) → ⊥
-    go (e, inl z) on = first_out (subst (λ j. IsInCodeOf doubly_moved (Child (Body 0) 0 j) 0) z.0
-        (subst (λ q. IsInCodeOf doubly_moved (Child (Body 0) q k) 0) e
-        (subst (λ b. IsInCodeOf doubly_moved (Child b p k) 0) (on e) w)))
-    go (e, inr z) on = second_out (subst (λ j. IsInCodeOf doubly_moved (Child (Body 0) 0 j) 0) z.0
-        (subst (λ q. IsInCodeOf doubly_moved (Child (Body 0) q k) 0) e
-        (subst (λ b. IsInCodeOf doubly_moved (Child b p k) 0) (on e) w)))
+    go : (p ≡ 0) × ((k ≡ 0) × (t ≡ first) ⊎ (k ≡ 1) × (t ≡ second)) → (p ≡ 0 → a ≡ Body 0) → ⊥
+    go (e, inl z) on = without_fork 0 first_begins (in_child 0 z.0 e (on e))
+    go (e, inr z) on = without_fork 1 second_begins (in_child 1 z.0 e (on e))
 
 by_child : (P : Area → ℕ → ℕ → ChildTable → Type 0) → P (Body 0) 0 0 first → P (Body 0) 0 1 second
     → (a : Area) (p k : ℕ) (t : ChildTable) → IsArea doubly_moved (Child a p k) → child_at doubly_moved p k ≡ Some t
     → P a p k t
 by_child P x y a p k t i at = go (at_fork p k t at)
   where
-    go : (p ≡ 0) × ((k ≡ 0) × (t ≡ first) ⊎ (k ≡ 1) × (t ≡ second)) → P a p k t
-    go (e, inl z) =
-        let a_is = passes_start a i.0 (subst (IsInCodeOf doubly_moved a) e i.1) in
+    is_one : (j : ℕ) (u : ChildTable) → P (Body 0) 0 j u → p ≡ 0 → k ≡ j → t ≡ u → P a p k t
+    is_one j u h p_is k_is t_is =
+        let a_is = passes_start a i.0 (subst (IsInCodeOf doubly_moved a) p_is i.1) in
         subst (λ b. P b p k t) (sym a_is)
-        (subst (λ q. P (Body 0) q k t) (sym e)
-        (subst (λ j. P (Body 0) 0 j t) (sym z.0) (subst (λ u. P (Body 0) 0 0 u) (sym z.1) x)))
-    go (e, inr z) =
-        let a_is = passes_start a i.0 (subst (IsInCodeOf doubly_moved a) e i.1) in
-        subst (λ b. P b p k t) (sym a_is)
-        (subst (λ q. P (Body 0) q k t) (sym e)
-        (subst (λ j. P (Body 0) 0 j t) (sym z.0) (subst (λ u. P (Body 0) 0 1 u) (sym z.1) y)))
+        (subst (λ q. P (Body 0) q k t) (sym p_is)
+        (subst (λ z. P (Body 0) 0 z t) (sym k_is) (subst (λ z. P (Body 0) 0 j z) (sym t_is) h)))
 
-no_call : (p f up : ℕ) → instr_at doubly_moved p ≡ Some (i.Call f up) → ⊥
-no_call zero f up e = cc e
-no_call (suc zero) f up e = cc e
-no_call (suc (suc zero)) f up e = cc e
-no_call (suc (suc (suc zero))) f up e = cc e
-no_call (suc (suc (suc (suc zero)))) f up e = cc e
-no_call (suc (suc (suc (suc (suc zero))))) f up e = cc e
-no_call (suc (suc (suc (suc (suc (suc zero)))))) f up e = cc e
-no_call (suc (suc (suc (suc (suc (suc (suc zero))))))) f up e = cc e
-no_call (suc (suc (suc (suc (suc (suc (suc (suc zero)))))))) f up e = cc e
-no_call (suc (suc (suc (suc (suc (suc (suc (suc (suc zero))))))))) f up e = cc e
-no_call (suc (suc (suc (suc (suc (suc (suc (suc (suc (suc p)))))))))) f up e = cc e
+    go : (p ≡ 0) × ((k ≡ 0) × (t ≡ first) ⊎ (k ≡ 1) × (t ≡ second)) → P a p k t
+    go (e, inl z) = is_one 0 first x e z.0 z.1
+    go (e, inr z) = is_one 1 second y e z.0 z.1
 
 no_moves : {X : Type 0} → IsSome {T = ℕ} None → X
 no_moves e = absurd (mathlib.Core.Bool.false≢true e)

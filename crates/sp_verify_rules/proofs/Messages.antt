@@ -56,12 +56,12 @@ module _ (g : CodeRun) {Area : Type 0} (H : Area → List Home) (E : Area → �
       go zero r e at ext = absurd (omega (arith, r))
       go (suc zero) r e at ext = absurd (omega (arith, r))
       go (suc (suc x)) r e at ext =
-          let w = al.held (suc (suc x)) e in
-          let same : w.0 ≡ p.spot = same_Some _ _ (sym w.1 ∙ at) in
-          let long : aims.size ≡ length w.3.0 = same_Some _ _ (sym ext ∙ w.3.2) in
+          let (there, stands, _, (cs, piece_is, extent_is, _)) = al.held (suc (suc x)) e in
+          let same : there ≡ p.spot = same_Some _ _ (sym stands ∙ at) in
+          let long : aims.size ≡ length cs = same_Some _ _ (sym ext ∙ extent_is) in
           record {
-            cells = w.3.0;
-            piece = ap (λ q. piece_of (map.get n.store.map q)) (sym same) ∙ w.3.1;
+            cells = cs;
+            piece = ap (λ q. piece_of (map.get n.store.map q)) (sym same) ∙ piece_is;
             fits = omega (arith, aims.fits, long);
             clear = λ c. al.clear c (suc (suc x)) p.spot r e at;
           }

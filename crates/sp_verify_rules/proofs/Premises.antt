@@ -120,7 +120,7 @@ module _ (c : Parts) (v2 : (p : ℕ) → BreaksV2 c p → ⊥) (a : Area) (area 
 
   arrives : (n p : ℕ) (ss : List Shape) → BringsShapes c a n p ss → Arrives c a n p ss
   arrives zero p ss b = b
-  arrives (suc n) q ts b = inr (b.0, b.1, arrives n b.0 b.1 b.2, whole n b.0, b.3)
+  arrives (suc n) q ts (p, ss, before, leads) = inr (p, ss, arrives n p ss before, whole n p, leads)
 
   longer : (m n p : ℕ) (ss : List Shape) → Arrives c a n p ss → Arrives c a (m + n) p ss
   longer zero n p ss h = let s : n ≡ 0 + n = omega arith in subst (λ k. Arrives c a k p ss) s h
@@ -277,8 +277,8 @@ module _ (c : Parts) (children : HaveChildren c) (fitting : FitsTypes c) (v1 : (
     ends = λ a p l. true_from_ne_false (ends_well c a (instr_at c p)) (λ e. v1 p (EndsWrong (a, l, e)));
     names = λ a p l. true_from_ne_false (names_well c a (instr_at c p)) (λ e. v1 p (NamedWrong (a, l, e)));
     loops = λ a p l. true_from_ne_false (loops_well c a (instr_at c p)) (λ e. v1 p (LoopsWrong (a, l, e)));
-    parents = λ b l e. let f = found_layout c.layouts b l e in true_from_ne_false
-        (leads_by (length c.layouts) c.layouts (Some l)) (λ z. v1 l.entry (BlocksApart (f.1.0, l, f.1.1, refl, inr z)));
+    parents = λ b l e. let (_, (j, is)) = found_layout c.layouts b l e in true_from_ne_false
+        (leads_by (length c.layouts) c.layouts (Some l)) (λ z. v1 l.entry (BlocksApart (j, l, is, refl, inr z)));
     program = λ l e. let f = found_layout c.layouts 0 l e in true_from_ne_false (is_program l)
         (λ z. v1 l.entry (WithoutProgram (inr (l, f.1, f.0, refl, z))));
     sizes = λ l h. true_from_ne_false (has_sizes l) (λ z. v1 l.entry (SizesDiffer (l, h, refl, z)));

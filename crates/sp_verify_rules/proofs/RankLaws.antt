@@ -164,7 +164,7 @@ module _ (c : Parts) where
   different_or [] w = inl tt
   different_or (x ∷ []) w = inl (λ m. m, tt)
   different_or (x ∷ y ∷ xs) w = ⊎_elim (λ m. let t = to_member x (y ∷ xs) x w m in inr (x, t.0, inl refl, t.1))
-      (λ n. ⊎_elim (λ d. inl (n, d)) (λ z. inr (z.0, z.1, inr z.2, z.3)) (different_or (y ∷ xs) w.1))
+      (λ n. ⊎_elim (λ d. inl (n, d)) (λ (q, n, among, way). inr (q, n, inr among, way)) (different_or (y ∷ xs) w.1))
       (member_or x (y ∷ xs))
 
   -- all but the last one
@@ -235,7 +235,7 @@ module _ (c : Parts) where
         let w : IsPath (p ∷ q ∷ on.0) = (way_in p q (instr_at c p) m, on.2) in
         ⊎_elim (λ d. too_many (pigeons (length c.instrs) (firsts (p ∷ q ∷ on.0)) (firsts_within (p ∷ q ∷ on.0) w) d)
         (firsts_length p (q ∷ on.0)) on.1)
-        (λ z. round z.0 z.1 z.3 (q ∷ on.0) w (firsts_in (p ∷ q ∷ on.0) z.0 z.2))
+        (λ (i, n, among, way). round i n way (q ∷ on.0) w (firsts_in (p ∷ q ∷ on.0) i among))
         (different_or (firsts (p ∷ q ∷ on.0)) (firsts_path (p ∷ q ∷ on.0) w))
       where
         too_many : {x y n : ℕ} → x ≤ n → x ≡ suc y → y ≡ n → ⊥

@@ -80,22 +80,22 @@ module _ (g : CodeRun) (k : KeepsCodeRules g.code) (e : KeepsEffects g.code (Doe
     whole_of zero r m = absurd (omega (arith, r))
     whole_of (suc zero) r m = absurd (omega (arith, r))
     whole_of (suc (suc x)) r m =
-        let w = mine.1.held (suc (suc x)) m in
-        record { spot = w.0; cells = w.3.0; stands = w.1; piece = w.3.1; whole = w.3.2; known = w.3.3 }
+        let (there, stands_there, _, (cs, piece_is, extent_is, size_is)) = mine.1.held (suc (suc x)) m in
+        record { spot = there; cells = cs; stands = stands_there; piece = piece_is; whole = extent_is; known = size_is }
 
     pub input_of : May g.code a 0 → IsSome ((memory plain g).left n)
     input_of m =
-        let w = mine.1.held 0 m in
-        let is : w.0 ≡ input_spot = sym (same_Some _ _ w.1) in
-        let at : position_in (piece_of (map.get n.store.map input_spot)) ≡ Some w.3.0 = ap
-        (λ q. position_in (piece_of (map.get n.store.map q))) (sym is) ∙ w.3.1 in
+        let (there, stands, _, (v, position_is)) = mine.1.held 0 m in
+        let is : there ≡ input_spot = sym (same_Some _ _ stands) in
+        let at : position_in (piece_of (map.get n.store.map input_spot)) ≡ Some v = ap
+        (λ q. position_in (piece_of (map.get n.store.map q))) (sym is) ∙ position_is in
         subst (λ o. IsSome (left_after g.input o)) (sym at) refl
 
     pub output_of_it : May g.code a 1 → (memory plain g).has_output n ≡ true
     output_of_it m =
-        let w = mine.1.held 1 m in
+        let (_, stands, _, is_output) = mine.1.held 1 m in
         held (map.get n.store.map output_spot)
-        (subst (λ q. IsOutput (map.get n.store.map q)) (sym (same_Some _ _ w.1)) w.3)
+        (subst (λ q. IsOutput (map.get n.store.map q)) (sym (same_Some _ _ stands)) is_output)
       where
         held : (o : Option Content) → IsOutput o → is_held (output_of o) ≡ true
         held None h = absurd h
@@ -223,11 +223,11 @@ module _ (g : CodeRun) (k : KeepsCodeRules g.code) (e : KeepsEffects g.code (Doe
           go zero r d w = absurd (omega (arith, r))
           go (suc zero) r d w = absurd (omega (arith, r))
           go (suc (suc y)) r d w =
-              let v = al.held (suc (suc y)) d in
-              let same : v.0 ≡ (cell_at fr.number (length l.formals)).spot = same_Some _ _ (sym v.1 ∙ w.0) in
-              let long : length v.3.0 ≡ 1 = same_Some _ _ (sym v.3.2 ∙ w.1) in
-              ap (λ o. has_cells o 0 1) (ap (λ q. piece_of (map.get m q)) (sym same) ∙ v.3.1)
-              ∙ le-leb (0 + 1) (length v.3.0) (omega (arith, long))
+              let (there, stands, _, (cs, piece_is, extent_is, _)) = al.held (suc (suc y)) d in
+              let same : there ≡ (cell_at fr.number (length l.formals)).spot = same_Some _ _ (sym stands ∙ w.0) in
+              let long : length cs ≡ 1 = same_Some _ _ (sym extent_is ∙ w.1) in
+              ap (λ o. has_cells o 0 1) (ap (λ q. piece_of (map.get m q)) (sym same) ∙ piece_is)
+              ∙ le-leb (0 + 1) (length cs) (omega (arith, long))
 
       pub answer_there : (n : Memory Plain) → n.frames ≡ fr ∷ fs → n.store.map ≡ m → (hs : List Home)
           → Chain hs (fr ∷ fs) → HasAnswer plain g n ((memory plain g).answer n)

@@ -94,18 +94,18 @@ only P h (Body (suc b)) i = absurd (go (0 == suc b) refl i.1)
     go : (t : Bool) → (0 == suc b) ≡ t → (if t then Some main else None) ≡ Some i.0 → ⊥
     go true e s = absurd (omega (arith, eqb-true 0 (suc b) e))
     go false e s = cc s
-only P h (Child a p k) i = absurd (none (table_named (instr_at product_as_int p)) i.2.1)
+only P h (Child a p k) (_, _, (t, there)) = absurd (none (table_named (instr_at product_as_int p)) there)
   where
-    none : (o : Option ℕ) → child_of (table_at [] o) k ≡ Some i.2.0 → ⊥
+    none : (o : Option ℕ) → child_of (table_at [] o) k ≡ Some t → ⊥
     none None e = cc e
-    none (Some t) e = cc e
+    none (Some n) e = cc e
 
 -- what arrives is reached
 pub arrived : (c : Parts) (a : Area) (n p : ℕ) (ss : List Shape) → Arrives c a n p ss → Reaches c a p ss
 arrived c a zero p ss h = record { steps = 0; way = h }
 arrived c a (suc n) q ts (inl h) = arrived c a n q ts h
-arrived c a (suc n) q ts (inr h) = let r = arrived c a n h.0 h.1 h.2 in
-    record { steps = suc r.steps; way = (h.0, h.1, r.way, h.4) }
+arrived c a (suc n) q ts (inr (p, ss, before, _, leads)) = let r = arrived c a n p ss before in
+    record { steps = suc r.steps; way = (p, ss, r.way, leads) }
 
 pub keeps_v2 : (p : ℕ) → BreaksV2 product_as_int p → ⊥
 unfolding shapes

@@ -88,11 +88,16 @@ module _ {S : Type 0} (stores : Stores S) (g : CodeRun) (k : KeepsCodeRules g.co
             by Ends o = subst (λ z. (p : ℕ) × (st : List Entry) × (s : ProcessAt g.code p st z.frames) × Holds p st z s
                 × ((t : StoppedAt g.code Ends q s1 m.frames)
                 × (t.area ∷ areas_of t.callers ≡ areas s))) (sym o.1) (p, st, w.0, w.1, (o.0, o.2))
-            by (Forks t v j) o = (o.1, kept p q st s1 n m w.0 o.1 w.1 o.2, (o.0, o.3))
-            by (Opens t) o = (o.1, kept p q st s1 n m w.0 o.1 w.1 o.2, (o.0, o.3))
-            by (Sends ch j cs) o = (o.1, kept p q st s1 n m w.0 o.1 w.1 o.2, (o.0, o.3))
-            by (Receives ch j t) o = (o.1, kept p q st s1 n m w.0 o.1 w.1 o.2, (o.0, o.3))
-            by Pauses o = (o.1, kept p q st s1 n m w.0 o.1 w.1 o.2, (o.0, o.3))
+            by (Forks t v j) (stopped, s, changes, here) =
+                (s, kept p q st s1 n m w.0 s w.1 changes, (stopped, here))
+            by (Opens t) (stopped, s, changes, here) =
+                (s, kept p q st s1 n m w.0 s w.1 changes, (stopped, here))
+            by (Sends ch j cs) (stopped, s, changes, here) =
+                (s, kept p q st s1 n m w.0 s w.1 changes, (stopped, here))
+            by (Receives ch j t) (stopped, s, changes, here) =
+                (s, kept p q st s1 n m w.0 s w.1 changes, (stopped, here))
+            by Pauses (stopped, s, changes, here) =
+                (s, kept p q st s1 n m w.0 s w.1 changes, (stopped, here))
 
     -- the ranks fall along its turn, so it ends
     module _ (v9 : (p : ℕ) → BreaksV9 g.code p → ⊥) where

@@ -133,7 +133,7 @@ module _ (g : CodeRun) (k : KeepsCodeRules g.code) (e : KeepsEffects g.code (Doe
           same x y q = cc
 
           not_zero : Under g.code (c ∷ ks) s.area (fr ∷ fs) s.rest → (f == 0) ≡ false
-          not_zero v = ap (λ z. z == 0) (same f v.0 (sym at ∙ v.4)) ∙ v.5
+          not_zero (h, _) = ap (λ z. z == 0) (same f h.block (sym at ∙ h.is_body)) ∙ h.not_program
 
   -- ---- forks
 

@@ -166,7 +166,7 @@ module _ (g : CodeRun) {Area : Type 0} (H : Area → List Home) (E : Area → �
           → length (message_of plain g (stop_of x)) ≤ n
       received_room k z n r Absent f e = omega arith
       received_room k z n r (Working c) f e = omega arith
-      received_room k z n r (Waits (Sends d j cs) c) f e = go f.0 f.3
+      received_room k z n r (Waits (Sends d j cs) c) (us, _, _, stop_holds) e = go us stop_holds
         where
           go : (us : List Area) → StopInvariant g H E T Room Cells (Sends d j cs) us c → length cs ≤ n
           go [] w = absurd w
@@ -237,11 +237,11 @@ module _ (g : CodeRun) {Area : Type 0} (H : Area → List Home) (E : Area → �
               (on_store (put_cells plain p (message_of plain g (stop_of (s.condition z)))) (At pc st m))
               × T vs (on_store (put_cells plain p (message_of plain g (stop_of (s.condition z)))) (At pc st m))
           got z [] e l w k = absurd w
-          got z (a ∷ us) e l w t =
+          got z (a ∷ us) e l ((left, room, aims), _) t =
               let cs = message_of plain g (stop_of (s.condition z)) in (
                 a ∷ us,
-                lives_received g H E T (i.base q) a us pc st m p w.0.0 l w.0.2 cs
-                    (received_room k z w.0.0 w.0.1 (s.condition z) (i.each z) e),
+                lives_received g H E T (i.base q) a us pc st m p left l aims cs
+                    (received_room k z left room (s.condition z) (i.each z) e),
                 t_store (a ∷ us) (At pc st m)
                     (put_cells plain p cs) (λ m. refl) t,
               )
@@ -298,8 +298,9 @@ module _ (g : CodeRun) {Area : Type 0} (H : Area → List Home) (E : Area → �
     pub enters_ok : (s t : System Plain) (q : ℕ) (e : Event) → IsInvariant s.condition s.births
         → EntryLeads plain g s q e t
         → IsInvariant t.condition t.births
-    enters_ok s t q e i h = subst (λ (x : System Plain). IsInvariant x.condition x.births) (sym h.5)
-        (turn_ok s i q h.0 h.1 h.2 h.3)
+    enters_ok s t q e i (configuration, working, turned, is_turn, _, leads) =
+        subst (λ (x : System Plain). IsInvariant x.condition x.births) (sym leads)
+        (turn_ok s i q configuration working turned is_turn)
 
     pub leads_ok : (es : List Entry) (s t : System Plain) → IsInvariant s.condition s.births
         → EntriesLead plain g s es t
@@ -391,8 +392,8 @@ module _ (g : CodeRun) {Area : Type 0} (H : Area → List Home) (E : Area → �
           → Cells k (length cs)
           → CanPut (store_of e) p cs
       put z ch k p cs (At pc st m) [] l w c = absurd w
-      put z ch k p cs (At pc st m) (a ∷ us) l w c = can_put g H E T (i.base z) a us pc st m p w.0.0 l w.0.2 cs
-          (rooms k w.0.0 (length cs) w.0.1 c) w.1
+      put z ch k p cs (At pc st m) (a ∷ us) l ((left, room, aims), own) c = can_put g H E T (i.base z) a us pc st m p
+          left l aims cs (rooms k left (length cs) room c) own
 
       cells_of : (k : ℕ) (ch : ℕ) (cs : List Cell) (us : List Area) (c : Config (Memory Plain))
           → StopInvariant g H E T Room Cells (Sends ch k cs) us c → Cells k (length cs)
@@ -417,18 +418,18 @@ module _ (g : CodeRun) {Area : Type 0} (H : Area → List Home) (E : Area → �
             (subst (λ y. IsLive y) (sym a.runs) tt) b at;
         sends = λ q z ch k j p cs d e a pend at. (
             let w = stopped q (Sends ch k cs) d a in
-            let v = waits_at z (Receives ch j p) e at in
+            let (us, lives, _, stop_holds) = waits_at z (Receives ch j p) e at in
             let same : j ≡ k = no_fault j k
             (same_type way.Send k j (s.pending ch) z (Receives ch j p) e pend at
             (no_clash q (Sends ch k cs) d a)) in
-            put z ch j p cs e v.0 v.1 v.3 (subst (λ x. Cells x (length cs)) (sym same)
+            put z ch j p cs e us lives stop_holds (subst (λ x. Cells x (length cs)) (sym same)
             (cells_of k ch cs w.areas d w.well)));
         receives = λ q z ch k j p cs d e a pend at. (
             let w = stopped q (Receives ch k p) d a in
-            let v = waits_at z (Sends ch j cs) e at in
+            let (us, _, _, stop_holds) = waits_at z (Sends ch j cs) e at in
             let same : j ≡ k = no_fault j k
             (same_type way.Receive k j (s.pending ch) z (Sends ch j cs) e pend at
             (no_clash q (Receives ch k p) d a)) in
             put q ch k p cs d w.areas w.lives w.well
-            (subst (λ x. Cells x (length cs)) same (cells_of j ch cs v.0 e v.3)));
+            (subst (λ x. Cells x (length cs)) same (cells_of j ch cs us e stop_holds)));
       }

@@ -206,9 +206,9 @@ module _ (c : Parts) where
 
   brings_passes : (a : Area) (n q : ℕ) (ts : List Shape) → BringsShapes c a n q ts → LeadsInSteps c n (entry c a) q
   brings_passes a zero q ts b = sym b.0
-  brings_passes a (suc n) q ts b = goes_one n (entry c a) b.0 q (brings_passes a n b.0 b.1 b.2)
-      (leads_in (nexts b.0 (instr_at c b.0)) (instr_shapes c a (instr_at c b.0) b.0 b.1) q ts
-      (leads_on c a b.0 b.1 (instr_at c b.0)) b.3)
+  brings_passes a (suc n) q ts (p, ss, before, leads) = goes_one n (entry c a) p q (brings_passes a n p ss before)
+      (leads_in (nexts p (instr_at c p)) (instr_shapes c a (instr_at c p) p ss) q ts
+      (leads_on c a p ss (instr_at c p)) leads)
 
   -- what shapes reach is in the area
   pub passes : (a : Area) (p : ℕ) (ss : List Shape) → Reaches c a p ss → IsInCodeOf c a p

@@ -128,12 +128,12 @@ module _ (c : Parts) (a : Area) (t : List (ℕ × List Shape)) where
         (subst (λ z. IsBrought (entry c a) z t) (sym b.1)
         (row_in (entry c a) [] t (and_parts (has_row (entry c a) [] t)
         (each_row (λ p ss. leads_into (instr_shapes c a (instr_at c p) p ss) t) t) closed).0))
-    brought (suc n) p ss b =
-        into (instr_shapes c a (instr_at c b.0) b.0 b.1) p ss
-        (row_passes (λ p ss. leads_into (instr_shapes c a (instr_at c p) p ss) t) t b.0 b.1
+    brought (suc n) p ss (q, ts, before, leads) =
+        into (instr_shapes c a (instr_at c q) q ts) p ss
+        (row_passes (λ p ss. leads_into (instr_shapes c a (instr_at c p) p ss) t) t q ts
         (and_parts (has_row (entry c a) [] t)
         (each_row (λ p ss. leads_into (instr_shapes c a (instr_at c p) p ss) t) t) closed).1
-        (brought n b.0 b.1 b.2)) b.3
+        (brought n q ts before)) leads
 
     -- the table has all that is reached
     pub reached_in : (p : ℕ) (ss : List Shape) → Reaches c a p ss → IsBrought p ss t

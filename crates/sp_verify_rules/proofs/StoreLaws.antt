@@ -46,28 +46,33 @@ module _ (ls : List Layout) (K : Type 0) (m k : Map) where
       here : (x : ℕ) (e : E x) → (q : Spot) × (spot_of ls fs x ≡ Some q) × (q.frame < n) × HoldsVariable ls fs m x q
           → (q : Spot)
           × (spot_of ls fs x ≡ Some q) × (q.frame < n) × HoldsVariable ls fs k x q
-      here zero e w =
-          let is : w.0 ≡ input_spot = sym (same_Some _ _ w.1) in
-          let far : 0 < n = (let b = w.2 in omega (arith, b)) in (
-            w.0,
-            w.1,
-            w.2,
+      here zero e (there, stands, low, (v, position_is)) =
+          let is : there ≡ input_spot = sym (same_Some _ _ stands) in
+          let far : 0 < n = omega (arith, low) in (
+            there,
+            stands,
+            low,
             subst (λ q. HoldsVariable ls fs k 0 q) (sym is)
-                (keeps.input (a.console (inl e)) far w.3.0 (ap (λ q. position_in (piece_of (map.get m q))) (sym is)
-                ∙ w.3.1)),
+                (keeps.input (a.console (inl e)) far v (ap (λ q. position_in (piece_of (map.get m q))) (sym is)
+                ∙ position_is)),
           )
-      here (suc zero) e w =
-          let is : w.0 ≡ output_spot = sym (same_Some _ _ w.1) in
-          let far : 0 < n = (let b = w.2 in omega (arith, b)) in (
-            w.0,
-            w.1,
-            w.2,
+      here (suc zero) e (there, stands, low, is_output) =
+          let is : there ≡ output_spot = sym (same_Some _ _ stands) in
+          let far : 0 < n = omega (arith, low) in (
+            there,
+            stands,
+            low,
             subst (λ q. HoldsVariable ls fs k 1 q) (sym is)
-                (keeps.output (a.console (inr e)) far (subst (λ q. IsOutput (map.get m q)) is w.3)),
+                (keeps.output (a.console (inr e)) far (subst (λ q. IsOutput (map.get m q)) is is_output)),
           )
-      here (suc (suc x)) e w =
-          let v = keeps.pieces w.0 w.2 (λ c. a.clear c (suc (suc x)) w.0 (omega arith) e w.1) w.3.0 w.3.1 in
-          (w.0, w.1, w.2, (v.0, v.1, w.3.2 ∙ ap Some (sym v.2), w.3.3 ∙ ap Some (sym v.2)))
+      here (suc (suc x)) e (there, stands, low, (cs, piece_is, extent_is, size_is)) =
+          let (ds, new_piece, length_is) = keeps.pieces there low
+          (λ c. a.clear c (suc (suc x)) there (omega arith) e stands) cs piece_is in (
+            there,
+            stands,
+            low,
+            (ds, new_piece, extent_is ∙ ap Some (sym length_is), size_is ∙ ap Some (sym length_is)),
+          )
 
   pub all_keeps : {Area : Type 0} (H : Area → List Home) (E : Area → ℕ
       → Type 0) (n : ℕ) (us : List Area) (fs : List Frame) → KeepsLengths K n m k → AllAllowed ls H E K n us fs m
@@ -75,12 +80,12 @@ module _ (ls : List Layout) (K : Type 0) (m k : Map) where
   all_keeps H E n [] fs keeps h = h
   all_keeps H E n (a ∷ []) fs keeps h = (h.0, allowed_keeps (E a) n fs keeps h.1)
   all_keeps H E n (a ∷ b ∷ us) [] keeps h = h
-  all_keeps H E n (a ∷ b ∷ us) (f ∷ fs) keeps h = (
-    h.0,
-    allowed_keeps (E a) n (f ∷ fs) keeps h.1,
-    h.2,
+  all_keeps H E n (a ∷ b ∷ us) (f ∷ fs) keeps (chain, allowed, low, rest) = (
+    chain,
+    allowed_keeps (E a) n (f ∷ fs) keeps allowed,
+    low,
     all_keeps H E f.number (b ∷ us) fs
-        (keeps_less K n f.number m k (let l = h.2 in omega (arith, l)) keeps) h.3,
+        (keeps_less K n f.number m k (omega (arith, low)) keeps) rest,
   )
 
 -- ---- which changes do

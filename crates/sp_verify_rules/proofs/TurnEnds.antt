@@ -53,12 +53,12 @@ module _ (g : CodeRun) where
 
   pub t_store : (us : List Area) (c : Config (Memory Plain)) (f : Plain → Plain)
       → ((p : Plain) → (f p).moved ≡ p.moved) → T us c → T us (on_store f c)
-  t_store us (At p st n) f same t = (
-    t.0,
-    t.1,
-    t.2,
-    t.3,
-    subst (λ ss. AllWriteWithin g.code n.process ss us n.frames) (sym (same n.store)) t.4,
+  t_store us (At p st n) f same (s, areas_are, shallow, linked, may_write) = (
+    s,
+    areas_are,
+    shallow,
+    linked,
+    subst (λ ss. AllWriteWithin g.code n.process ss us n.frames) (sym (same n.store)) may_write,
   )
 
   pub t_entered : (us : List Area) (c : Config (Memory Plain)) → T us c → T us (process_at_entry c)
@@ -123,24 +123,24 @@ module _ (g : CodeRun) where
     pub holds_kept : (p q : ℕ) (st s1 : List Entry) (n m : Memory Plain) (s : ProcessAt g.code p st n.frames)
         (t : ProcessAt g.code q s1 m.frames) → IsHoldingAt p st n s → safe.ChangesAt plain g k p st n s (areas t) m
         → IsHoldingAt q s1 m t
-    holds_kept p q st s1 n m s t h ch = (
-      kept g k E T mays calls b p q st s1 n s h.0 m t ch,
-      deep p st n m s (areas t) ch h.1,
-      linked_kept g k p q st s1 n m s t h.2 ch,
-      writes b p q st s1 n m s t h.0 h.3 ch,
+    holds_kept p q st s1 n m s t (live, shallow, linked, may_write) ch = (
+      kept g k E T mays calls b p q st s1 n s live m t ch,
+      deep p st n m s (areas t) ch shallow,
+      linked_kept g k p q st s1 n m s t linked ch,
+      writes b p q st s1 n m s t live may_write ch,
     )
 
     abbrev StandsHolding : Config (Memory Plain) → Type 0
     StandsHolding c = safe.StandsWith plain g k IsHoldingAt holds_ready holds_kept c
 
     pub known : (us : List Area) (c : Config (Memory Plain)) → Lv us c → T us c → StandsHolding c
-    known us (At p st n) l t = (
-      t.0,
+    known us (At p st n) l (s, areas_are, shallow, linked, may_write) = (
+      s,
       (
-        subst (λ z. Lv z (At p st n)) t.1 l,
-        t.2,
-        subst (Linked g.code) t.1 t.3,
-        subst (λ z. MayWrite g.code z n) t.1 t.4,
+        subst (λ z. Lv z (At p st n)) areas_are l,
+        shallow,
+        subst (Linked g.code) areas_are linked,
+        subst (λ z. MayWrite g.code z n) areas_are may_write,
       ),
     )
 
@@ -180,10 +180,11 @@ module _ (g : CodeRun) where
         → StopInvariant g (homes g.code) E T Room Sent x (a ∷ us) (At q s1 m)
     well_here (Forks t v n) a us p q ss s1 m ks i r so h tt1 ne = forks a p t n v (At q s1 m) us i
         (passes g.code a p ss r) so tt1 (let x = ltb-true m.depth g.limits.depth h.1 in omega (arith, x))
-    well_here (Opens to) a us p q ss s1 m ks i r so h tt1 ne = aims a p ss m so.0 so.1 1 to i r so.4 so.2 so.3
+    well_here (Opens to) a us p q ss s1 m ks i r (x, left, points, room, stored) h tt1 ne =
+        aims a p ss m x left 1 to i r stored points room
     well_here (Sends ch j cs) a us p q ss s1 m ks i r so h tt1 ne = so
-    well_here (Receives ch j to) a us p q ss s1 m ks i r so h tt1 ne =
-        ((so.1, so.3, aims a p ss m so.0 so.1 so.1 to i r so.4 so.2 (omega arith)), own_there to m h.1.0 h.1.1)
+    well_here (Receives ch j to) a us p q ss s1 m ks i r (x, left, points, received, stored) (_, (n, own)) tt1 ne =
+        ((left, received, aims a p ss m x left left to i r stored points (omega arith)), own_there to m n own)
     well_here Ends a us p q ss s1 m ks i r so h tt1 ne = absurd (ne refl)
     well_here Pauses a us p q ss s1 m ks i r so h tt1 ne = tt
 
@@ -204,42 +205,45 @@ module _ (g : CodeRun) where
     stop_well : (x : Stop) (q : ℕ) (s1 : List Entry) (m : Memory Plain) → (x ≡ Ends → ⊥) → (x ≡ Pauses → ⊥)
         → (s : ProcessAt g.code q s1 m.frames) → IsHoldingAt q s1 m s → (t : StoppedAt g.code x q s1 m.frames)
         → IsHere plain g m x (t.area ∷ areas_of t.callers) (areas s) → Out x (At q s1 m)
-    stop_well x q s1 m ne np s h t here = record {
+    stop_well x q s1 m ne np s (live, shallow, linked, may_write) t here = record {
       areas = areas s;
-      lives = h.0;
+      lives = live;
       well = let e = same_area x t.area s.area (areas_of t.callers) (areas_of s.callers) m here np in
           subst (λ z. StopInvariant g (homes g.code) E T Room Sent x (z ∷ areas_of s.callers) (At q s1 m)) e
           (well_here x t.area (areas_of s.callers) t.position q t.shapes s1 m t.callers t.there t.reached t.so
           (subst (λ z. IsHere plain g m x (t.area ∷ areas_of t.callers) (z ∷ areas_of s.callers)) (sym e) here) (
             s,
             ap (λ z. z ∷ areas_of s.callers) e,
-            h.1,
+            shallow,
             subst (λ z. Linked g.code (z ∷ areas_of s.callers))
-                (sym e) h.2,
-            subst (λ z. MayWrite g.code (z ∷ areas_of s.callers) m) (sym e) h.3,
+                (sym e) linked,
+            subst (λ z. MayWrite g.code (z ∷ areas_of s.callers) m) (sym e) may_write,
           ) ne);
-      stands = λ w. (s, refl, h.1, h.2, h.3);
+      stands = λ w. (s, refl, shallow, linked, may_write);
     }
 
     at_stop : (x : Stop) (d : Config (Memory Plain)) → safe.AtStop plain g k IsHoldingAt holds_ready holds_kept x d
         → Out x d
-    at_stop (Forks t v n) (At q s1 m) w = stop_well (Forks t v n) q s1 m (λ z. cc z) (λ z. cc z) w.0 w.1 w.2.0 w.2.1
-    at_stop (Opens to) (At q s1 m) w = stop_well (Opens to) q s1 m (λ z. cc z) (λ z. cc z) w.0 w.1 w.2.0 w.2.1
-    at_stop (Sends ch j cs) (At q s1 m) w = stop_well (Sends ch j cs) q s1 m (λ z. cc z) (λ z. cc z) w.0 w.1 w.2.0 w.2.1
-    at_stop (Receives ch j to) (At q s1 m) w = stop_well (Receives ch j to) q s1 m (λ z. cc z)
-        (λ z. cc z) w.0 w.1 w.2.0 w.2.1
+    at_stop (Forks t v n) (At q s1 m) (s, holds, (stopped, here)) = stop_well (Forks t v n) q s1 m (λ z. cc z)
+        (λ z. cc z) s holds stopped here
+    at_stop (Opens to) (At q s1 m) (s, holds, (stopped, here)) = stop_well (Opens to) q s1 m (λ z. cc z)
+        (λ z. cc z) s holds stopped here
+    at_stop (Sends ch j cs) (At q s1 m) (s, holds, (stopped, here)) = stop_well (Sends ch j cs) q s1 m (λ z. cc z)
+        (λ z. cc z) s holds stopped here
+    at_stop (Receives ch j to) (At q s1 m) (s, holds, (stopped, here)) = stop_well (Receives ch j to) q s1 m (λ z. cc z)
+        (λ z. cc z) s holds stopped here
     at_stop Ends (At q s1 m) (p, st, s, h, t) = record {
       areas = areas s;
       lives = elsewhere g E T b (areas s) p q st s1 m h.0;
       well = sym (rest_same t.0.area s.area (areas_of t.0.callers) (areas_of s.callers) t.1) ∙ ap areas_of t.0.so.0;
       stands = λ w. absurd (w refl);
     }
-    at_stop Pauses (At q s1 m) w = record {
-      areas = areas w.0;
-      lives = w.1.0;
+    at_stop Pauses (At q s1 m) (s, (live, shallow, linked, may_write), _) = record {
+      areas = areas s;
+      lives = live;
       well = tt;
       stands = λ z.
-          (w.0, refl, w.1.1, w.1.2, w.1.3);
+          (s, refl, shallow, linked, may_write);
     }
 
     -- and it stops as it should
@@ -269,5 +273,6 @@ module _ (g : CodeRun) where
           × ((f : ℕ) (l : Layout) → IsAreaAmong g.code (Body f) (areas t) → layout_of g.code.layouts f ≡ Some l
           → l.answer ≡ false)
       turn_without_stop us (At p st n) q s1 m l t way is =
-          let w = known us (At p st n) l t in
-          answers_without_stop g k IsHoldingAt holds_ready holds_kept eight p q st s1 n m w.0 (w.1, w.1.2) way is
+          let (s, holds) = known us (At p st n) l t in
+          let (_, _, linked, _) = holds in
+          answers_without_stop g k IsHoldingAt holds_ready holds_kept eight p q st s1 n m s (holds, linked) way is

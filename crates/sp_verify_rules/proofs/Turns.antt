@@ -453,27 +453,28 @@ module _ {S : Type 0} (stores : Stores S) (g : CodeRun) (sc : Scoped g.code) (a 
       → Fn (begins_loop (memory stores g) g.code down var to p st n)
   begun down var to lp wh sb gd = number g.code a n.frames rest Fn fails (λ _. Unit {0}) ss st _ _ tt w.operands gd
       (λ last ts s1 _ o1 g1.
-      number g.code a n.frames rest Fn fails (λ _. Unit {0}) ts s1 _ _ tt o1 g1 (λ first us s2 _ o2 g2.
-      let q = loop_address var lp wh sb in is_found g.code a n.frames rest Fn fails
-      ((memory stores g).addr 0 var n) q.0 _ q.1
-      (holds g.code a n.frames rest Fn fails ((memory stores g).has q.0 1 n) _ q.2
+      number g.code a n.frames rest Fn fails (λ _. Unit {0}) ts s1 _ _ tt o1 g1
+      (λ first us s2 _ o2 (next_reached, (end_reached, _)).
+      let (q, q_is, q_there, is_target) = loop_address var lp wh sb in is_found g.code a n.frames rest Fn fails
+      ((memory stores g).addr 0 var n) q _ q_is
+      (holds g.code a n.frames rest Fn fails ((memory stores g).has q 1 n) _ q_there
       (both g.code a n.frames rest Fn fails (is_range down first last) _ _
-      (lands (p + 1) (O ∷ us) (Number last ∷ s2) ((memory stores g).put q.0 (cell.Ordinal first) n) refl g2.0
-      (tt, o2) (PutsCell q.0 (cell.Ordinal first) refl q.3 refl)) (stays to us s2 g2.1.0 o2)))))
+      (lands (p + 1) (O ∷ us) (Number last ∷ s2) ((memory stores g).put q (cell.Ordinal first) n) refl next_reached
+      (tt, o2) (PutsCell q (cell.Ordinal first) refl is_target refl)) (stays to us s2 end_reached o2)))))
 
   goes_on : (down : Bool) (var to : ℕ) → is_loop_variable (variable_at g.code a 0 var) ≡ true
       → Whole (number_list (variable_at g.code a 0 var) ++ []) → Sub (number_list (variable_at g.code a 0 var))
       → LeadsToReached g.code a (loop_end_shapes p to ss) → Fn (ends_loop (memory stores g) g.code down var to p st n)
   goes_on down var to lp wh sb gd = number g.code a n.frames rest Fn fails (λ _. Unit {0}) ss st _ _ tt w.operands gd
-      (λ last ts s1 _ o1 g1.
-      let q = loop_address var lp wh sb in is_found g.code a n.frames rest Fn fails
-      ((memory stores g).addr 0 var n) q.0 _ q.1
-      (holds g.code a n.frames rest Fn fails ((memory stores g).has q.0 1 n) _ q.2
-      (ordinal g.code a n.frames rest Fn fails ((memory stores g).read q.0 n) _ (λ v.
+      (λ last ts s1 _ o1 (again_reached, (next_reached, _)).
+      let (q, q_is, q_there, is_target) = loop_address var lp wh sb in is_found g.code a n.frames rest Fn fails
+      ((memory stores g).addr 0 var n) q _ q_is
+      (holds g.code a n.frames rest Fn fails ((memory stores g).has q 1 n) _ q_there
+      (ordinal g.code a n.frames rest Fn fails ((memory stores g).read q n) _ (λ v.
       both g.code a n.frames rest Fn fails (is_before down v last) _ _
       (lands to (O ∷ ts) (Number last ∷ s1)
-      ((memory stores g).put q.0 (cell.Ordinal (next_value down v)) n) refl g1.0 (tt, o1)
-      (PutsCell q.0 (cell.Ordinal (next_value down v)) refl q.3 refl)) (stays (p + 1) ts s1 g1.1.0 o1)))))
+      ((memory stores g).put q (cell.Ordinal (next_value down v)) n) refl again_reached (tt, o1)
+      (PutsCell q (cell.Ordinal (next_value down v)) refl is_target refl)) (stays (p + 1) ts s1 next_reached o1)))))
 
   -- an address within another
   further_points : (x left k left1 : ℕ) (q : Address) → Points g.code.layouts n.frames x left q → k + left1 ≤ left
@@ -646,18 +647,20 @@ module _ {S : Type 0} (stores : Stores S) (g : CodeRun) (sc : Scoped g.code) (a 
                 (subst (λ z. slice_get z.formals k ≡ Some (formal.Reference m)) (same_Some l1 l (sym e1 ∙ e)) s));
             operands = refl;
             under = (
-              b,
-              l,
-              s1,
-              rest,
-              refl,
-              sc.inner b l (slice_get (homes g.code a) up) e lev,
-              e,
-              refl,
-              w.there,
-              r,
-              w.framed,
-              o1,
+              record {
+                block = b;
+                layout = l;
+                below_link = s1;
+                rest = rest;
+                is_body = refl;
+                not_program = sc.inner b l (slice_get (homes g.code a) up) e lev;
+                layout_is = e;
+                link_is = refl;
+                there = w.there;
+                reached = r;
+                framed = w.framed;
+                operands = o1;
+              },
               w.under,
             );
           },
@@ -722,19 +725,19 @@ module _ {S : Type 0} (stores : Stores S) (g : CodeRun) (sc : Scoped g.code) (a 
       → Fn (return_step (memory stores g) g.code st n)
   returns_to is [] fs kse e u ew mc an se = absurd (bottom_stays a u.1 ew)
   returns_to is (k ∷ ks1) [] kse e u ew mc an se = absurd u
-  returns_to is (k ∷ ks1) (f ∷ fs) kse e
-      (b, l, s1, rest1, ae, nz, le, re, th, rc, fr, os, un) ew mc an se = go l.answer refl (se ∙ re)
+  returns_to is (k ∷ ks1) (f ∷ fs) kse e (h, below) ew mc an se = go h.layout.answer refl (se ∙ h.link_is)
     where
-      home : f.home ≡ OfBlock b
-      home = sc.newest b l f fs le (subst (λ z. Framed g.code.layouts (homes g.code z) (f ∷ fs)) ae
+      home : f.home ≡ OfBlock h.block
+      home = sc.newest h.block h.layout f fs h.layout_is
+          (subst (λ z. Framed g.code.layouts (homes g.code z) (f ∷ fs)) h.is_body
           (subst (λ z. Framed g.code.layouts (homes g.code a) z) e w.framed))
 
-      answer_at : (memory stores g).answer n ≡ Some (cell_at f.number (length l.formals))
+      answer_at : (memory stores g).answer n ≡ Some (cell_at f.number (length h.layout.formals))
       answer_at = ap (λ z. answer_in g.code.layouts z) e
-          ∙ (ap (λ z. answer_of g.code.layouts f.number z) home ∙ ap (λ z. answer_by f.number z) le)
+          ∙ (ap (λ z. answer_of g.code.layouts f.number z) home ∙ ap (λ z. answer_by f.number z) h.layout_is)
 
       back_at : (sts : List Entry) (ts : List Shape) → Reaches g.code k.area k.position ts
-          → Operands g.code.layouts fs ts sts rest1 → Fn (Goes (At k.position sts ((memory stores g).close_frame n)))
+          → Operands g.code.layouts fs ts sts h.rest → Fn (Goes (At k.position sts ((memory stores g).close_frame n)))
       back_at sts ts r o = subst (λ z. (s : ProcessAt g.code k.position sts z)
           × Changes stores g a (instr_at g.code p) ss n (a ∷ areas_of ks) (areas s) ((memory stores g).close_frame n))
           (sym (closed f fs e)) (
@@ -742,32 +745,35 @@ module _ {S : Type 0} (stores : Stores S) (g : CodeRun) (sc : Scoped g.code) (a 
               area = k.area;
               shapes = ts;
               callers = ks1;
-              rest = rest1;
-              there = th;
+              rest = h.rest;
+              there = h.there;
               reached = r;
-              framed = fr;
+              framed = h.framed;
               operands = o;
-              under = un;
+              under = below;
             },
             Returns (ap (λ z. a ∷ areas_of z) kse) is refl,
           )
 
-      go : (t : Bool) → l.answer ≡ t → st ≡ link_of l.answer k.position ∷ s1
+      go : (t : Bool) → h.layout.answer ≡ t → st ≡ link_of h.layout.answer k.position ∷ h.below_link
           → Fn (return_step (memory stores g) g.code st n)
       go true la es =
-          let q = cell_at f.number (length l.formals) in
-          subst (λ z. Fn (return_step (memory stores g) g.code z n)) (sym (es ∙ ap (λ t. link_of t k.position ∷ s1) la))
+          let q = cell_at f.number (length h.layout.formals) in
+          subst (λ z. Fn (return_step (memory stores g) g.code z n))
+          (sym (es ∙ ap (λ t. link_of t k.position ∷ h.below_link) la))
           (holds g.code a n.frames rest Fn fails ((memory stores g).may_close n) _ mc
           (is_found g.code a n.frames rest Fn fails ((memory stores g).answer n) q _ answer_at
           (holds g.code a n.frames rest Fn fails ((memory stores g).has q 1 n) _
-          (subst (λ z. HasAnswer stores g n z) answer_at (an b l ae le la))
+          (subst (λ z. HasAnswer stores g n z) answer_at (an h.block h.layout h.is_body h.layout_is la))
           (ordinal g.code a n.frames rest Fn fails ((memory stores g).read q n) _
-          (λ v. back_at (Number v ∷ s1) (O ∷ k.shapes)
-          (subst (λ t. Reaches g.code k.area k.position (with_answer t k.shapes)) la rc) (tt, os))))))
+          (λ v. back_at (Number v ∷ h.below_link) (O ∷ k.shapes)
+          (subst (λ t. Reaches g.code k.area k.position (with_answer t k.shapes)) la h.reached) (tt, h.operands))))))
       go false la es =
-          subst (λ z. Fn (return_step (memory stores g) g.code z n)) (sym (es ∙ ap (λ t. link_of t k.position ∷ s1) la))
+          subst (λ z. Fn (return_step (memory stores g) g.code z n))
+          (sym (es ∙ ap (λ t. link_of t k.position ∷ h.below_link) la))
           (holds g.code a n.frames rest Fn fails ((memory stores g).may_close n) _ mc
-          (back_at s1 k.shapes (subst (λ t. Reaches g.code k.area k.position (with_answer t k.shapes)) la rc) os))
+          (back_at h.below_link k.shapes
+          (subst (λ t. Reaches g.code k.area k.position (with_answer t k.shapes)) la h.reached) h.operands))
 
   -- nothing is left of the operands
   none_left : (zs : List Shape) → LeadsToReached g.code a (take_none zs) → Operands g.code.layouts n.frames zs st rest
@@ -780,8 +786,9 @@ module _ {S : Type 0} (stores : Stores S) (g : CodeRun) (sc : Scoped g.code) (a 
       → ends_well g.code a (Some i.End) ≡ true → (ks1 ≡ []) × IsBottom a
   at_bottom [] fs u ew = (refl, u.1)
   at_bottom (k ∷ ks1) [] u ew = absurd u
-  at_bottom (k ∷ ks1) (f ∷ fs) (b, l, s1, rest1, ae, nz, le, re, th, rc, fr, os, un) ew = absurd
-      (not_true_and_false (b == 0) (subst (λ z. ends_well g.code z (Some i.End) ≡ true) ae ew) nz)
+  at_bottom (k ∷ ks1) (f ∷ fs) (h, _) ew = absurd
+      (not_true_and_false (h.block == 0) (subst (λ z. ends_well g.code z (Some i.End) ≡ true) h.is_body ew)
+      h.not_program)
 
   ends : ends_well g.code a (Some i.End) ≡ true → Fn (Stops Ends (At p st n))
   ends ew = (stopped Ends p st (at_bottom ks n.frames w.under ew), refl, refl)
@@ -900,11 +907,11 @@ module _ {S : Type 0} (stores : Stores S) (g : CodeRun) (sc : Scoped g.code) (a 
   fine (Some (i.Pred low)) h r = alone (predecessor low) h.good
   fine (Some (i.Jump to)) h r = stays to ss st h.good.0 w.operands
   fine (Some (i.Jumpf to)) h r = number g.code a n.frames rest Fn fails (λ _. Unit {0}) ss st _ _ tt w.operands h.good
-      (λ v ts s1 _ o1 g1. both g.code a n.frames rest Fn fails (not (int_le v (pos 0))) _ _
-      (stays (p + 1) ts s1 g1.0 o1) (stays to ts s1 g1.1.0 o1))
+      (λ v ts s1 _ o1 (next_reached, (to_reached, _)). both g.code a n.frames rest Fn fails (not (int_le v (pos 0))) _ _
+      (stays (p + 1) ts s1 next_reached o1) (stays to ts s1 to_reached o1))
   fine (Some (i.Casej v to)) h r = number g.code a n.frames rest Fn fails (λ _. Unit {0}) ss st _ _ tt w.operands h.good
-      (λ u ts s1 _ o1 g1. both g.code a n.frames rest Fn fails (same_ordinal u v) _ _ (stays to ts s1 g1.1.0 o1)
-      (stays (p + 1) (O ∷ ts) (Number u ∷ s1) g1.0 (tt, o1)))
+      (λ u ts s1 _ o1 (next_reached, (to_reached, _)). both g.code a n.frames rest Fn fails (same_ordinal u v) _ _
+      (stays to ts s1 to_reached o1) (stays (p + 1) (O ∷ ts) (Number u ∷ s1) next_reached (tt, o1)))
   fine (Some i.Nocase) h r = tt
   fine (Some i.Tick) h r = done g.code a n.frames rest Fn fails ((memory stores g).tick n) _ (λ m e.
       paces st m (p + 1) (lands_with (p + 1) ss st m (beat_frames stores g n m e) h.good.0 w.operands

@@ -81,8 +81,9 @@ module _ (g : CodeRun) (k : KeepsCodeRules g.code) (e : KeepsEffects g.code (Doe
   -- what it stores it may store
   pub may_store : (a : Area) (x : ℕ) → IsArea g.code a → IsEffect g.code (Does g.code) Stored a x → MayStore g.code a x
   may_store (Body f) x area d = inl d
-  may_store (Child a p j) x area d = subst (λ o. MovesTo o x) (sym area.2.1)
-      (e.stored a p j x area.2.0 area area.2.1 d)
+  may_store (Child a p j) x area d =
+      let (_, _, (t, there)) = area in
+      subst (λ o. MovesTo o x) (sym there) (e.stored a p j x t area there d)
 
   pub stores : (a : Area) (p : ℕ) (ss : List Shape) (x : ℕ) → IsArea g.code a → Reaches g.code a p ss
       → IsIn x (stored_by g.code a (instr_at g.code p) ss) → MayStore g.code a x
@@ -144,11 +145,11 @@ module _ (g : CodeRun) (k : KeepsCodeRules g.code) (e : KeepsEffects g.code (Doe
         go None i = plainly None i refl
         go (Some (formal.Value n)) i = plainly (Some (formal.Value n)) i refl
         go (Some (formal.Reference n)) i =
-            let w = given o.place n i in
-            let same : w.2.0.spot ≡ s = same_Some _ _
-            (sym (o.stands_so w.2.0.spot (ap (spot_by new o.place) i ∙ ap spot_of_address w.2.1)) ∙ at) in
-            old w.0 s (may_store a w.0 area
-            (actual_stored g.code k e known a p f up ss lay area call o.place w.0 w.1)) (w.2.2 ∙ ap Some same)
+            let (x, is_actual, (to, refers, stands)) = given o.place n i in
+            let same : to.spot ≡ s = same_Some _ _
+            (sym (o.stands_so to.spot (ap (spot_by new o.place) i ∙ ap spot_of_address refers)) ∙ at) in
+            old x s (may_store a x area
+            (actual_stored g.code k e known a p f up ss lay area call o.place x is_actual)) (stands ∙ ap Some same)
 
     -- the block's activation
     pub callee_writes : WritesWithin g.code r ws (Body f) (new ∷ fs)
@@ -187,10 +188,10 @@ module _ (g : CodeRun) (k : KeepsCodeRules g.code) (e : KeepsEffects g.code (Doe
     low : (x : ℕ) (z : Spot) → MayStore g.code s.area x → spot_of ls n.frames x ≡ Some z
         → z.frame < next_frame n.store
     low x z d at =
-        let w = top.1.held x (store_may s.area x d) in
-        let is : w.0 ≡ z = same_Some _ _ (sym w.1 ∙ at) in
+        let (there, stands, _, holds) = top.1.held x (store_may s.area x d) in
+        let is : there ≡ z = same_Some _ _ (sym stands ∙ at) in
         let below = known_below n.store.map z (subst (λ (y : Spot). IsSome (map.get n.store.map y)) is
-        (known_of_held (map.get n.store.map w.0) (has_held ls n.frames n.store.map x w.0 w.3))) in
+        (known_of_held (map.get n.store.map there) (has_held ls n.frames n.store.map x there holds))) in
         omega (arith, below)
 
     newest : WritesWithin g.code n.process n.store.moved s.area n.frames

@@ -90,16 +90,26 @@ IsBottom (Body b) = b ≡ 0
 IsBottom (Child a p k) = Unit {0}
 
 module _ (c : Parts) where
+  -- the area is that of a called block, and below its operands it has the link to this caller, which has these frames
+  pub record LiesOnCaller (k : Caller) (a : Area) (fs : List Frame) (st : List Entry) : Type 0 where
+    pub block : ℕ
+    pub layout : Layout
+    pub below_link : List Entry
+    pub rest : List Entry
+    pub is_body : a ≡ Body block
+    pub not_program : (block == 0) ≡ false
+    pub layout_is : layout_of c.layouts block ≡ Some layout
+    pub link_is : st ≡ link_of layout.answer k.position ∷ below_link
+    pub there : IsArea c k.area
+    pub reached : Reaches c k.area k.position (with_answer layout.answer k.shapes)
+    pub framed : Framed c.layouts (homes c k.area) fs
+    pub operands : Operands c.layouts fs k.shapes below_link rest
+
   -- what lies below the operands of an area with these frames, by the callers, the newest first
   abbrev pub Under : List Caller → Area → List Frame → List Entry → Type 0
   Under [] a fs st = (st ≡ []) × IsBottom a
   Under (k ∷ ks) a [] st = ⊥
-  Under (k ∷ ks) a (f ∷ fs) st =
-      (b : ℕ) × (l : Layout) × (st1 : List Entry) × (rest : List Entry) × (a ≡ Body b) × ((b == 0) ≡ false)
-      × (layout_of c.layouts b ≡ Some l) × (st ≡ link_of l.answer k.position ∷ st1)
-      × IsArea c k.area × Reaches c k.area k.position (with_answer l.answer k.shapes)
-      × Framed c.layouts (homes c k.area) fs
-      × Operands c.layouts fs k.shapes st1 rest × Under ks k.area fs rest
+  Under (k ∷ ks) a (f ∷ fs) st = (h : LiesOnCaller k a fs st) × Under ks k.area fs h.rest
 
   -- a process stands at p with this stack and these frames
   pub record ProcessAt (p : ℕ) (st : List Entry) (fs : List Frame) : Type 0 where
