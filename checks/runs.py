@@ -35,7 +35,6 @@ KEPT = {
     "sp_link/proofs/StraightCode": "write_straight",
     "sp_race/proofs/NoteLaws": "twice",
     "sp_verify_rules/proofs/Along": "received_awaits on",
-    "sp_verify_rules/proofs/KeptRows": "at_fork no_call",
     "sp_verify_rules/specs/Touches": "stored_by",
     "sp_words/proofs/Levels": "none_arranged given_arranged",
 }
