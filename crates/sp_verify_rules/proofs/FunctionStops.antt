@@ -28,7 +28,9 @@ module _ (c : Parts) where
       → (d : Area) → IsAreaAmong c d (a ∷ us) → (bs : List Area) × StopsBy c (Does c) (HasStop c) bs d
   stops_below a us l s d (inl e) = subst (λ z. (bs : List Area) × StopsBy c (Does c) (HasStop c) bs z) (sym e) s
   stops_below a [] l s d (inr m) = absurd m
-  stops_below a (b ∷ us) ((f, p, up, ss, lay, is_body, call), below) (bs, stops) d (inr m) =
+  stops_below a (b ∷ us) l s d (inr m) =
+      let ((f, p, up, ss, lay, is_body, call), below) = l in
+      let (bs, stops) = s in
       stops_below b us below (a ∷ bs, inr (p, f, up, ss, lay, is_body, call, stops)) d m
 
   -- where V8 is broken at no block, no activation below an instruction that stops is of a block that answers

@@ -209,42 +209,6 @@ module _ (g : CodeRun) (k : KeepsCodeRules g.code) (e : KeepsEffects g.code (Doe
     pub forks_well : ForkInvariant g (homes g.code) (May g.code) T a t value n d
     forks_well = go at
       where
-        go : ForksAt g.code p t n → ForkInvariant g (homes g.code) (May g.code) T a t value n d
-        go (inl (tb, is_fork, tb_there, count_is)) = record {
-          area = λ j. Child a p j;
-          children = λ j lt. (let c = fork_child j lt in subst
-              (λ (z : ChildTable). IsChild g (homes g.code) (May g.code) T a (Child a p j) z) (sym c.2)
-              (is_child a p j c.0 area (pass, c.1)));
-          clear = λ j m x lj lm apart u v. (let y = fork_child j lj in let z = fork_child m lm in
-              e.clear a p j m x y.0 z.0 (area, pass, (y.0, y.1)) (area, pass, (z.0, z.1)) y.1 z.1 apart
-              (subst (λ (q : ChildTable). IsMember x q.moved) y.2 u)
-              (subst (λ (q : ChildTable). IsMember x (handed_to q)) z.2 v));
-          stands = λ j q lt. (let c = fork_child j lt in subst
-              (λ (z : ChildTable). T (Child a p j ∷ []) (child_process plain g d value q j z)) (sym c.2)
-              (stands j q c.0 c.1 j));
-        }
-          where
-            no_index : (cs : List ChildTable) → ((ch : ChildTable) → slice_get cs 0 ≡ Some ch → ch.index ≡ None)
-                → first_index cs ≡ None
-            no_index [] h = refl
-            no_index (ch ∷ cs) h = h ch refl
-
-            -- child j of a fork has the number j
-            fork_child : (j : ℕ) → j < n → (ch : ChildTable) × (child_at g.code p j ≡ Some ch)
-                × (table_of g (homes g.code) (May g.code) T t j ≡ ch)
-            fork_child j lt =
-                let ch = item_there tb.children j (omega (arith, lt, count_is)) in (
-                  ch.0,
-                  ap (λ o. child_of (Rattle.sp_verify_rules.specs.Areas.table_at g.code.forks
-                      (Rattle.sp_verify_rules.specs.Areas.table_named o)) j) is_fork
-                      ∙ (ap (λ o. child_of o j) tb_there ∙ ch.1),
-                  ap (λ o. child_or (table_child (table_or o) j)) tb_there
-                      ∙ (ap (λ o. child_or (child_by tb.children o j))
-                      (no_index tb.children (λ ch s. k.forks p t 0 ch is_fork (ap (λ o. child_of o 0) tb_there ∙ s)))
-                      ∙ ap child_or ch.1),
-                )
-        go (inr w) = of_forall w (k.foralls p t w)
-
         of_forall : instr_at g.code p ≡ Some (i.Forall t) → (tb : ForkTable) × (ch : ChildTable) × (x : ℕ)
             × (slice_get g.code.forks t ≡ Some tb) × (tb.children ≡ ch ∷ []) × (ch.index ≡ Some x)
             → ForkInvariant g (homes g.code) (May g.code) T a t value n d
@@ -286,3 +250,39 @@ module _ (g : CodeRun) (k : KeepsCodeRules g.code) (e : KeepsEffects g.code (Doe
 
             none : (x : ℕ) → IsMember x [] → ⊥
             none x m = m
+
+        go : ForksAt g.code p t n → ForkInvariant g (homes g.code) (May g.code) T a t value n d
+        go (inl (tb, is_fork, tb_there, count_is)) = record {
+          area = λ j. Child a p j;
+          children = λ j lt. (let c = fork_child j lt in subst
+              (λ (z : ChildTable). IsChild g (homes g.code) (May g.code) T a (Child a p j) z) (sym c.2)
+              (is_child a p j c.0 area (pass, c.1)));
+          clear = λ j m x lj lm apart u v. (let y = fork_child j lj in let z = fork_child m lm in
+              e.clear a p j m x y.0 z.0 (area, pass, (y.0, y.1)) (area, pass, (z.0, z.1)) y.1 z.1 apart
+              (subst (λ (q : ChildTable). IsMember x q.moved) y.2 u)
+              (subst (λ (q : ChildTable). IsMember x (handed_to q)) z.2 v));
+          stands = λ j q lt. (let c = fork_child j lt in subst
+              (λ (z : ChildTable). T (Child a p j ∷ []) (child_process plain g d value q j z)) (sym c.2)
+              (stands j q c.0 c.1 j));
+        }
+          where
+            no_index : (cs : List ChildTable) → ((ch : ChildTable) → slice_get cs 0 ≡ Some ch → ch.index ≡ None)
+                → first_index cs ≡ None
+            no_index [] h = refl
+            no_index (ch ∷ cs) h = h ch refl
+
+            -- child j of a fork has the number j
+            fork_child : (j : ℕ) → j < n → (ch : ChildTable) × (child_at g.code p j ≡ Some ch)
+                × (table_of g (homes g.code) (May g.code) T t j ≡ ch)
+            fork_child j lt =
+                let ch = item_there tb.children j (omega (arith, lt, count_is)) in (
+                  ch.0,
+                  ap (λ o. child_of (Rattle.sp_verify_rules.specs.Areas.table_at g.code.forks
+                      (Rattle.sp_verify_rules.specs.Areas.table_named o)) j) is_fork
+                      ∙ (ap (λ o. child_of o j) tb_there ∙ ch.1),
+                  ap (λ o. child_or (table_child (table_or o) j)) tb_there
+                      ∙ (ap (λ o. child_or (child_by tb.children o j))
+                      (no_index tb.children (λ ch s. k.forks p t 0 ch is_fork (ap (λ o. child_of o 0) tb_there ∙ s)))
+                      ∙ ap child_or ch.1),
+                )
+        go (inr w) = of_forall w (k.foralls p t w)
