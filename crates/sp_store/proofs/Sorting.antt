@@ -1,15 +1,18 @@
 -- In which order a fork takes spots makes no difference.
 use Rattle.std.proofs.Common.{◌≡◌, ◌∙◌, sym, subst, ℕ, suc, ◌<◌, List, [], ◌∷◌, length, get_or, arith, inl, inr}
+use Rattle.std.proofs.Common.{◌+◌, ◌++◌, ◌⊎◌, take}
 use Rattle.std.specs.List.Sorted.{IsPermutation}
 use Rattle.std.proofs.lemmas.List.Elements.{Contains-from_at, at_from_Contains, Contains-get_or}
 use Rattle.std.proofs.lemmas.List.Sorted.{Contains-permutation, IsPermutation-sym}
 use Rattle.std.specs.FinMap as map
 use Rattle.sp_cell.specs.declared.spot.Spot.{Spot}
+use Rattle.sp_cell.specs.declared.spot.Handing.{Handing}
 use Rattle.sp_cell.specs.Map.{Map, IsPiece}
-use Rattle.sp_cell.specs.Fork.{with_shared, with_away}
+use Rattle.sp_cell.specs.Fork.{with_shared, with_away, shared_of}
 use Rattle.sp_cell.specs.Spots.{In, NotIn, PieceAtEach}
 use Rattle.sp_cell.proofs.Laws.{same_map}
 use Rattle.sp_cell.proofs.Plan.{in_or, in_of_at, not_both, get_away_in, get_away_out, get_lent_in, get_lent_out}
+use Rattle.sp_cell.proofs.Plan.{at_each, each_shared, lent_plan_step}
 
 at_in : (q : Spot) (ss : List Spot) → In q ss → (k : ℕ) × (k < length ss) × ((d : Spot) → get_or ss k d ≡ q)
 at_in q [] i = absurd i
@@ -45,3 +48,43 @@ pieces_permuted m xs ys p h k d b =
     let r = at_from_Contains xs s
     (Contains-permutation ys xs s (IsPermutation-sym xs ys p) (Contains-get_or ys k d b)) in
     subst (λ (t : Spot). IsPiece (map.get m t)) (r.2 s) (h r.0 s r.1)
+
+-- ---- shares that are made ready first
+
+in_either : (q : Spot) (xs ys : List Spot) → In q (xs ++ ys) → In q xs ⊎ In q ys
+in_either q [] ys i = inr i
+in_either q (x ∷ xs) ys (inl e) = inl (inl e)
+in_either q (x ∷ xs) ys (inr i) = elim (in_either q xs ys i) [ inl f ↦ inl (inr f) | inr b ↦ inr b ]
+
+-- spots of the plan and those that one more child shares are spots of the plan
+pub more_of_plan : (hs : List Handing) (i : ℕ) (h : Handing) → i < length hs → h ≡ get_or hs i h → (ss : List Spot)
+    → ((q : Spot) → In q ss → In q (shared_of hs)) → (q : Spot) → In q (ss ++ h.shared) → In q (shared_of hs)
+more_of_plan hs i h b is ss before q at = elim (in_either q ss h.shared at) [
+  | inl j ↦ before q j
+  | inr j ↦ at_each (λ s. In s (shared_of hs)) h.shared (each_shared (λ s. In s (shared_of hs)) hs i h b is
+      (λ s k. k)) q j
+]
+
+pub permuted_of_plan : (hs : List Handing) (xs ys : List Spot) → IsPermutation xs ys
+    → ((q : Spot) → In q xs → In q (shared_of hs)) → (q : Spot) → In q ys → In q (shared_of hs)
+permuted_of_plan hs xs ys p before q i = before q (in_permuted ys xs q (IsPermutation-sym xs ys p) i)
+
+-- what is shared of some of the spots before makes no difference
+pub lent_before : (m : Map) (xs ys : List Spot) → ((q : Spot) → In q ys → In q xs)
+    → with_shared m xs (with_shared m ys map.empty) ≡ with_shared m xs map.empty
+lent_before m xs ys inside = same_map _ _ (λ q. elim (in_or q xs) [
+  | inl i ↦ get_lent_in m xs (with_shared m ys map.empty) q i ∙ sym (get_lent_in m xs map.empty q i)
+  | inr o ↦ get_lent_out m xs (with_shared m ys map.empty) q o ∙ get_lent_out m ys map.empty q (outside q o)
+      ∙ sym (get_lent_out m xs map.empty q o)
+])
+  where
+    outside : (q : Spot) → NotIn q xs → NotIn q ys
+    outside q o = elim (in_or q ys) [ inl i ↦ absurd (not_both q xs (inside q i) o) | inr n ↦ n ]
+
+-- one more child shares its spots
+pub lent_plan : (m : Map) (hs : List Handing) (i : ℕ) (h : Handing) (c : Map) → i < length hs → h ≡ get_or hs i h
+    → with_shared m h.shared (with_shared m (shared_of (take i hs)) c)
+    ≡ with_shared m (shared_of (take (i + 1) hs)) c
+lent_plan m hs i h c b is =
+    subst (λ (y : Handing). with_shared m y.shared (with_shared m (shared_of (take i hs)) c)
+    ≡ with_shared m (shared_of (take (i + 1) hs)) c) (sym is) (sym (lent_plan_step m hs i h c b))

@@ -4,8 +4,8 @@ ghost use Rattle.std.specs.Prelude.{◌≡◌, ◌+◌, ◌<◌, IfOk, OnOk};
 ghost use Rattle.std.specs.List.Sorted.{IsPermutation};
 ghost use Rattle.std.specs.FinMap as map;
 ghost use Rattle.sp_cell.specs.Map.{Shared, IsPiece, cells_at};
-ghost use Rattle.sp_cell.specs.Fork.{with_shared, with_away, IsLentAt};
-ghost use Rattle.sp_cell.specs.Spots.{PieceAtEach};
+ghost use Rattle.sp_cell.specs.Fork.{with_shared, with_away, IsLentAt, shared_of};
+ghost use Rattle.sp_cell.specs.Spots.{PieceAtEach, In};
 ghost use Rattle.sp_cell.specs.Frame.{least_above, frames};
 ghost use Rattle.sp_store.specs.Layout.{content, IsLent, FramesBelow};
 
@@ -13,7 +13,7 @@ use crate::entry;
 use crate::entry::Entry;
 use crate::slots::Slots;
 use sp_base::Memory;
-use sp_cell::Spot;
+use sp_cell::{Handing, Spot};
 use std::alloc::Global;
 
 /// The least number above every frame.
@@ -46,7 +46,7 @@ fn rises(spots: &[Spot]) -> bool {
     true
 }
 
-/// The same spots in their order. Those that are added so go to the end of slots, where one in the midst would move all
+/// The same spots in their order. Added so, each goes to the end of slots; one that goes between others moves all
 /// behind it.
 fn in_order(alloc: Global, spots: &[Spot]) -> Result<Vec<Spot>, Memory>
     ensures { IfOk result (λ sorted. IsPermutation spots.now sorted.items) }
@@ -140,4 +140,41 @@ pub(crate) fn lend(
     }
     let sorted = in_order(alloc, spots)?;
     lend_each(alloc, from, ready, to, &sorted)
+}
+
+/// Spots that the plan shares, in their order, where the children ask for them in another order; else none. The
+/// children of a forall all ask for the same ones, which are taken once.
+pub(crate) fn shares_in_order(alloc: Global, plan: &[Handing]) -> Result<Vec<Spot>, Memory>
+    ensures { IfOk result (λ spots. (q : Spot) → In q spots.items → In q (shared_of plan.now)) }
+{
+    let mut spots = Vec::new(alloc);
+    for handing in plan {
+        if !spots.ends_with(handing.shared.items()) {
+            spots.extend_from_slice(handing.shared.items())?;
+        }
+    }
+    if rises(&spots) {
+        spots.clear();
+    }
+    spots.sort_unstable();
+    Ok(spots)
+}
+
+/// Makes the pieces at the spots ready to be shared, before the first child asks for one.
+#[tactic(auto, using(sp_cell::proofs::Steps::lent_step, sp_cell::proofs::Steps::lent_lent))]
+pub(crate) fn make_ready(
+    alloc: Global,
+    from: &Slots,
+    ready: &mut Slots,
+    spots: &[Spot],
+) -> Result<(), Memory>
+    requires pieces { PieceAtEach from.now spots.now }
+    requires lent { IsLent from.now ready.old }
+    ensures ready { OnOk result (ready.new ≡ with_shared from.now spots.now ready.old) }
+    ensures lent { OnOk result (IsLent from.now ready.new) }
+{
+    for spot in spots {
+        one_more(alloc, from, ready, *spot)?;
+    }
+    Ok(())
 }

@@ -33,6 +33,8 @@
 //!   the end, in time of the frame.
 //! - An own piece of one cell stands in its entry, so it takes no memory of its own, and a load or store of it no step
 //!   more. Once it was shared it is a piece like others.
+//! - A fork adds spots in their order, as a spot that goes between others moves all behind it. Lists that come in
+//!   another order are sorted first.
 //! - A piece that is shared already is only counted once more by a fork. After a join the parent's piece stays shared;
 //!   its first write takes it back without a copy where all other holders are gone.
 //! - Three questions (`has_cells`, `is_own`, `is_away`) are public for callers that do not know by proof what they

@@ -388,6 +388,8 @@ impl Store {
     {
         let alloc = *self.own.allocator();
         let mut ready = Slots::new(alloc);
+        let first = fork::shares_in_order(alloc, plan)?;
+        fork::make_ready(alloc, &self.slots, &mut ready, &first)?;
         let mut children = Vec::new(alloc);
         for handing in plan {
             let child = Store::prepare(alloc, &self.slots, &mut ready, handing)?;
