@@ -146,20 +146,22 @@ module _ (x : State) (code : Parts) (lim : Limits) (p : State) (input : p.input 
 
     pub on_both : WentTwice p code lim q
         → RunsIn (memory plain (code_run_of x code lim)) code (suc (suc n)) (config_of x) (config_of q)
-    on_both w = comes_more (code_run_of x code lim) (suc n) (config_of x) w.0 (config_of q) (to_both n h w.0 w.1.0)
-        (sym (same_from w.0) ∙ w.1.1)
+    on_both (between, (goes, goes_on)) =
+        comes_more (code_run_of x code lim) (suc n) (config_of x) between (config_of q) (to_both n h between goes)
+        (sym (same_from between) ∙ goes_on)
 
     pub smaller_both : IsRankedFrom x code lim → WentTwice p code lim q
         → left_by code.instrs (ticks_left (code_run_of x code lim)) (config_of q)
         < left_by code.instrs (ticks_left (code_run_of x code lim)) (config_of p)
-    smaller_both ranked w = omega (
+    smaller_both ranked (between, (goes, goes_on)) = omega (
       arith,
       falls (memory plain (code_run_of x code lim)) code (ticks_left (code_run_of x code lim))
-          (spends plain (code_run_of x code lim)) (config_of p) w.0
-          (ranked (config_of p) (record { steps = n; proof = h })) (sym same_next ∙ w.1.0),
+          (spends plain (code_run_of x code lim)) (config_of p) between
+          (ranked (config_of p) (record { steps = n; proof = h })) (sym same_next ∙ goes),
       falls (memory plain (code_run_of x code lim)) code (ticks_left (code_run_of x code lim))
-          (spends plain (code_run_of x code lim)) w.0 (config_of q)
-          (ranked w.0 (record { steps = suc n; proof = to_both n h w.0 w.1.0 })) (sym (same_from w.0) ∙ w.1.1),
+          (spends plain (code_run_of x code lim)) between (config_of q)
+          (ranked between (record { steps = suc n; proof = to_both n h between goes }))
+          (sym (same_from between) ∙ goes_on),
     )
 
     pub ends_it : (s : Stop) → StepMatches (next_of p code lim) p q (Some s) → IsTurnOf x code lim q s

@@ -16,10 +16,11 @@ use sp_code::{Code, ForkTable, Formal, Layout};
 use std::alloc::Global;
 use std::collections::BTreeMap;
 
-/// So many variables are looked for one by one.
-const FEW: usize = 64;
+/// How many variables a fork may ask for that are searched for one by one. Where it asks for more, all that the process
+/// sees are noted first.
+const SEARCHED_AT_MOST: usize = 64;
 
-/// Whether a fork asks for more variables than are looked for one by one.
+/// Whether a fork asks for more variables than are searched for one by one.
 fn asks_much(table: &ForkTable, count: u32) -> bool {
     let mut asked = 0usize;
     for k in 0..count {
@@ -27,7 +28,7 @@ fn asks_much(table: &ForkTable, count: u32) -> bool {
             asked = asked.saturating_add(child.moved.len());
             asked = asked.saturating_add(child.shared.len());
         }
-        if asked > FEW {
+        if asked > SEARCHED_AT_MOST {
             return true;
         }
     }

@@ -47,7 +47,11 @@ impl State {
         instruction_at(code, self.pc as usize)
     }
 
-    /// The next instruction: the process goes on, or its turn ends. Those of loops stand in the turn itself.
+    /// The next instruction: the process goes on, or its turn ends. The instructions that loops run most stand in the
+    /// turn itself.
+    ///
+    /// A new instruction joins the list of `any_step`, which has all. It joins this one too only if loops run it often:
+    /// each one more makes the turn longer.
     #[inline(always)]
     fn step(&mut self, code: &Code, limits: &Limits) -> Result<Option<Interrupt>, Memory>
         requires blocks { HasDistinctBlocks code.now.layouts }
@@ -99,7 +103,7 @@ impl State {
         packed(self.any_step(code, limits))
     }
 
-    /// The next instruction, whichever it is.
+    /// The next instruction, whichever it is: all of them stand here.
     fn any_step(&mut self, code: &Code, limits: &Limits) -> Result<Option<Interrupt>, Memory>
         requires blocks { HasDistinctBlocks code.now.layouts }
         requires formals { HaveFormals code.now.layouts }
