@@ -32,7 +32,7 @@ use Rattle.sp_kernel.specs.Procs.{config_of, turn_by, turn_of, EntersAs}
 use Rattle.sp_kernel.specs.Kernels.{doing_in, condition_in, control_of, system_of}
 use Rattle.sp_kernel.specs.Kernels.{code_run_of, WaitsAs, IsOwn, NumberIn}
 use Rattle.sp_kernel.specs.Kernels.{parent_in, parent_of, IsKernel, kernel_after_give, IsAfterGive}
-use Rattle.sp_kernel.specs.Ends.{left_in, one_fewer, ends_child, IsJoiner, JoinedSlot}
+use Rattle.sp_kernel.specs.Ends.{left_in, one_fewer, ends_child, IsJoiner, JoinedSlot, TookBack}
 use Rattle.sp_kernel.specs.Fits.{FitsHanded}
 use Rattle.sp_history.proofs.Queues.{number_or, at_other}
 use Rattle.sp_kernel.proofs.Tables.{table_set}
@@ -115,7 +115,8 @@ module _ (x : Kernel) (k : IsKernel x) (p w : ℕ) (here : (control_of x).doing 
           (k.channels ∙ ap (λ (b : Births). b.channels)
           (sym (next_births x k p w here event.End (slot.Here r st.Over))))
           (same_offers x k p w here (slot.Here r st.Over))
-          (same_numbers x k p w here (slot.Here r st.Over) (en.1 ∙ own.0, en.3 ∙ own.1))
+          (same_numbers x k p w here (slot.Here r st.Over)
+          (let (_, same_number, _, same_input) = en in (same_number ∙ own.0, same_input ∙ own.1)))
           (parents_after x k p w here x.parents event.End k.parents);
     }
 
@@ -149,6 +150,9 @@ module _ (x : Kernel) (k : IsKernel x) (p w : ℕ) (here : (control_of x).doing 
     module _ (t : Slot) (took : JoinedSlot (slice_get x.slots b.parent) h.proc t) where
       told : JoinedSlot (Some (slot.Here parent (st.Joining n))) h.proc t
       told = subst (λ o. JoinedSlot o h.proc t) at_parent took
+
+      took_back : TookBack parent h.proc told.0
+      took_back = told.2
 
       abbrev z : ℕ
       z = b.parent
@@ -199,8 +203,8 @@ module _ (x : Kernel) (k : IsKernel x) (p w : ℕ) (here : (control_of x).doing 
 
       condition_by : (c : Bool) → condition_in (Some (slot.Here told.0 (if c then st.Ready else st.Joining (n - 1))))
           ≡ (if c then Working joined else IsJoining (n - 1) joined)
-      condition_by true = ap (λ d. Working d) told.2.0
-      condition_by false = ap (λ d. IsJoining (n - 1) d) told.2.0
+      condition_by true = ap (λ d. Working d) took_back.0
+      condition_by false = ap (λ d. IsJoining (n - 1) d) took_back.0
 
       ended_system : system_of ended ≡ system_after_turn plain (code_run_of x) p (turn_of h) (system_of x)
       ended_system = (λ i. record (system_of x) {
@@ -234,8 +238,8 @@ module _ (x : Kernel) (k : IsKernel x) (p w : ℕ) (here : (control_of x).doing 
       own_parent = subst (λ o. NumberIn input o z) at_parent (k.numbers z)
 
       number_by : (c : Bool) → NumberIn input (Some (slot.Here told.0 (if c then st.Ready else st.Joining (n - 1)))) z
-      number_by true = (told.2.1 ∙ own_parent.0, told.2.2 ∙ own_parent.1)
-      number_by false = (told.2.1 ∙ own_parent.0, told.2.2 ∙ own_parent.1)
+      number_by true = (took_back.1 ∙ own_parent.0, took_back.2 ∙ own_parent.1)
+      number_by false = (took_back.1 ∙ own_parent.0, took_back.2 ∙ own_parent.1)
 
       ended_numbers : (q : ℕ) → NumberIn input (slice_get (slice_set (slice_set x.slots p slot.Ended) z t) q) q
       ended_numbers q = go (number_or z q)

@@ -50,7 +50,8 @@ more_processes _ _ _ = omega arith
 pub fault_there : (s : Births) (es : List Entry) (p : ℕ) (f : Fault) → NameableFrom s es → fault_in es ≡ Some (p, f)
     → p < (births_from s es).processes
 fault_there s [] p f h e = absurd (cc e)
-fault_there s (d ∷ es) p f h e = go (λ g. fault_there (births_after_entry s d) es p f h.1 g) d.event refl e
+fault_there s (d ∷ es) p f ((below, _), further) e =
+    go (λ g. fault_there (births_after_entry s d) es p f further g) d.event refl e
   where
     go : (fault_in es ≡ Some (p, f) → p < (births_from s (d ∷ es)).processes) → (v : Event) → d.event ≡ v
         → fault_by d.process v (fault_in es) ≡ Some (p, f) → p < (births_from s (d ∷ es)).processes
@@ -58,7 +59,7 @@ fault_there s (d ∷ es) p f h e = go (λ g. fault_there (births_after_entry s d
         let same : d.process ≡ p = ap first (same_Some _ _ w) in
         let a = more_processes s d.process d.event in
         let b = processes_grow (births_after_entry s d) es in
-        omega (arith, h.0.0, same, a, b)
+        omega (arith, below, same, a, b)
       where
         first : ℕ × Fault → ℕ
         first z = z.0
@@ -109,5 +110,5 @@ pub output_text : (log : List Note) (y : Kernel) → RanFrom log y → (text : L
     → or_empty (first_output y.slots) ≡ text
     → y.abandons ≡ 0 → (q : ℕ) × IsOutputOf (system_of y) q text
 output_text log y ran text e kept =
-    let o = output_held log y ran kept (first_output y.slots) refl in
-    (o.0, subst (IsOutputOf (system_of y) o.0) (ap or_empty (sym o.3) ∙ e) o.2)
+    let (process, _, holds, found) = output_held log y ran kept (first_output y.slots) refl in
+    (process, subst (IsOutputOf (system_of y) process) (ap or_empty (sym found) ∙ e) holds)

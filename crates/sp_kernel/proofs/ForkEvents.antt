@@ -115,6 +115,9 @@ module _ (x : Kernel) (k : IsKernel x) (p w : ℕ) (here : (control_of x).doing 
   turn_is : turn_of h ≡ Stopped (m.Forks t v n) (config_of h.proc)
   turn_is = ap (λ s. turn_by s h.proc) is
 
+  first_is : h.proc.first ≡ v
+  first_is = let (_, (first, _)) = at in first
+
   event_is : event.Fork n ≡ event_of x.limits (system_of x) (turn_of h)
   event_is = event_no_fault x.limits (system_of x) (m.Forks t v n) (config_of h.proc) no_fault fine
       ∙ ap (event_of x.limits (system_of x)) (sym turn_is)
@@ -221,7 +224,7 @@ module _ (x : Kernel) (k : IsKernel x) (p w : ℕ) (here : (control_of x).doing 
       ∙ ap (λ (input : List ℕ). child_process plain (run_of x.code.value input x.limits) c h.proc.first (l + j) j
       (child_or (child_at (table_or (slice_get x.code.value.forks h.proc.table)) j))) own.1
       ∙ ap (λ (first : ℤ). child_process plain (code_run_of x) c first (l + j) j
-      (child_or (child_at (table_or (slice_get x.code.value.forks h.proc.table)) j))) at.1.0
+      (child_or (child_at (table_or (slice_get x.code.value.forks h.proc.table)) j))) first_is
       ∙ ap (λ (i : ℕ). child_process plain (code_run_of x) c v (l + j) j
       (child_or (child_at (table_or (slice_get x.code.value.forks i)) j))) at.0
 
@@ -238,7 +241,7 @@ module _ (x : Kernel) (k : IsKernel x) (p w : ℕ) (here : (control_of x).doing 
       (plan_from x.code.value.layouts h.proc.frames (table_or (slice_get x.code.value.forks z)) h.proc.first 0 n))
       c) at.0
       ∙ ap (λ (z : ℤ). on_store (λ m. plain.handed m
-      (plan_from x.code.value.layouts h.proc.frames (table_or (slice_get x.code.value.forks t)) z 0 n)) c) at.1.0
+      (plan_from x.code.value.layouts h.proc.frames (table_or (slice_get x.code.value.forks t)) z 0 n)) c) first_is
 
   conditions : (q : ℕ) → condition_in (slice_get (slice_set f.slots p s) q)
       ≡ cond (is_next b n q) (Working (born q (q - b.processes)))
@@ -363,11 +366,11 @@ pub can_fork : (x : Kernel) (w : ℕ) (h : Handed) (t : ℕ) (v : ℤ) (n : ℕ)
     → fault_of x.limits (system_of x) (Stopped (m.Forks t v n) (config_of h.proc)) ≡ None → IsAtFork h.proc t v n
     → FitsHanded x w h
     → CanSplit h.proc.store (plan_by x.code.value h.proc n)
-can_fork x w h t v n is no_fault fine at fits =
+can_fork x w h t v n is no_fault fine (table_is, (first_is, _)) fits =
     subst (λ (z : ℕ). CanSplit h.proc.store (plan_from x.code.value.layouts h.proc.frames
-    (table_or (slice_get x.code.value.forks z)) h.proc.first 0 n)) (sym at.0)
+    (table_or (slice_get x.code.value.forks z)) h.proc.first 0 n)) (sym table_is)
     (subst (λ (z : ℤ). CanSplit h.proc.store
-    (plan_from x.code.value.layouts h.proc.frames (table_or (slice_get x.code.value.forks t)) z 0 n)) (sym at.1.0)
+    (plan_from x.code.value.layouts h.proc.frames (table_or (slice_get x.code.value.forks t)) z 0 n)) (sym first_is)
     (fits.safe.forks h.proc.number t n v (config_of h.proc) stops))
   where
     stops : StopsAt (code_run_of x) (system_of x) h.proc.number (m.Forks t v n) (config_of h.proc)

@@ -98,7 +98,8 @@ held y bs e =
     )
 
 pub not_held : (y : Kernel) → first_output y.slots ≡ None → (bs : List ℕ) → HeldHere y bs → ⊥
-not_held y e bs h = none_writes y.slots e h.0 h.1 bs h.2.0 h.2.1 h.3 h.4
+not_held y e bs (process, store, (is_out, is_gone), there, written) =
+    none_writes y.slots e process store bs is_out is_gone there written
 
 pub matched : {R : Type 0} (f : R → List ℕ) (o : Option R) (N : Type 0) (P : List ℕ → Type 0) (w : Option (List ℕ))
     → MatchOption o (w ≡ None) (λ r. w ≡ Some (f r)) → (w ≡ None → N) → ((bs : List ℕ) → w ≡ Some bs → P bs)

@@ -292,7 +292,8 @@ module _ (x : Kernel) (k : IsKernel x) (p w : ℕ) (here : (control_of x).doing 
         (length-set x.slots p (slot.Here r st.Ready) ∙ k.processes
         ∙ ap (λ (b : Births). b.processes) (sym (next_births event.Pause (slot.Here r st.Ready))))
         (k.channels ∙ ap (λ (b : Births). b.channels) (sym (next_births event.Pause (slot.Here r st.Ready))))
-        (same_offers (slot.Here r st.Ready)) (same_numbers (slot.Here r st.Ready) (en.1 ∙ num.0, en.3 ∙ num.1))
+        (same_offers (slot.Here r st.Ready)) (same_numbers (slot.Here r st.Ready)
+        (let (_, same_number, _, same_input) = en in (same_number ∙ num.0, same_input ∙ num.1)))
         (parents_after x.parents event.Pause k.parents);
   }
     where

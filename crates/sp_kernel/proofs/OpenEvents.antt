@@ -114,8 +114,10 @@ module _ (g : CodeRun) where
   pub open_takes : (code : Parts) (c : m.Config (Memory Plain)) (p : Proc)
       → IsTurn (memory plain g) code c (Stopped (m.Opens p.target) (config_of p)) → (d : Cell)
       → CanPut p.store p.target (d ∷ [])
-  open_takes code c p turn d = (turn_does (memory plain g) code Any Every FitsCells keeping c
-      (Stopped (m.Opens p.target) (config_of p)) (any_config c) turn).0.1 (d ∷ []) refl
+  open_takes code c p turn d =
+      let ((_, aims), _) = turn_does (memory plain g) code Any Every FitsCells keeping c
+      (Stopped (m.Opens p.target) (config_of p)) (any_config c) turn in
+      aims (d ∷ []) refl
 
 -- ---- no fault, or which
 

@@ -69,7 +69,7 @@ module _ (x : Kernel) (k : IsKernel x) (p w : ℕ) (here : (control_of x).doing 
     own_first = en.1 ∙ number
 
     its_first : IsOwn (code_run_of x).input r p
-    its_first = (own_first, en.3 ∙ reads)
+    its_first = let (_, _, _, same_input) = en in (own_first, same_input ∙ reads)
 
     abbrev first : Kernel
     first = record x {

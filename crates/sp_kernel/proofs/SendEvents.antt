@@ -68,7 +68,7 @@ module _ (x : Kernel) (k : IsKernel x) (p w : ℕ) (here : (control_of x).doing 
   own = en.1 ∙ number
 
   its : IsOwn (code_run_of x).input r p
-  its = (own, en.3 ∙ reads)
+  its = let (_, _, _, same_input) = en in (own, same_input ∙ reads)
 
   -- nothing is pending: it waits
   module _ (free : slice_get x.channels c ≡ Some None) where

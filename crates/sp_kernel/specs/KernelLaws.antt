@@ -92,16 +92,16 @@ kernel_after x [] y k r = record {
   abandons = let e : x.abandons ≡ y.abandons = ap (λ (z : Kernel). z.abandons) r in omega (arith, e);
   journal = ap (λ (z : Kernel). z.journal.entries) (sym r) ∙ sym (append-nil x.journal.entries);
 }
-kernel_after x (n ∷ ns) y k r =
-    let one : LeavesNote x r.1 r.2 r.0 r.3 n = r.4 in
-    let rest = kernel_after r.0 ns y one.whole r.5 in
+kernel_after x (n ∷ ns) y k (mid, worker, asked, answered, step, further) =
+    let one : LeavesNote x worker asked mid answered n = step in
+    let rest = kernel_after mid ns y one.whole further in
     record {
       reaches = (
-        system_of r.0,
+        system_of mid,
         one.follows,
-        subst (λ (g : CodeRun). Reaches plain g (after_note n (control_of x)) (system_of r.0) ns (system_of y))
+        subst (λ (g : CodeRun). Reaches plain g (after_note n (control_of x)) (system_of mid) ns (system_of y))
             one.code_run
-            (subst (λ (c : Control). Reaches plain (code_run_of r.0) c (system_of r.0) ns (system_of y)) one.control
+            (subst (λ (c : Control). Reaches plain (code_run_of mid) c (system_of mid) ns (system_of y)) one.control
             rest.reaches),
       );
       control = rest.control ∙ ap (after_notes ns) one.control;

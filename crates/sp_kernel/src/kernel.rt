@@ -87,7 +87,6 @@ pub struct Kernel {
 impl Kernel {
     /// A run of the code that begins with this process: it is ready, and the journal is empty. What the kernel needs
     /// later it takes from `alloc`.
-
     pub fn new(alloc: Global, root: Proc, code: Arc<Code>, limits: Limits) -> Result<Kernel, Memory>
         requires root { (config_of root ≡ start_of code.value root.input.value) × (root.number ≡ 0) }
         requires sound { IsSound code.value }
@@ -159,7 +158,6 @@ impl Kernel {
     }
 
     /// How the run stands.
-
     pub fn standing(&self) -> Standing
         ensures { result ≡ stands_as (control_of self.now) }
     {

@@ -46,16 +46,17 @@ end_child-requires-clause-joiner c =
 pub returns-in-Ok-clause-ok : goal.returns-in-Ok-clause-ok
 returns-in-Ok-clause-ok c =
     let x : Kernel = c.args.self.now in
-    let done = c.in-Ok.ensures.ok in
+    let (over, enters, kernel_is) = c.in-Ok.ensures.ok in
+    let (_, same_number, _, _) = enters in
     let none : (births x.journal.entries).birth c.args.proc.number ≡ None =
     no_birth _ (sym (c.requires.whole.parents.each c.args.proc.number)
     ∙ ap (λ i. parent_in (Rattle.std.specs.Prelude.slice_get x.parents i)) (sym c.number.ensures)
     ∙ sym c.parent.ensures ∙ c.in-None.is) in
-    subst (IsAfterGive x c.args.proc.number (at_end c.args.proc)) (sym done.2)
+    subst (IsAfterGive x c.args.proc.number (at_end c.args.proc)) (sym kernel_is)
     (subst (λ n. IsAfterGive x c.args.proc.number (at_end c.args.proc)
-    (kernel_after_give n event.End (slot.Here done.0 st.Over) x))
-    done.1.1 (gave_root x c.requires.whole c.args.proc.number c.args._worker c.requires.fits.out
-    (at_end c.args.proc) refl c.requires.no_fault (refl, c.requires.fits.input) done.0 done.1 none))
+    (kernel_after_give n event.End (slot.Here over st.Over) x))
+    same_number (gave_root x c.requires.whole c.args.proc.number c.args._worker c.requires.fits.out
+    (at_end c.args.proc) refl c.requires.no_fault (refl, c.requires.fits.input) over enters none))
 
 pub returns-in-Ok-end_child-clause-ok : goal.returns-in-Ok-end_child-clause-ok
 returns-in-Ok-end_child-clause-ok c =

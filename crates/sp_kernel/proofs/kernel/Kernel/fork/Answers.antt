@@ -66,9 +66,10 @@ fork_now-requires-clause-numbers c = c.in-Some.ensures.fits.1
 pub fork_now-requires-clause-fork : goal.fork_now-requires-clause-fork
 fork_now-requires-clause-fork c =
     let at = at_that c.args.proc c.args.stop c.args.count c.requires.forks c.requires.fits.fork in
+    let (table_is, (first_is, _)) = at in
     subst (λ n. IsAtFork c.args.proc c.args.proc.table c.args.proc.first n) (sym c.in-Some.ensures.fits.0)
-    (subst (λ t. IsAtFork c.args.proc t c.args.proc.first c.args.count) (sym at.0)
-    (subst (λ v. IsAtFork c.args.proc c.requires.forks.0 v c.args.count) (sym at.1.0) at))
+    (subst (λ t. IsAtFork c.args.proc t c.args.proc.first c.args.count) (sym table_is)
+    (subst (λ v. IsAtFork c.args.proc c.requires.forks.0 v c.args.count) (sym first_is) at))
 
 pub fork_now-requires-clause-can : goal.fork_now-requires-clause-can
 fork_now-requires-clause-can c =

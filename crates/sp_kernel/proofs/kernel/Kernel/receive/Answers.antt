@@ -122,8 +122,8 @@ returns-in-Ok-receive_second-clause-ok c =
     c.in-Send.is
     ∙ none_if (c.in-Some.first.message == c.args.message)
     (same_message c.in-Some.first.message c.args.message c.if-first-message.false) in
-    let done = c.in-Ok-receive_second.ensures.ok in
-    subst (IsAfterGive x c.args.proc.number h) (sym done.5)
+    let (ready, sender, cells, sends, enters, kernel_is) = c.in-Ok-receive_second.ensures.ok in
+    subst (IsAfterGive x c.args.proc.number h) (sym kernel_is)
     (gave_met x c.requires.whole c.args.proc.number c.args._worker c.requires.fits.out h c.args.channel
     c.args.message refl c.requires.no_fault fine refl c.requires.fits.input c.in-Some.first.process
-    (here ∙ ap (λ (o : Pending). Some (Some o)) first_is) done.1 done.0 done.2 done.3 done.4)
+    (here ∙ ap (λ (o : Pending). Some (Some o)) first_is) sender ready cells sends enters)

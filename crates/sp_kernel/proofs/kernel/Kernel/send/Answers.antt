@@ -128,8 +128,8 @@ returns-in-Ok-send_second-clause-ok c =
     c.in-Receive.is
     ∙ none_if (c.in-Some.first.message == c.args.message)
     (same_message c.in-Some.first.message c.args.message c.if-first-message.false) in
-    let done = c.in-Ok-send_second.ensures.ok in
-    subst (IsAfterGive x c.args.proc.number h) (sym done.4)
+    let (ready, receiver, enters, receives, kernel_is) = c.in-Ok-send_second.ensures.ok in
+    subst (IsAfterGive x c.args.proc.number h) (sym kernel_is)
     (gave_met x c.requires.whole c.args.proc.number c.args._worker c.requires.fits.out h c.args.channel
-    c.args.message c.args.cells refl c.requires.no_fault fine done.0 done.2 refl c.requires.fits.input
-    c.in-Some.first.process (here ∙ ap (λ (o : Pending). Some (Some o)) first_is) done.1 done.3)
+    c.args.message c.args.cells refl c.requires.no_fault fine ready enters refl c.requires.fits.input
+    c.in-Some.first.process (here ∙ ap (λ (o : Pending). Some (Some o)) first_is) receiver receives)
