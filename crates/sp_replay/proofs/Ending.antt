@@ -59,7 +59,7 @@ module _ (x : Kernel) (c : HasCome x) (who : ℕ → Option Proc) (o : AreOut x 
   first_out : (qs : List ℕ) → 0 < length qs → EachNumber (λ q. IsOut ((control_of x).doing q)) qs → (q : ℕ)
       × (phase_in ((system_of x).condition q) ≡ Running)
   first_out [] l e = absurd (omega (arith, l))
-  first_out (q ∷ qs) l e = (q, sym ((is_whole x c).agrees.each q) ∙ ap phase e.0.1)
+  first_out (q ∷ qs) l ((_, out), _) = (q, sym ((is_whole x c).agrees.each q) ∙ ap phase out)
 
   goes_on : standing (control_of x) ≡ Going → GoesOn (system_of x)
   goes_on is =
@@ -105,7 +105,7 @@ module _ (x : Kernel) (c : HasCome x) (who : ℕ → Option Proc) (o : AreOut x 
 
   -- of a process that the kernel has
   pub here : (bs : List ℕ) → HeldHere x bs → (q : ℕ) × IsOutputOf (system_of x) q bs
-  here bs h = (h.0, is_output h.0 h.1 bs h.3 h.4)
+  here bs (process, store, _, there, written) = (process, is_output process store bs there written)
 
   store_is : (q : ℕ) (p : Proc) → who q ≡ Some p → store_in ((system_of x).condition q) ≡ Some p.store
   store_is q p e = ap store_in (o.each q p e).runs
@@ -161,7 +161,8 @@ no_outputs (o ∷ os) e (suc q) p is = no_outputs os (or_rest_none (output_in o)
 pub some_output : (held : List (Option Proc)) (bs : List ℕ) → outputs held ≡ Some bs → (q : ℕ) × (p : Proc)
     × (held_at held q ≡ Some p) × (output_of_process p ≡ Some bs)
 some_output [] bs e = absurd (cc e)
-some_output (None ∷ os) bs e = let r = some_output os bs e in (suc r.0, r.1, r.2, r.3)
+some_output (None ∷ os) bs e = let (process, proc, is_held, written) = some_output os bs e in
+    (suc process, proc, is_held, written)
 some_output (Some p ∷ os) bs e = go (output_of_process p) refl e (λ f. some_output os bs f)
   where
     go : (w : Option (List ℕ)) → output_of_process p ≡ w → or_rest w (outputs os) ≡ Some bs
@@ -169,4 +170,4 @@ some_output (Some p ∷ os) bs e = go (output_of_process p) refl e (λ f. some_o
         → (q : ℕ)
         × (u : Proc) × (held_at (Some p ∷ os) q ≡ Some u) × (output_of_process u ≡ Some bs)
     go (Some cs) is f on = (zero, p, refl, is ∙ f)
-    go None is f on = let r = on f in (suc r.0, r.1, r.2, r.3)
+    go None is f on = let (process, proc, is_held, written) = on f in (suc process, proc, is_held, written)

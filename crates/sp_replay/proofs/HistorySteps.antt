@@ -169,8 +169,9 @@ module _ (x : Kernel) (c : HasCome x) where
       let g : IsGot (control_of x) (Some p.number) =
       got_of (control_of x) (is_whole x c).orderly (Some p.number) t.front in
       let r : y.ready ≡ queue_tail x.ready = ap (λ (k : Control). k.ready) t.control in
-      let a : length y.ready ≡ length g.0.0 = ap length (r ∙ ap queue_tail g.0.1) in
-      let b : length x.ready ≡ length (p.number ∷ g.0.0) = ap length g.0.1 in
+      let ((others, ready_is), _) = g in
+      let a : length y.ready ≡ length others = ap length (r ∙ ap queue_tail ready_is) in
+      let b : length x.ready ≡ length (p.number ∷ others) = ap length ready_is in
       omega (arith, a, b)
 
   pub takes_some : (y : Kernel) (p : Proc) → Takes x 0 y (Some p) → HasCome y × SameRun x y

@@ -109,9 +109,9 @@ module _ (code : Parts) (input : List ℕ) (lim : Limits) where
   no_second second rest large = record {
     inside = omega arith;
     fits = (faulted_system code input lim, (faulted_system code input lim, leads_there code input lim large, refl));
-    unfit = λ t l. none_after second.process second.event l.2.0
-        (subst (λ s. EntryLeads plain (run_of code input lim) s second.process second.event l.2.0)
-        (one_system l.0 large l.1) l.2.1);
+    unfit = λ t (middle, leads, (after, leads_on, _)). none_after second.process second.event after
+        (subst (λ s. EntryLeads plain (run_of code input lim) s second.process second.event after)
+        (one_system middle large leads) leads_on);
   }
 
   pub one_fault : (r : Replayed) → first_fits code lim ≡ false → r.end ≡ Some first_fault_end → r.output ≡ []

@@ -40,19 +40,19 @@ hand_in-requires-clause-hand c =
     (sym c.pick.ensures.proc ∙ c.in-Some.is) c.pick.ensures.others c.in_ok-handed.ensures
 
 pub newest-requires : goal.newest-requires
-newest-requires c = (c.args.self.now.kernel.journal.entries, _, c.in_ok-hand_in.ensures.1.1.entries)
+newest-requires c = let (_, (_, event_made)) = c.in_ok-hand_in.ensures in
+    (c.args.self.now.kernel.journal.entries, _, event_made.entries)
 
 pub returns : goal.returns
 returns c =
     let x = c.args.self.now.kernel in
-    let s = c.in_ok-hand_in.ensures.0 in
-    let e = c.in_ok-hand_in.ensures.1.0 in
+    let (s, (e, event_made)) = c.in_ok-hand_in.ensures in
     let number : c.in_ok-handed.handed.proc.number ≡ c.args.entry.process = c.in_ok-handed.ensures.keeps.0
     ∙ (c.requires.stands.follows.held.each c.args.entry.process c.in-Some.proc
     (sym c.pick.ensures.proc ∙ c.in-Some.is)).number in
     let made : EventMade x c.args.entry.process e c.hand_in.new.self.kernel =
-    subst (λ n. EventMade x n e c.hand_in.new.self.kernel) number c.in_ok-hand_in.ensures.1.1 in
-    let newest : c.newest.result ≡ e = c.newest.ensures _ _ c.in_ok-hand_in.ensures.1.1.entries in
+    subst (λ n. EventMade x n e c.hand_in.new.self.kernel) number event_made in
+    let newest : c.newest.result ≡ e = c.newest.ensures _ _ event_made.entries in
     let out = c.requires.stands.follows.held.each c.args.entry.process c.in-Some.proc
     (sym c.pick.ensures.proc ∙ c.in-Some.is) in
     let all = told_if_same x c.args.code.now c.args.limits.now c.requires.run c.args.entry c.in-Some.proc out

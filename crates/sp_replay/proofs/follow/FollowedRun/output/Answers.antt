@@ -18,7 +18,7 @@ returns-in-Some c =
 pub returns-in-Some-output : goal.returns-in-Some-output
 returns-in-Some-output c =
     let f = c.args.self.now in
-    let o = some_output f.held c.in-Some-output.bytes.now
+    let (process, proc, is_held, written) = some_output f.held c.in-Some-output.bytes.now
     (ap outputs (sym c.items.ensures) ∙ c.in-Some-output.ensures) in
     by_held f.kernel c.requires.follows.come (held_at f.held) c.requires.follows.held c.requires.none_ready
-    c.in-Some-output.bytes.now o.0 o.1 o.2 o.3
+    c.in-Some-output.bytes.now process proc is_held written
