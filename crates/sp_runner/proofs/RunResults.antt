@@ -92,7 +92,7 @@ module _ (y : Kernel) (whole : IsKernel y) (up : y.abandons ≡ 0) (idle : stand
   pub ends_at : (e : End) → EndIs y e → EndsAt y.journal.entries (system_of y) e
   ends_at end.Done i = is_done i
   ends_at (end.Deadlock ws) i = is_deadlock ws i.0 i.1
-  ends_at (end.Fault name f) i = (i.1, i.2, i.3)
+  ends_at (end.Fault name f) (_, process, told, named) = (process, told, named)
   ends_at end.Memory i = absurd (some_up y.abandons
       (by_memory (nat_lt 0 y.abandons) y.faulted (has_ended ((control_of y).doing 0)) _ i) up)
 
