@@ -44,14 +44,15 @@ stands (x ∷ front) rest (y ∷ left) t right e = one_more x y (cc) (stands fro
 rising_behind : (bytes : List ℕ) (n : ℕ) (mid : List Token) (t : Token) (right : List Token)
     → Rising bytes n (mid ++ t ∷ right) → (n ≤ t.from) × (t.from < length bytes) × (t.at ≡ place_at bytes t.from)
 rising_behind bytes n [] t right h = (h.0, h.1, h.2)
-rising_behind bytes n (x ∷ mid) t right h = let i = rising_behind bytes (suc x.from) mid t right h.3 in
-    (omega (arith, i.0, h.0), i.1, i.2)
+rising_behind bytes n (x ∷ mid) t right (not_before, _, _, further) =
+    let (later, within, at_place) = rising_behind bytes (suc x.from) mid t right further in
+    (omega (arith, later, not_before), within, at_place)
 
 rising_drop : (bytes : List ℕ) (n : ℕ) (front : List Token) (t : Token) (us : List Token)
     → Rising bytes n (front ++ t ∷ us) → (t.from < length bytes) × (t.at ≡ place_at bytes t.from)
     × Rising bytes (suc t.from) us
-rising_drop bytes n [] t us h = (h.1, h.2, h.3)
-rising_drop bytes n (x ∷ front) t us h = rising_drop bytes (suc x.from) front t us h.3
+rising_drop bytes n [] t us (_, within, at_place, further) = (within, at_place, further)
+rising_drop bytes n (x ∷ front) t us (_, _, _, further) = rising_drop bytes (suc x.from) front t us further
 
 earlier : (bytes : List ℕ) (i j : ℕ) (p q : Place) → p ≡ place_at bytes i → q ≡ place_at bytes j → i < j
     → j ≤ length bytes → Earlier p q

@@ -108,7 +108,8 @@ module _ (text : List ℕ) (Ok : ℕ → List Token → Type 0) where
 
   after_factor : (d : ℕ) (a : tree.Expression) {ts u r : List Token}
       {vs : Values (sym.MoreFactors d ∷ sym.MoreTerms d ∷ [])} → g.IsFactor text Ok d ts u a
-      → MeansAll text Ok (sym.MoreFactors d ∷ sym.MoreTerms d ∷ []) u r vs → g.IsSimple text Ok d ts r (vs.1.0 (vs.0 a))
+      → MeansAll text Ok (sym.MoreFactors d ∷ sym.MoreTerms d ∷ []) u r vs
+      → let (factors, (terms, _)) = vs in g.IsSimple text Ok d ts r (terms (factors a))
   after_factor d a f (and x (and y none)) = g.simple (g.term f (x a)) (y _)
 
   of_simple : {d : ℕ} {k : Kind} {l : List Symbol} (c : SimpleRow d k l) (t : Token) → t.kind ≡ k
@@ -134,13 +135,13 @@ module _ (text : List ℕ) (Ok : ℕ → List Token → Type 0) where
   after_selectors : (d : ℕ) (ss : tree.Selectors) {us ts u r : List Token} {n : _}
       {vs : Values (sym.AToken w.Becomes ∷ sym.AnExpression d ∷ [])} → g.IsName text us ts n
       → g.IsSelectors text Ok d ts u ss → MeansAll text Ok (sym.AToken w.Becomes ∷ sym.AnExpression d ∷ []) u r vs
-      → g.IsForm text Ok d us r (tree.Assign (tree.Entire n ss) vs.1.0)
+      → let (_, (e, _)) = vs in g.IsForm text Ok d us r (tree.Assign (tree.Entire n ss) e)
   after_selectors d ss n s (and b (and e none)) = g.assignment (g.variable n s) b e
 
   after_constant : (d : ℕ) (c : _) {us ts u r : List Token}
       {vs : Values (sym.MoreLabels ∷ sym.AStatement d ∷ sym.MoreArms d ∷ [])} → g.Is w.Semicolon us ts
       → g.IsConstant text ts u c → MeansAll text Ok (sym.MoreLabels ∷ sym.AStatement d ∷ sym.MoreArms d ∷ []) u r vs
-      → g.IsMoreArms text Ok d us r (tree.Or (tree.On (c ∷ vs.0) vs.1.0) vs.1.1.0)
+      → let (cs, (s, (m, _))) = vs in g.IsMoreArms text Ok d us r (tree.Or (tree.On (c ∷ cs) s) m)
   after_constant d c i x (and cs (and s (and m none))) = g.arms_go_on i (g.arm (g.labels x cs) s) m
 
   -- a symbol that takes a token

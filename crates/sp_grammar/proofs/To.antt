@@ -193,7 +193,7 @@ module _ (text : List ℕ) (Ok : ℕ → List Token → Type 0) where
       → D (sym.ATerm d) ts r x
   as_term {d} {r = r} (factor_begins {l = l} {ts = ts} {vs = vs} c t p x) m =
       let f = m.f in
-      subst (D (sym.ATerm d) (t ∷ ts) r) (ap (λ p. p.1.0 (factor_value text c t p.0))
+      subst (D (sym.ATerm d) (t ∷ ts) r) (ap (λ (own, (factors, _)). factors (factor_value text c t own))
       (split_join l (sym.MoreFactors d ∷ []) vs (f, tt)) ∙ m.gives)
       (take (row.term c) (look_term d c) t p tt (join_all l (sym.MoreFactors d ∷ []) x (and m.is none)))
 
@@ -201,7 +201,7 @@ module _ (text : List ℕ) (Ok : ℕ → List Token → Type 0) where
   pub as_terms : {d : ℕ} {ts u v r : List Token} {a b x : tree.Expression} → Factor d ts u a → FactorsFrom d a u v b
       → TermsFrom d b v r x → Simple d ts r x
   as_terms {d} {r = r} (factor_begins {l = l} {ts = ts} {vs = vs} c t p x) m n =
-      subst (Simple d (t ∷ ts) r) (ap (λ p. p.1.1.0 (p.1.0 (factor_value text c t p.0)))
+      subst (Simple d (t ∷ ts) r) (ap (λ (own, (factors, (terms, _))). terms (factors (factor_value text c t own)))
       (split_join l (sym.MoreFactors d ∷ sym.MoreTerms d ∷ []) vs (m.f, (n.f, tt))) ∙ ap n.f m.gives ∙ n.gives)
       (simple_begins (row.simple_factor c) t p
       (join_all l (sym.MoreFactors d ∷ sym.MoreTerms d ∷ []) x (and m.is (and n.is none))))
@@ -213,8 +213,8 @@ module _ (text : List ℕ) (Ok : ℕ → List Token → Type 0) where
       → RelationFrom (suc d) a u r x → D (sym.AnExpression d) ts r x
   as_expression {d} {r = r} ok (simple_begins {l = l} {ts = ts} {vs = vs} c t p x) m =
       subst (D (sym.AnExpression d) (t ∷ ts) r)
-      (ap (λ p. p.1.0 (simple_value text c t p.0)) (split_join l (sym.ARelation (suc d) ∷ []) vs (m.f, tt))
-      ∙ m.gives)
+      (ap (λ (own, (comparison, _)). comparison (simple_value text c t own))
+      (split_join l (sym.ARelation (suc d) ∷ []) vs (m.f, tt)) ∙ m.gives)
       (take (row.expression c) (look_expression d c) t p ok (join_all l (sym.ARelation (suc d) ∷ []) x (and m.is none)))
 
   -- what stands before a tail
@@ -410,7 +410,7 @@ module _ (text : List ℕ) (Ok : ℕ → List Token → Type 0) where
       (λ n. tree.Assign (tree.Entire n (selector_value text c t vs)) x)
   as_target {d} {ts} {r = r} {x = x} {l = l} {vs = vs} c t p a b e =
       subst (D (sym.AfterName d) (t ∷ ts) r)
-      (ap (λ p. λ n. tree.Assign (tree.Entire n (selector_value text c t p.0)) p.1.1.0)
+      (ap (λ (own, (_, (e, _))). λ n. tree.Assign (tree.Entire n (selector_value text c t own)) e)
       (split_join l (sym.AToken w.Becomes ∷ sym.AnExpression d ∷ []) vs (tt, (x, tt))))
       (take (row.target c) (look_target d c) t p tt
       (join_all l (sym.AToken w.Becomes ∷ sym.AnExpression d ∷ []) a (and (token refl b) (and e none))))
@@ -423,7 +423,7 @@ module _ (text : List ℕ) (Ok : ℕ → List Token → Type 0) where
       → D (sym.MoreArms d) x r m → D (sym.ArmOrEnd d) ts r (tree.Or (tree.On (c ∷ cs) s) m)
   as_arm {d} {r = r} {cs = cs} {s = s} {m = m} (begins {l = l} {ts = ts} {vs = vs} c t p a) x y z =
       subst (D (sym.ArmOrEnd d) (t ∷ ts) r) (ap
-      (λ p. tree.Or (tree.On (constant_value text c t p.0 ∷ p.1.0) p.1.1.0) p.1.1.1.0)
+      (λ (own, (labels, (s, (arms, _)))). tree.Or (tree.On (constant_value text c t own ∷ labels) s) arms)
       (split_join l (sym.MoreLabels ∷ sym.AStatement d ∷ sym.MoreArms d ∷ []) vs (cs, (s, (m, tt)))))
       (take (row.next_arm c) (look_arm d c) t p tt
       (join_all l (sym.MoreLabels ∷ sym.AStatement d ∷ sym.MoreArms d ∷ []) a (and x (and y (and z none)))))

@@ -91,7 +91,12 @@ Rising bytes n (t ∷ ts) = (n ≤ t.from) × (t.from < length bytes) × (t.at �
 
 lower : (bytes : List ℕ) (m n : ℕ) (ts : List Token) → m ≤ n → Rising bytes n ts → Rising bytes m ts
 lower bytes m n [] h r = tt
-lower bytes m n (t ∷ ts) h r = (omega (arith, r.0), r.1, r.2, r.3)
+lower bytes m n (t ∷ ts) h (not_before, within, at_place, further) = (
+  omega (arith, not_before),
+  within,
+  at_place,
+  further,
+)
 
 pub rising : (bytes : List ℕ) {bs r : List ℕ} {ts : List Token} → Scans bytes bs r ts → length bs ≤ length bytes
     → Rising bytes (offset bytes bs) ts

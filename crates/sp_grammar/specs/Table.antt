@@ -323,8 +323,9 @@ module _ (text : List ℕ) where
   factor_value factor_not t (e, u) = tree.ExpressionAt t.at (tree.Unary unary.Not e)
 
   abbrev pub simple_value : {d : ℕ} {k : Kind} {l : List Symbol} → SimpleRow d k l → Token → Values l → tree.Expression
-  simple_value (simple_factor {l = l} row) t vs = let p = split l (MoreFactors _ ∷ MoreTerms _ ∷ []) vs in
-      p.1.1.0 (p.1.0 (factor_value row t p.0))
+  simple_value (simple_factor {l = l} row) t vs =
+      let (own, (factors, (terms, _))) = split l (MoreFactors _ ∷ MoreTerms _ ∷ []) vs in
+      terms (factors (factor_value row t own))
   simple_value simple_plus t (a, (f, u)) = f (tree.ExpressionAt t.at (tree.Unary unary.Plus a))
   simple_value simple_minus t (a, (f, u)) = f (tree.ExpressionAt t.at (tree.Unary unary.Minus a))
 
@@ -361,8 +362,9 @@ module _ (text : List ℕ) where
   build next_variable t (ns, (c, (k, (s, (b, u))))) = with_part_first (tree.Var (name_of text t ∷ ns) k) b
   build (statement row) t vs = tree.Does t.at (form_value row t vs)
   build becomes t (e, u) = λ n. tree.Assign (tree.Entire n tree.Whole) e
-  build (target {d = d} {l = l} row) t vs = let p = split l (AToken w.Becomes ∷ AnExpression d ∷ []) vs in
-      λ n. tree.Assign (tree.Entire n (selector_value row t p.0)) p.1.1.0
+  build (target {d = d} {l = l} row) t vs =
+      let (own, (_, (e, _))) = split l (AToken w.Becomes ∷ AnExpression d ∷ []) vs in
+      λ n. tree.Assign (tree.Entire n (selector_value row t own)) e
   build call t (e, (m, (rest, u))) = λ n. tree.Call n (tree.AndArgument (tree.Pass e m) rest)
   build other t (s, u) = tree.Else s
   build next_statement t (s, (ss, u)) = tree.AndThen s ss
@@ -373,16 +375,20 @@ module _ (text : List ℕ) where
   build arms_end t vs = tree.NoArm
   build arms_go_on t (rest, u) = rest
   build no_arm t vs = tree.NoArm
-  build (next_arm {d = d} {l = l} row) t vs = let p = split l (MoreLabels ∷ AStatement d ∷ MoreArms d ∷ []) vs in
-      tree.Or (tree.On (constant_value row t p.0 ∷ p.1.0) p.1.1.0) p.1.1.1.0
+  build (next_arm {d = d} {l = l} row) t vs =
+      let (own, (cs, (s, (arms, _)))) = split l (MoreLabels ∷ AStatement d ∷ MoreArms d ∷ []) vs in
+      tree.Or (tree.On (constant_value row t own ∷ cs) s) arms
   build upward t vs = false
   build downward t vs = true
-  build (expression {d = d} {l = l} row) t vs = let p = split l (ARelation (suc d) ∷ []) vs in
-      p.1.0 (simple_value row t p.0)
+  build (expression {d = d} {l = l} row) t vs =
+      let (own, (comparison, _)) = split l (ARelation (suc d) ∷ []) vs in
+      comparison (simple_value row t own)
   build (relation {o = o} row) t (b, u) = λ a. binary_at_left o a b
   build (simple row) t vs = simple_value row t vs
   build (next_term {o = o} row) t (b, (f, u)) = λ a. f (binary_at_left o a b)
-  build (term {d = d} {l = l} row) t vs = let p = split l (MoreFactors d ∷ []) vs in p.1.0 (factor_value row t p.0)
+  build (term {d = d} {l = l} row) t vs =
+      let (own, (factors, _)) = split l (MoreFactors d ∷ []) vs in
+      factors (factor_value row t own)
   build (next_factor {o = o} row) t (b, (f, u)) = λ a. f (binary_at_left o a b)
   build (factor row) t vs = factor_value row t vs
   build (negated row) t vs = factor_value row t vs
