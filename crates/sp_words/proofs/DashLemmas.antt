@@ -1,13 +1,14 @@
 -- What the pass of the dash rule comes to.
 use Rattle.std.proofs.Common.{◌≡◌, ◌==◌, ◌<◌, ◌≤◌, suc, drop, drop-cons, drop_of_length-le, ℕ, Bool, true, false, refl}
 use Rattle.std.proofs.Common.{sym, ap, ◌∙◌, List, [], ◌∷◌, length, Option, Some, None, map, option_map, is_some}
-use Rattle.std.proofs.Common.{true≢false, not}
+use Rattle.std.proofs.Common.{true≢false, cond, not}
 use Rattle.std.specs.Borrow.{Bor}
 use Rattle.std.specs.List.{list_any, slice_index_or}
+use Rattle.std.specs.Option.{option_map_or}
 use Rattle.std.specs.Str.{bytes_eq}
 use Rattle.clap.proofs.WalkLemmas.{list_any-map}
-use Rattle.sp_words.specs.Dashes.{WordItem, Text, after_dash, by_form, contains, first_item, form_by_value, form_of}
-use Rattle.sp_words.specs.Dashes.{form_of_option, form_of_text, items, name_and_value, name_of, with_value}
+use Rattle.sp_words.specs.Dashes.{WordItem, Text, after_dash, by_form, contains, first_item, form_of, given}
+use Rattle.sp_words.specs.Dashes.{form_of_option, form_of_text, items, name_and_value, name_of}
 use Rattle.sp_words.specs.declared.form.Form.{Form}
 use Rattle.sp_words.specs.declared.form.Form.TheVariants.{Plain, End, Whole, Open, Stray}
 
@@ -42,7 +43,7 @@ some_first item (Some is) = refl
 
 value_pass : (name word : Text) (r : Option Text) (rest : Option (List WordItem)) (passed : Bool)
     → is_some rest ≡ passed
-    → is_some (with_value name word r rest) ≡ pass_value r passed
+    → is_some (cond (is_some r) None (first_item (given name word) rest)) ≡ pass_value r passed
 value_pass name word (Some tail) rest passed e = refl
 value_pass name word None rest passed e = some_first _ rest ∙ e
 
@@ -133,5 +134,5 @@ pub form_missing : (options : List Text) (read : Text × Option Text) → contai
 form_missing options read e = rw e refl
 
 pub form_named : (options : List Text) (read : Text × Option Text) (f : Form) → contains options read.0 ≡ true
-    → f ≡ form_by_value read.1 → f ≡ form_of_option options read
+    → f ≡ option_map_or (λ v. Whole) read.1 Open → f ≡ form_of_option options read
 form_named options read f e h = rw e h

@@ -1,6 +1,6 @@
 -- What a parse makes of the words of one command: the same as the items of the words.
 use Rattle.std.proofs.Common.{◌≡◌, ◌&&◌, ◌||◌, ℕ, Bool, true, false, not, refl, sym, ap, ap₂, subst, ◌∙◌, List, [], ◌∷◌}
-use Rattle.std.proofs.Common.{◌++◌, map, Option, Some, None, true≢false}
+use Rattle.std.proofs.Common.{◌++◌, cond, is_some, map, Option, Some, None, true≢false}
 use Rattle.std.specs.Str.{bytes_eq}
 use Rattle.std.proofs.lemmas.Option.{none-some, same_Some}
 use Rattle.sp_base.proofs.Facts.{and_with_false, and_with_true, first_true, or_with_false, or_with_true, second_true}
@@ -10,7 +10,7 @@ use Rattle.clap.specs.Kinds.{Kinds, or_else}
 use Rattle.clap.specs.Faults.{settle_fault, turn_fault, use_fault, walk_fault, word_fault}
 use Rattle.clap.specs.declared.builder.value_parser.ValueParser.TheVariants as vp
 use Rattle.sp_words.specs.Dashes.{WordItem, Text, after_dash, by_form, contains, file, first_item, form_of, given}
-use Rattle.sp_words.specs.Dashes.{items, journal, name_of, value_of, with_value}
+use Rattle.sp_words.specs.Dashes.{items, journal, name_of, value_of}
 use Rattle.sp_words.specs.Words.{journal_first}
 use Rattle.sp_words.specs.declared.form.Form.{Form}
 use Rattle.sp_words.specs.declared.form.Form.TheVariants.{Plain, End, Whole, Open, Stray}
@@ -509,7 +509,7 @@ rest_step name os free rows p met word words is Stray known m u e ahead = absurd
 wait_step : (name : Text) (os : Parsers) (rows : List Row) (n : Text) (met : Met) (word : Text) (words : List Text)
     (is : List WordItem) (dash : Option Text)
     → IsOption os n → has_file met ≡ has_row file_id rows → after_dash word ≡ dash
-    → with_value n word dash (items (names os) None words) ≡ Some is → Ahead name os words
+    → cond (is_some dash) None (first_item (given n word) (items (names os) None words)) ≡ Some is → Ahead name os words
     → Goal name os rows (wants rows n met) true rows (word ∷ words) (arranged os.0 met is)
 wait_step name os rows n met word words is (Some tail) o m d e ahead = absurd (none-some is e)
 wait_step name os rows n met word words is None o m d e ahead =

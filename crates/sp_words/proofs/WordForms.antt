@@ -2,10 +2,11 @@
 use Rattle.std.proofs.Common.{◌≡◌, ◌==◌, ◌&&◌, ℕ, Bool, true, false, refl, ap, ap₂, ◌∙◌, ◌⊎◌, inl, inr, List, [], ◌∷◌}
 use Rattle.std.proofs.Common.{Option, Some, None, eqb-true, cond}
 use Rattle.std.specs.List.{after_first, list_any}
+use Rattle.std.specs.Option.{option_map_or}
 use Rattle.std.specs.Str.{bytes_eq}
 use Rattle.clap.specs.Lexer.{long_of, short_of}
-use Rattle.sp_words.specs.Dashes.{Text, after_dash, contains, form_by_value, form_of, form_of_option, form_of_rest}
-use Rattle.sp_words.specs.Dashes.{form_of_tail, form_of_text, name_and_value, name_of, value_of}
+use Rattle.sp_words.specs.Dashes.{Text, after_dash, contains, form_of, form_of_option, form_of_text, name_and_value}
+use Rattle.sp_words.specs.Dashes.{name_of, value_of}
 use Rattle.sp_words.specs.declared.form.Form.{Form}
 use Rattle.sp_words.specs.declared.form.Form.TheVariants.{Plain, End, Whole, Open, Stray}
 
@@ -60,7 +61,7 @@ long_word_of x y z zs d e = rw (d, e) refl
 by_value : (options : List Text) (word : Text) (value : Option Text) → bytes_eq word dashes ≡ false
     → long_of word ≡ Some (name_of word, value)
     → (value ≡ None) ⊎ (value ≡ Some (value_of word)) → contains options (name_of word) ≡ true
-    → ReadsWord options word (form_by_value value)
+    → ReadsWord options word (option_map_or (λ v. Whole) value Open)
 by_value options word None not_end long cases known = record { not_end = not_end; long = long; known = known }
 by_value options word (Some v) not_end long cases known = elim cases [
   | inl none ↦ absurd (some≢none v none)
@@ -81,7 +82,8 @@ by_name : (options : List Text) (x y z : ℕ) (zs : Text) → (x == 45) ≡ true
 by_name options x y z zs d e = go (contains options (name_and_value (z ∷ zs)).0) refl
   where
     go : (b : Bool) → contains options (name_and_value (z ∷ zs)).0 ≡ b
-        → ReadsWord options (x ∷ y ∷ z ∷ zs) (cond b (form_by_value (name_and_value (z ∷ zs)).1) Stray)
+        → ReadsWord options (x ∷ y ∷ z ∷ zs)
+        (cond b (option_map_or (λ v. Whole) (name_and_value (z ∷ zs)).1 Open) Stray)
     go false k = tt
     go true k = by_value options (x ∷ y ∷ z ∷ zs) (name_and_value (z ∷ zs)).1 (not_end_of x y z zs)
         (long_word_of x y z zs d e)
@@ -93,11 +95,12 @@ two_dashes options x y [] d e = ap₂ (λ a b. a ∷ b ∷ []) (eqb-true _ _ d) 
 two_dashes options x y (z ∷ zs) d e = by_name options x y z zs d e
 
 one_dash : (options : List Text) (x : ℕ) (xs : Text) → (x == 45) ≡ true
-    → ReadsWord options (x ∷ xs) (form_of_tail options (after_dash xs))
+    → ReadsWord options (x ∷ xs) (option_map_or (form_of_text options) (after_dash xs) Stray)
 one_dash options x [] d = tt
 one_dash options x (y ∷ ys) d = go (y == 45) refl
   where
-    go : (b : Bool) → (y == 45) ≡ b → ReadsWord options (x ∷ y ∷ ys) (form_of_tail options (cond b (Some ys) None))
+    go : (b : Bool) → (y == 45) ≡ b
+        → ReadsWord options (x ∷ y ∷ ys) (option_map_or (form_of_text options) (cond b (Some ys) None) Stray)
     go false e = tt
     go true e = two_dashes options x y ys d e
 
@@ -106,6 +109,10 @@ pub reads_by_form : (options : List Text) (word : Text) → ReadsWord options wo
 reads_by_form options [] = plain_word_of [] refl
 reads_by_form options (x ∷ xs) = go (x == 45) refl
   where
-    go : (b : Bool) → (x == 45) ≡ b → ReadsWord options (x ∷ xs) (form_of_rest options (cond b (Some xs) None))
+    go : (b : Bool) → (x == 45) ≡ b
+        → ReadsWord options (x ∷ xs) (option_map_or
+        (λ tail. option_map_or (form_of_text options) (after_dash tail) Stray)
+        (cond b (Some xs) None)
+        Plain)
     go false d = no_dash x xs d
     go true d = one_dash options x xs d

@@ -2,9 +2,11 @@
 -- How the words after the command are read from left to right: which of them are options, which is their value, and
 -- where a word breaks the dash rule. `command_of` and the contracts of `form` cite it. The rule stands apart from the
 -- kit's parser, since `read_words` decides it before it calls the parser.
-use Rattle.std.specs.Prelude.{◌==◌, ℕ, Bool, List, [], ◌∷◌, Option, Some, None, drop, if◌then◌else◌, map, option_map}
+use Rattle.std.specs.Prelude.{◌==◌, ℕ, Bool, List, [], ◌∷◌, Option, Some, None, drop, if◌then◌else◌, is_some, map}
+use Rattle.std.specs.Prelude.{option_map}
 use Rattle.std.specs.Borrow.{Bor}
 use Rattle.std.specs.List.{after_first, before_first, list_any}
+use Rattle.std.specs.Option.{option_map_or}
 use Rattle.std.specs.Str.{bytes_eq}
 use Rattle.sp_words.specs.declared.form.Form.{Form}
 use Rattle.sp_words.specs.declared.form.Form.TheVariants.{Plain, End, Whole, Open, Stray}
@@ -37,33 +39,19 @@ name_and_value text = (
   if list_any (λ b. b == 61) text then Some (after_first (λ b. b == 61) text) else None,
 )
 
--- `name=value` has its value, and `name` wants it
-abbrev pub form_by_value : Option Text → Form
-form_by_value (Some value) = Whole
-form_by_value None = Open
-
--- the word names an option of the command, by its name and what stands after `=`
+-- the word names an option of the command: `name=value` has its value, and `name` wants it
 abbrev pub form_of_option : List Text → Text × Option Text → Form
-form_of_option options read = if contains options read.0 then form_by_value read.1 else Stray
+form_of_option options read = if contains options read.0 then option_map_or (λ value. Whole) read.1 Open else Stray
 
 -- the text after two dashes
 abbrev pub form_of_text : List Text → Text → Form
 form_of_text options [] = End
 form_of_text options (x ∷ xs) = form_of_option options (name_and_value (x ∷ xs))
 
--- the word behind a first dash: without a second one it names no option
-abbrev pub form_of_tail : List Text → Option Text → Form
-form_of_tail options None = Stray
-form_of_tail options (Some text) = form_of_text options text
-
--- the word by what follows a first dash, if it has one
-abbrev pub form_of_rest : List Text → Option Text → Form
-form_of_rest options None = Plain
-form_of_rest options (Some tail) = form_of_tail options (after_dash tail)
-
--- how a word before `--` reads
+-- how a word before `--` reads: behind a first dash and no second one it names no option
 abbrev pub form_of : List Text → Text → Form
-form_of options word = form_of_rest options (after_dash word)
+form_of options word =
+    option_map_or (λ tail. option_map_or (form_of_text options) (after_dash tail) Stray) (after_dash word) Plain
 
 -- the name in `--name` and in `--name=value`
 abbrev pub name_of : Text → Text
@@ -83,11 +71,6 @@ pub data WordItem : Type 0 where
 abbrev pub first_item : WordItem → Option (List WordItem) → Option (List WordItem)
 first_item item rest = option_map (λ items. item ∷ items) rest
 
--- the value of an option does not begin with a dash
-abbrev pub with_value : Text → Text → Option Text → Option (List WordItem) → Option (List WordItem)
-with_value name word (Some tail) rest = None
-with_value name word None rest = first_item (given name word) rest
-
 -- what a word gives by its form; `rest` reads the words after it, with the option that waits for its value
 abbrev pub by_form : Form → Text → List Text → (Option Text → Option (List WordItem)) → Option (List WordItem)
 by_form Plain word words rest = first_item (file word) (rest None)
@@ -96,9 +79,10 @@ by_form Whole word words rest = first_item (given (name_of word) (value_of word)
 by_form Open word words rest = rest (Some (name_of word))
 by_form Stray word words rest = None
 
--- the items of the words, where they keep the dash rule; an option may wait for its value
+-- the items of the words, where they keep the dash rule; an option may wait for its value, which begins with no dash
 abbrev pub items : List Text → Option Text → List Text → Option (List WordItem)
 items options None [] = Some []
 items options (Some name) [] = None
-items options (Some name) (word ∷ words) = with_value name word (after_dash word) (items options None words)
+items options (Some name) (word ∷ words) =
+    if is_some (after_dash word) then None else first_item (given name word) (items options None words)
 items options None (word ∷ words) = by_form (form_of options word) word words (λ waiting. items options waiting words)

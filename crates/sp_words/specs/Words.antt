@@ -100,15 +100,13 @@ command_with command value = option_and_then (command_from command value) (value
 abbrev pub journal_first : List WordItem → List WordItem
 journal_first [] = []
 journal_first (file word ∷ is) = journal word ∷ is
-journal_first (journal word ∷ is) = journal word ∷ journal_first is
-journal_first (given name value ∷ is) = given name value ∷ journal_first is
+journal_first (i ∷ is) = i ∷ journal_first is
 
 -- the second FILE of these is a JOURNAL
 abbrev pub journal_second : List WordItem → List WordItem
 journal_second [] = []
 journal_second (file word ∷ is) = file word ∷ journal_first is
-journal_second (journal word ∷ is) = journal word ∷ journal_second is
-journal_second (given name value ∷ is) = given name value ∷ journal_second is
+journal_second (i ∷ is) = i ∷ journal_second is
 
 -- only `replay`, `trace` and `where` have a JOURNAL
 abbrev pub has_journal : CommandName → Bool
