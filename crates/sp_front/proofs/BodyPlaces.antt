@@ -121,14 +121,14 @@ module _ (text : List ℕ) (Ok : ℕ → List Token → Type 0) where
 
   from_rising : (n : ℕ) (ts : List Token) → Rising text n ts → Rises ts
   from_rising n [] h = tt
-  from_rising n (t ∷ ts) h = (omega arith, h.1, h.2, h.3)
+  from_rising n (t ∷ ts) (_, inside, is_there, rest) = (omega arith, inside, is_there, rest)
 
   after_first : (t : Token) (ts : List Token) → Rises (t ∷ ts) → t.from < begins ts
   after_first t [] h = h.1
-  after_first t (u ∷ us) h = h.3.0
+  after_first t (u ∷ us) (_, _, _, (is_behind, _, _, _)) = is_behind
 
   rest_rises : (t : Token) (ts : List Token) → Rises (t ∷ ts) → Rises ts
-  rest_rises t ts h = from_rising (suc t.from) ts h.3
+  rest_rises t ts (_, _, _, rest) = from_rising (suc t.from) ts rest
 
   tail_rises : {ts r : List Token} → Tail ts r → Rises ts → Rises r
   tail_rises same h = h
