@@ -32,10 +32,9 @@ none_offered (suc k) x w c e = cc e
 ordered : (es : List Occurrence) → es ≡ one_end → (x : End) → x ≡ end.Done → (v : Verdict) → IsVerdict es x v
     → v ≡ verdict.Ordered
 ordered es e x f verdict.Ordered h = refl
-ordered es e x f (verdict.Race w c i k) h =
-    let r = h.1.1.2.0 in
-    absurd (none_offered k r.second w h.1.1.0
-    (subst (λ ys. slice_get ys k ≡ Some (record { who = r.second; what = Offered w h.1.1.0 })) e
+ordered es e x f (verdict.Race w c i k) (_, (_, (channel, _, (r, _)))) =
+    absurd (none_offered k r.second w channel
+    (subst (λ ys. slice_get ys k ≡ Some (record { who = r.second; what = Offered w channel })) e
     r.offered_second))
 ordered es e x f verdict.Unjudged h = absurd (subst IsFault f h)
 
@@ -77,11 +76,10 @@ no_race (suc (suc i)) k h x y w c e f = no_offer i x w c e
 waits_ordered : (es : List Occurrence) → es ≡ two_entries → (x : End) → (IsFault x → ⊥) → (v : Verdict)
     → IsVerdict es x v → v ≡ verdict.Ordered
 waits_ordered es e x f verdict.Ordered h = refl
-waits_ordered es e x f (verdict.Race w c i k) h =
-    let r = h.1.1.2.0 in
-    absurd (no_race i k r.before r.first r.second w h.1.1.0
-    (subst (λ ys. slice_get ys i ≡ Some (record { who = r.first; what = Offered w h.1.1.0 })) e r.offered_first)
-    (subst (λ ys. slice_get ys k ≡ Some (record { who = r.second; what = Offered w h.1.1.0 })) e r.offered_second))
+waits_ordered es e x f (verdict.Race w c i k) (_, (_, (channel, _, (r, _)))) =
+    absurd (no_race i k r.before r.first r.second w channel
+    (subst (λ ys. slice_get ys i ≡ Some (record { who = r.first; what = Offered w channel })) e r.offered_first)
+    (subst (λ ys. slice_get ys k ≡ Some (record { who = r.second; what = Offered w channel })) e r.offered_second))
 waits_ordered es e x f verdict.Unjudged h = absurd (f h)
 
 pub record WaitsForever (r : Ran) : Type 0 where

@@ -174,6 +174,5 @@ pub ordered_runs_end_alike : {c : Call} {input out notes : List ℕ}
     → Lawful (run_input p input default_limits) (start (run_input p input default_limits)) qs u
     → (length qs ≤ n) × (u.fault ≡ None) × (rest : List Name) × (length (qs ++ rest) ≡ n))
 ordered_runs_end_alike {input = input} o text held r e v =
-    let h = o.promise.headline.meant a_run text (asked o) held input o.input r e in
-    let x = h.0.2 in
-    (h.0.0, h.0.1, x.about.steps, λ qs u l. let k = x.alike v qs u l in (k.bounded, k.no_fault, k.rest, k.full))
+    let ((p, is_program, x), _) = o.promise.headline.meant a_run text (asked o) held input o.input r e in
+    (p, is_program, x.about.steps, λ qs u l. let k = x.alike v qs u l in (k.bounded, k.no_fault, k.rest, k.full))

@@ -45,9 +45,10 @@ module _ {c : Call} {words : List (List ℕ)} {input out notes : List ℕ} (o : 
   pub told_line : (s : ℕ) → c.outcome.status ≡ s → s ≢ 0 → s ≢ 3 → s ≢ 4 → s ≢ 6 → (text : List ℕ)
       → ((x : Ending) → s ≡ status_of x → line_of x ≡ text) → (out ≡ []) × (notes ≡ text)
   told_line s e n0 n3 n4 n6 text line =
-      let l = o.promise.writing.line (λ z. n0 (sym e ∙ z)) (λ z. n3 (sym e ∙ z)) (λ z. n4 (sym e ∙ z))
+      let told = o.promise.writing.line (λ z. n0 (sym e ∙ z)) (λ z. n3 (sym e ∙ z)) (λ z. n4 (sym e ∙ z))
       (λ z. n6 (sym e ∙ z)) in
-      (no_output l.1, whole_notes (line_of l.0.0) l.0.3 ∙ line l.0.0 (sym e ∙ l.0.1))
+      let ((x, status_is, _, wrote), unwritten) = told in
+      (no_output unwritten, whole_notes (line_of x) wrote ∙ line x (sym e ∙ status_is))
 
   pub silent : (s : ℕ) → c.outcome.status ≡ s → s ≢ 0 → s ≢ 3 → s ≢ 4 → s ≢ 6 → out ≡ []
   silent s e n0 n3 n4 n6 =

@@ -87,9 +87,9 @@ module _ (g : CodeRun) where
   behind : (ws : List Told) (s : System Plain) → DescribesEntries g one_end.entries ws s
       → is_live (s.condition 0) ≡ false
   behind [] s h = absurd h
-  behind (w ∷ []) s (u, tells, e) =
+  behind (w ∷ []) s (u, (_, _, turn, _, is_end, after, _), e) =
       subst (λ (x : System Plain). is_live (x.condition 0) ≡ false) (sym e)
-      (subst (λ (x : System Plain). is_live (x.condition 0) ≡ false) (sym tells.5) (gone tells.2 tells.4))
+      (subst (λ (x : System Plain). is_live (x.condition 0) ≡ false) (sym after) (gone turn is_end))
   behind (w ∷ (v ∷ ws)) s h = absurd h.2
 
 -- where no process lives, none is told
