@@ -12,7 +12,7 @@ entries-preserved c =
     let es = c.items-entries.result.now in
     let ws = c.args.tolds.now in
     let i = c.entries.i in
-    let inv = c.entries.invariant in
+    let (_, journal_is, nameable, lines) = c.entries.invariant in
     let kinds = c.args.symbols.now.checked.kinds in
     let constants = c.args.symbols.now.constants in
     let marks = c.args.symbols.now.marks in
@@ -24,15 +24,16 @@ entries-preserved c =
     trace_lines kinds constants marks (i + 1) (births (take (i + 1) es)) (drop (i + 1) es) (drop (i + 1) ws) in
     let line = trace_line kinds constants marks i (births (take i es)) entry told in (
       c.in_ok-add.ensures.ledger,
-      kept_whole es i l c.entries.ledger.journal.entries c.add.new.self.journal.entries inv.1 c.in_ok-add.ensures.added,
-      still_nameable es i any_entry l inv.2,
+      kept_whole es i l c.entries.ledger.journal.entries c.add.new.self.journal.entries journal_is
+          c.in_ok-add.ensures.added,
+      still_nameable es i any_entry l nameable,
       λ kept.
           let p = c.put_line.ensures kept in
           put_one c.entries.out.items.items c.put_line.new.out.items.items
           (trace_lines kinds constants marks i (births (take i es)) (drop i es) (drop i ws)) line rest
           (trace_text kinds constants marks es ws)
           (p.1 ∙ ap (λ (xs : List Entry). c.entries.out.items.items
-          ++ trace_line kinds constants marks i (births xs) entry told) inv.1) (inv.3 p.0)
+          ++ trace_line kinds constants marks i (births xs) entry told) journal_is) (lines p.0)
           (lines_more kinds constants marks es ws i any_entry told l m
           ∙ ap (λ w. trace_line kinds constants marks i (births (take i es)) entry w ++ rest)
           (sym c.index-tolds-i.is)),
@@ -43,7 +44,7 @@ returns c =
     let es = c.items-entries.result.now in
     let ws = c.args.tolds.now in
     let i = c.entries.i in
-    let inv = c.entries.invariant in
+    let (_, _, _, lines) = c.entries.invariant in
     let kinds = c.args.symbols.now.checked.kinds in
     let constants = c.args.symbols.now.constants in
     let marks = c.args.symbols.now.marks in
@@ -52,4 +53,4 @@ returns c =
     ∙ ap (λ (xs : List ℕ). c.entries.out.items.items ++ xs)
     (sym (lines_over kinds constants marks es ws i (births (take i es))
     (omega (arith, c.entries-test.false, c.min-i-end.ensures))))
-    ∙ inv.3 kept ∙ ap (λ (xs : List Entry). trace_text kinds constants marks xs ws) c.items-entries.ensures)
+    ∙ lines kept ∙ ap (λ (xs : List Entry). trace_text kinds constants marks xs ws) c.items-entries.ensures)
