@@ -166,7 +166,8 @@ module _ (f : Files) (s : Stream) (reports : Reports) (w : Option Command) (a : 
     )
 
     long_keeps : (c : Command) → w ≡ Some c → IsLongCode f c a → AcceptedFor d text
-    long_keeps c u h = let k = long_code c u h in build_keeps d text k.0 (code_text_keeps text k.1.0 k.1.1)
+    long_keeps c u h = let (builds, (out, is_text, _)) = long_code c u h in
+        build_keeps d text builds (code_text_keeps text out is_text)
 
     breaks : (c : Command) → w ≡ Some c → (h : IsRefusedFor f c a) → FirstBrokenFor d text h.refusal
     breaks c u h = subst (λ (x : Command). FirstBrokenFor x text h.refusal) (one_command w d c v u)

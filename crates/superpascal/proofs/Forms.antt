@@ -73,8 +73,8 @@ build_keeps _ _ _ k = k
 -- a code file is not too long
 pub build_short : (l : Laws) (d : Command) (text out line : List ℕ) → asks_build d → Makes d text out line
     → HasLongCode text → ⊥
-build_short l (command.Build file) text out line q m (other, has, long) = apart out other
-    (l.code_text text out other m.0.0 has) m.0.1 long
+build_short l (command.Build file) text out line q ((is_text, short), _) (other, has, long) = apart out other
+    (l.code_text text out other is_text has) short long
   where
     apart : (a b : List ℕ) → a ≡ b → length a ≤ 67108864 → 67108864 < length b → ⊥
     apart a b e h k = let i : length a ≡ length b = ap length e in omega arith

@@ -59,7 +59,7 @@ pub record Laws : Type 0 where
 
 module _ (l : Laws) (text : List ℕ) where
   one_length : (a b : Refusal) → BreaksLength text a → BreaksLength text b → a ≡ b
-  one_length a b x y = x.3 ∙ sym y.3
+  one_length a b (_, _, _, x) (_, _, _, y) = x ∙ sym y
 
   -- a text breaks one rule first
   pub one_rule : (a b : Refusal) → FirstBroken text a → FirstBroken text b → a ≡ b
@@ -71,8 +71,9 @@ module _ (l : Laws) (text : List ℕ) where
   -- and none where it is kept
   pub kept_or : (r : Refusal) → IsAcceptedText text → FirstBroken text r → ⊥
   kept_or r k (inl x) = l.accepted_or text k.0 r k.1 x
-  kept_or r k (inr x) = too_many (tree_length (without_places k.0)) (tree_length (without_places x.0))
-      (ap (λ (p : c.Program). tree_length (without_places p)) (l.tree text k.0 x.0 k.1.0 x.1.0)) k.2 x.2
+  kept_or r (p, (has_tree, _), short) (inr (q, (also, _), long, _)) =
+      too_many (tree_length (without_places p)) (tree_length (without_places q))
+      (ap (λ (p : c.Program). tree_length (without_places p)) (l.tree text p q has_tree also)) short long
     where
       too_many : (m n : ℕ) → m ≡ n → m ≤ 1048576 → 1048576 < n → ⊥
       too_many m n e h k = omega arith
@@ -101,13 +102,13 @@ module _ (l : Laws) (text : List ℕ) where
   made_once (command.Code file) a b n m x y = (l.listing text a b x.0 y.0, x.1 ∙ sym y.1)
   made_once (command.Sets file) a b n m x y = (one_sets a b x.0 y.0, x.1 ∙ sym y.1)
   made_once (command.Format file) a b n m x y = (l.layout text a b x.0 y.0, x.1 ∙ sym y.1)
-  made_once (command.Build file) a b n m x y = (l.code_text text a b x.0.0 y.0.0, x.1 ∙ sym y.1)
+  made_once (command.Build file) a b n m ((of_a, _), x) ((of_b, _), y) = (l.code_text text a b of_a of_b, x ∙ sym y)
   made_once _ _ _ _ _ x _ = absurd x
 
   -- a text that is kept is disjoint
   pub disjoint_text : IsAcceptedText text → IsDisjointText text
-  disjoint_text k p (tree, is, same) g e = l.disjoint text k.0 k.1 g (e
-      ∙ (sym same ∙ ap without_places (l.tree text tree k.0 is k.1.0)))
+  disjoint_text (t, accepted, _) p (tree, is, same) g e = let (is_checked, _) = accepted in
+      l.disjoint text t accepted g (e ∙ (sym same ∙ ap without_places (l.tree text tree t is is_checked)))
 
 -- a text with a code breaks no rule
 pub code_text_keeps : (text out : List ℕ) → HasCodeText text out → IsAcceptedText text
@@ -116,10 +117,10 @@ code_text_keeps text out h = (h.0, h.1, h.2)
 -- of a text of which the command makes something it refuses none
 pub made_keeps : (d : Command) (text out line : List ℕ) → Makes d text out line → AcceptedFor d text
 made_keeps (command.Check file) text out line m = m.0
-made_keeps (command.Code file) text out line m = (m.0.0, m.0.1, m.0.2)
-made_keeps (command.Sets file) text out line m = (m.0.0, m.0.1)
+made_keeps (command.Code file) text out line ((p, accepted, short, _, _, _), _) = (p, accepted, short)
+made_keeps (command.Sets file) text out line ((p, is_checked, _, _, _), _) = (p, is_checked)
 made_keeps (command.Format file) text out line m = (out, m.0)
-made_keeps (command.Build file) text out line m = code_text_keeps text out m.0.0
+made_keeps (command.Build file) text out line ((is_text, _), _) = code_text_keeps text out is_text
 made_keeps _ _ _ _ m = absurd m
 
 pub made_asks : (d : Command) (text out line : List ℕ) → Makes d text out line → asks_text d

@@ -89,8 +89,8 @@ module _ (law : ReadyLaw) (code : Parts) (input : List ℕ) (workers : ℕ) (lim
     pub ready_if : ((text : List ℕ) × (t : c.Program) × HasCode text t code) → (r : Result Ran Memory)
         → IfOk r (λ e. Meant read held e) → IfOk r IsReadyRun
     ready_if some (Ok e) meant =
-        let x = ready_held some in
-        (run_input x.0 read lim, x.1, x.2, workers, x.3.ready, meant x.0 x.1 x.2 x.3)
+        let (program, moves, shares, is_ready) = ready_held some in
+        (run_input program read lim, moves, shares, workers, is_ready.ready, meant program moves shares is_ready)
     ready_if some (Err x) meant = tt
 
     pub is_run_if : RaceLaw → (r : Result Ran Memory) → IfOk r (λ e. Meant read held e)

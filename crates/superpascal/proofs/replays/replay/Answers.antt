@@ -9,17 +9,19 @@ use Rattle.superpascal.proofs.ReplayFacts.{replay_unread, replay_unready}
 use Rattle.superpascal.proofs.replays.replay.Goals as goal
 
 pub account-requires-clause-code : goal.account-requires-clause-code
-account-requires-clause-code g c = let h = c.in_ok-ready.ensures.ready in (h.0, h.2, h.3)
+account-requires-clause-code g c =
+    let (text, _, tree, has_code, _) = c.in_ok-ready.ensures.ready in
+    (text, tree, has_code)
 
 pub account-requires-clause-nameable : goal.account-requires-clause-nameable
 account-requires-clause-nameable g c = c.in_ok-journal.ensures.2.text.nameable
 
 pub tell_replay-requires : goal.tell_replay-requires
 tell_replay-requires g c =
-    let h = c.in_ok-ready.ensures.ready in
+    let (text, _, tree, has_code, has_teller) = c.in_ok-ready.ensures.ready in
     record {
       lines = account_ends c.args.asked.now.view _ _ _ _ c.in_ok-account.account
-          (c.in_ok-account.ensures h.0 h.2 c.args.asked.now.view h.3 h.4);
+          (c.in_ok-account.ensures text tree c.args.asked.now.view has_code has_teller);
     }
 
 pub returns-in_err-ready : goal.returns-in_err-ready
@@ -30,7 +32,7 @@ returns-in_err-ready g c = λ reports.
 
 pub returns-in_err-journal : goal.returns-in_err-journal
 returns-in_err-journal g c = λ reports.
-    let h = c.in_ok-ready.ensures.ready in
+    let (text, known, tree, has_code, has_teller) = c.in_ok-ready.ensures.ready in
     let name = c.args.asked.now.journal in
     let f : Files = files_of g.L.Library.held g.L.Library.faults c.args.library.now c.prepare_journal.new.library in
     let after : Files = files_of g.L.Library.held g.L.Library.faults c.ready.new.library
@@ -38,13 +40,13 @@ returns-in_err-journal g c = λ reports.
     let r = c.from_residual-in_err-journal.result in
     at_exit (AnswersCommand _ _ reports (command_of_replay c.args.asked.now)) r _
     (err_from_is_err_and r c.from_residual-in_err-journal.ensures.1)
-    (replay_unread _ _ reports c.args.asked.now h.0 h.1 h.2 c.in_ok-ready.ready.code h.3 (refl, refl) _
+    (replay_unread _ _ reports c.args.asked.now text known tree c.in_ok-ready.ready.code has_code (refl, refl) _
     (journal_under f after name (c.in_ok-ready.ensures.unchanged name) (c.in_ok-ready.ensures.counted name) refl (Err _)
     c.in_err-journal.ensures))
 
 pub returns-in_err-input : goal.returns-in_err-input
 returns-in_err-input g c = λ reports.
-    let h = c.in_ok-ready.ensures.ready in
+    let (text, known, tree, has_code, has_teller) = c.in_ok-ready.ensures.ready in
     let name = c.args.asked.now.journal in
     let f : Files = files_of g.L.Library.held g.L.Library.faults c.args.library.now c.prepare_journal.new.library in
     let after : Files = files_of g.L.Library.held g.L.Library.faults c.ready.new.library
@@ -54,12 +56,12 @@ returns-in_err-input g c = λ reports.
     let r = c.from_residual-in_err-input.result in
     at_exit (AnswersCommand _ _ reports (command_of_replay c.args.asked.now)) r _
     (err_from_is_err_and r c.from_residual-in_err-input.ensures.1)
-    (replay_no_input _ _ reports c.args.asked.now h.0 h.1 h.2 c.in_ok-ready.ready.code h.3 j.0 j.1
+    (replay_no_input _ _ reports c.args.asked.now text known tree c.in_ok-ready.ready.code has_code j.0 j.1
     c.in_ok-journal.journal j.2 _ c.in_err-input.ensures)
 
 pub returns-in_err-account : goal.returns-in_err-account
 returns-in_err-account g c = λ reports.
-    let h = c.in_ok-ready.ensures.ready in
+    let (text, known, tree, has_code, has_teller) = c.in_ok-ready.ensures.ready in
     let name = c.args.asked.now.journal in
     let f : Files = files_of g.L.Library.held g.L.Library.faults c.args.library.now c.prepare_journal.new.library in
     let after : Files = files_of g.L.Library.held g.L.Library.faults c.ready.new.library
@@ -69,19 +71,20 @@ returns-in_err-account g c = λ reports.
     let r = c.from_residual-in_err-account.result in
     at_exit (AnswersCommand _ _ reports (command_of_replay c.args.asked.now)) r _
     (err_from_is_err_and r c.from_residual-in_err-account.ensures.1)
-    (replay_unfit _ _ reports c.args.asked.now h.0 h.1 h.2 c.in_ok-ready.ready.code h.3 j.0 j.1
+    (replay_unfit _ _ reports c.args.asked.now text known tree c.in_ok-ready.ready.code has_code j.0 j.1
     c.in_ok-journal.journal j.2 c.in_ok-input.input c.in_ok-input.ensures _
-    (c.in_err-account.ensures h.0 h.2 c.args.asked.now.view h.3 h.4))
+    (c.in_err-account.ensures text tree c.args.asked.now.view has_code has_teller))
 
 pub returns : goal.returns
 returns g c = λ reports.
-    let h = c.in_ok-ready.ensures.ready in
+    let (text, known, tree, has_code, has_teller) = c.in_ok-ready.ensures.ready in
     let name = c.args.asked.now.journal in
     let f : Files = files_of g.L.Library.held g.L.Library.faults c.args.library.now c.prepare_journal.new.library in
     let after : Files = files_of g.L.Library.held g.L.Library.faults c.ready.new.library
     c.prepare_journal.new.library in
     let j = journal_under f after name (c.in_ok-ready.ensures.unchanged name) (c.in_ok-ready.ensures.counted name) refl
     (Ok c.in_ok-journal.journal) c.in_ok-journal.ensures in
-    replay_told _ _ reports c.args.asked.now h.0 h.1 h.2 c.in_ok-ready.ready.code h.3 j.0 j.1 c.in_ok-journal.journal
-    j.2 c.in_ok-input.input c.in_ok-input.ensures c.in_ok-account.account
-    (c.in_ok-account.ensures h.0 h.2 c.args.asked.now.view h.3 h.4) c.tell_replay.result c.tell_replay.ensures
+    replay_told _ _ reports c.args.asked.now text known tree c.in_ok-ready.ready.code has_code j.0 j.1
+    c.in_ok-journal.journal j.2 c.in_ok-input.input c.in_ok-input.ensures c.in_ok-account.account
+    (c.in_ok-account.ensures text tree c.args.asked.now.view has_code has_teller) c.tell_replay.result
+    c.tell_replay.ensures

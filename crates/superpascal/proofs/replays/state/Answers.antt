@@ -55,5 +55,6 @@ where_text-requires-clause-stands c = let h = c.requires.code in
 pub where_text-requires-clause-blocks : goal.where_text-requires-clause-blocks
 where_text-requires-clause-blocks c = let h = c.requires.code in
     let same : c.in_ok-try_clone.field-0.value ≡ c.args.code = c.in_ok-try_clone.ensures ∙ c.in_ok-code.ensures.ok in
+    let (_, _, _, is_sound) = c.in_ok-traced.ensures h.0 h.1 (held_code _ _ same h.0 h.1 h.2) in
     subst (λ (x : Parts). HasDistinctBlocks x.layouts) (c.in_ok-try_clone.ensures ∙ sym c.deref.ensures)
-    (c.in_ok-traced.ensures h.0 h.1 (held_code _ _ same h.0 h.1 h.2)).3.blocks
+    is_sound.blocks

@@ -14,8 +14,16 @@ returns-in_err-code g c =
 
 pub returns : goal.returns
 returns g c =
-    let h = c.in_ok-code.ensures.prepared in
-    text_made _ (Code c.args.file.now) c.args.file.now (refl, λ k. k) h.0 h.1 c.in_ok-lines.lines.items
-    c.new.result.items
-    ((h.2, h.3.has.accepted, h.3.has.short, c.in_ok-code.code, h.3.code, c.in_ok-lines.ensures), c.new.ensures.items)
-    c.accepted.result c.accepted.ensures
+    let (text, known, tree, has_code) = c.in_ok-code.ensures.prepared in
+    text_made _ (Code c.args.file.now) c.args.file.now (refl, λ k. k) text known c.in_ok-lines.lines.items
+    c.new.result.items (
+      (
+        tree,
+        has_code.has.accepted,
+        has_code.has.short,
+        c.in_ok-code.code,
+        has_code.code,
+        c.in_ok-lines.ensures,
+      ),
+      c.new.ensures.items,
+    ) c.accepted.result c.accepted.ensures

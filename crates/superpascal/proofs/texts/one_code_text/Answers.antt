@@ -6,7 +6,9 @@ use Rattle.sp_tree.specs.PlainChecked as placed
 use Rattle.superpascal.proofs.texts.one_code_text.Goals as goal
 
 pub returns : goal.returns
-returns c = λ text a b h k.
-    let trees = c.one_answer.ensures.tree text h.0 k.0 h.1.0 k.1.0 in
-    let code = subst (λ (p : placed.Program). IsCodeOf (without_places p) h.3) trees h.4 in
-    h.5.text ∙ ap code_text (c.one_code.ensures (without_places k.0) h.3 k.3 code k.4) ∙ sym k.5.text
+returns c = λ text a b (p, (is_checked, _), _, code_a, is_code_a, is_text_a)
+    (q, (also_checked, _), _, code_b, is_code_b, is_text_b).
+    let trees = c.one_answer.ensures.tree text p q is_checked also_checked in
+    let code = subst (λ (t : placed.Program). IsCodeOf (without_places t) code_a) trees is_code_a in
+    is_text_a.text ∙ ap code_text (c.one_code.ensures (without_places q) code_a code_b code is_code_b)
+    ∙ sym is_text_b.text

@@ -6,7 +6,9 @@ use Rattle.superpascal.proofs.Parts.{at_exit, run_told, run_unread, run_unready,
 use Rattle.superpascal.proofs.top.run.Goals as goal
 
 pub run_prepared-requires-clause-code : goal.run_prepared-requires-clause-code
-run_prepared-requires-clause-code g c κs within = let h = c.in_ok-code.ensures.prepared in (h.0, h.2, h.3)
+run_prepared-requires-clause-code g c κs within =
+    let (text, _, tree, has_code) = c.in_ok-code.ensures.prepared in
+    (text, tree, has_code)
 
 pub returns-in_err-code : goal.returns-in_err-code
 returns-in_err-code g c =
@@ -16,22 +18,23 @@ returns-in_err-code g c =
 
 pub returns-in_err-input : goal.returns-in_err-input
 returns-in_err-input g c =
-    let h = c.in_ok-code.ensures.prepared in
+    let (text, known, tree, has_code) = c.in_ok-code.ensures.prepared in
     let r = c.from_residual-in_err-input.result in
     at_exit (AnswersCommand _ _ _ (command_of_run c.args.asked.now)) r _
     (err_from_is_err_and r c.from_residual-in_err-input.ensures.1)
-    (run_unread _ _ _ c.args.asked.now h.0 h.1 h.2 c.in_ok-code.code h.3 _ c.in_err-input.ensures)
+    (run_unread _ _ _ c.args.asked.now text known tree c.in_ok-code.code has_code _ c.in_err-input.ensures)
 
 pub returns-in_err-ran : goal.returns-in_err-ran
 returns-in_err-ran g c =
-    let h = c.in_ok-code.ensures.prepared in
+    let (text, known, tree, has_code) = c.in_ok-code.ensures.prepared in
     let r = c.from_residual-in_err-ran.result in
     at_exit (AnswersCommand _ _ _ (command_of_run c.args.asked.now)) r _
     (err_from_is_err_and r c.from_residual-in_err-ran.ensures.1)
-    (run_wanting _ _ _ c.args.asked.now h.0 h.1 h.2 c.in_ok-code.code h.3 _ refl)
+    (run_wanting _ _ _ c.args.asked.now text known tree c.in_ok-code.code has_code _ refl)
 
 pub returns : goal.returns
 returns g c =
-    let h = c.in_ok-code.ensures.prepared in
-    run_told _ _ _ c.args.asked.now h.0 h.1 h.2 c.in_ok-code.code h.3 c.in_ok-input.input c.in_ok-input.ensures
-    c.in_ok-ran.ran (c.in_ok-ran.ensures.run h.0 h.2 h.3) c.tell_run.result c.tell_run.ensures
+    let (text, known, tree, has_code) = c.in_ok-code.ensures.prepared in
+    run_told _ _ _ c.args.asked.now text known tree c.in_ok-code.code has_code c.in_ok-input.input
+    c.in_ok-input.ensures c.in_ok-ran.ran (c.in_ok-ran.ensures.run text tree has_code) c.tell_run.result
+    c.tell_run.ensures
