@@ -2,10 +2,10 @@
 -- The live calls of a process as `where` writes them, the innermost first: the block that is called and the place of
 -- the call, and under each its variables. Behind them stand the frames of ancestors of which something moved to the
 -- process.
-use Rattle.std.specs.Prelude.{ℕ, ◌-◌, ◌==◌, nat_le, ◌&&◌, not, List, [], ◌∷◌, ◌++◌, Option, Some, None, Bool, true}
+use Rattle.std.specs.Prelude.{ℕ, ◌-◌, ◌==◌, nat_le, ◌&&◌, not, List, [], ◌∷◌, ◌++◌, Option, Bool, true}
 use Rattle.std.specs.Prelude.{false, if◌then◌else◌, slice_get, drop, filter, codes, length}
 use Rattle.std.specs.List.{list_any}
-use Rattle.sp_tree.specs.PlainChecked.{Block}
+use Rattle.std.specs.Option.{option_map_or}
 use Rattle.sp_cell.specs.declared.spot.Spot.{Spot}
 use Rattle.sp_cell.specs.Map.{Plain}
 use Rattle.sp_code.specs.declared.code.Layout.{Layout}
@@ -15,13 +15,9 @@ use Rattle.sp_base.specs.Places.{place_text}
 use Rattle.sp_where.specs.Places.{part_at}
 use Rattle.sp_where.specs.StateVariables.{Known, first_variable, own_variables, moved_variables}
 
-abbrev pub name_in : Option Block → List ℕ
-name_in None = []
-name_in (Some b) = b.name
-
 -- what a frame is of: a block, or the index of a `forall`
 abbrev pub home_text : Known → Home → List ℕ
-home_text w (OfBlock b) = codes "  " ++ name_in (slice_get w.tree.blocks b)
+home_text w (OfBlock b) = codes "  " ++ option_map_or (λ b. b.name) (slice_get w.tree.blocks b) []
 home_text w (OfIndex x) = codes "  forall"
 
 -- the place of the call that returns first of these: its instruction stands before the one at which it returns
@@ -35,8 +31,7 @@ is_called (OfBlock b) = not (b == 0)
 is_called (OfIndex x) = false
 
 abbrev pub has_variables : Option Layout → Bool
-has_variables None = false
-has_variables (Some l) = not (length l.variables == 0)
+has_variables l = option_map_or (λ l. not (length l.variables == 0)) l false
 
 -- a call and an index are always shown, the program's frame if the program has variables
 abbrev pub is_shown : Known → Home → Bool

@@ -6,6 +6,7 @@ use Rattle.std.specs.Prelude.{ℕ, suc, ◌+◌, ◌==◌, ◌&&◌, List, [], �
 use Rattle.std.specs.Prelude.{if◌then◌else◌, slice_get, drop, codes}
 use Rattle.std.specs.List.{list_any}
 use Rattle.std.specs.FinMap as map
+use Rattle.std.specs.Option.{option_map_or}
 use Rattle.sp_tree.specs.declared.checked.Variable.{Variable}
 use Rattle.sp_tree.specs.PlainChecked.{Program}
 use Rattle.sp_journal.specs.Births.{Births}
@@ -47,13 +48,11 @@ content_line w v o (Some (Output bs)) = []
 content_line w v o (Some Away) = codes "    " ++ v.name ++ codes " away\n"
 
 abbrev pub named_line : Known → Plain → Address → Option Variable → List ℕ
-named_line w m a None = []
-named_line w m a (Some v) = content_line w v a.offset (map.get m.map a.spot)
+named_line w m a v = option_map_or (λ v. content_line w v a.offset (map.get m.map a.spot)) v []
 
 -- variable x of the tree, if it stands somewhere
 abbrev pub variable_line : Known → Plain → ℕ → Option Address → List ℕ
-variable_line w m x None = []
-variable_line w m x (Some a) = named_line w m a (slice_get w.tree.variables x)
+variable_line w m x at = option_map_or (λ a. named_line w m a (slice_get w.tree.variables x)) at []
 
 -- ---- the variables of a frame
 
@@ -87,17 +86,13 @@ first_variable (OfBlock b) = if b == 0 then 2 else 0
 first_variable (OfIndex x) = 0
 
 abbrev pub own_by_layout : Known → Plain → Frame → Option Layout → List ℕ
-own_by_layout w m f None = []
-own_by_layout w m f (Some l) = own_lines w m f l.formals (first_variable f.home) l.variables
+own_by_layout w m f l = option_map_or (λ l. own_lines w m f l.formals (first_variable f.home) l.variables) l []
 
 abbrev pub own_variables : Known → Plain → Frame → Home → List ℕ
 own_variables w m f (OfBlock b) = own_by_layout w m f (layout_of w.code.layouts b)
 own_variables w m f (OfIndex x) = own_lines w m f [] 0 (x ∷ [])
 
-abbrev pub moved_by_layout : Known → Plain → List Spot → Frame → Option Layout → List ℕ
-moved_by_layout w m ss f None = []
-moved_by_layout w m ss f (Some l) = moved_lines w m ss f (first_variable f.home) l.variables
-
 abbrev pub moved_variables : Known → Plain → List Spot → Frame → Home → List ℕ
-moved_variables w m ss f (OfBlock b) = moved_by_layout w m ss f (layout_of w.code.layouts b)
+moved_variables w m ss f (OfBlock b) =
+    option_map_or (λ l. moved_lines w m ss f (first_variable f.home) l.variables) (layout_of w.code.layouts b) []
 moved_variables w m ss f (OfIndex x) = moved_lines w m ss f 0 (x ∷ [])

@@ -3,7 +3,7 @@
 -- it its calls and variables. A process that works is at its next instruction; one that waits, joins or was laid is at
 -- the instruction at which its last turn ended. Shown is the place of the statement, and for the process that met the
 -- fault that of the part of the statement.
-use Rattle.std.specs.Prelude.{ℕ, ◌==◌, List, [], ◌∷◌, ◌++◌, Option, Some, None, Bool, true, false, if◌then◌else◌}
+use Rattle.std.specs.Prelude.{ℕ, ◌==◌, List, [], ◌++◌, Option, Some, None, Bool, true, false, if◌then◌else◌}
 use Rattle.std.specs.Prelude.{slice_get, filter, codes}
 use Rattle.std.specs.List.{flat_map}
 use Rattle.sp_base.specs.declared.fault.Fault.{Fault}
@@ -11,8 +11,6 @@ use Rattle.sp_base.specs.declared.place.Place.{Place}
 use Rattle.sp_base.specs.declared.name.ProcName.{ProcName}
 use Rattle.sp_base.specs.Faults.{fault_name}
 use Rattle.sp_base.specs.Names.{name_text}
-use Rattle.sp_journal.specs.declared.entry.Event.{Event}
-use Rattle.sp_journal.specs.declared.entry.Event.TheVariants as event
 use Rattle.sp_journal.specs.declared.entry.Entry.{Entry}
 use Rattle.sp_journal.specs.Births.{Births}
 use Rattle.sp_journal.specs.Queue.{numbers}
@@ -22,6 +20,7 @@ use Rattle.sp_code.specs.declared.instr.Instr.TheVariants as i
 use Rattle.sp_code.specs.Machine.{Stop, Sends, Receives, Config, At}
 use Rattle.sp_code.specs.Memory.{Memory}
 use Rattle.sp_code.specs.System.{Condition, Absent, Working, Waits, Joins, Laid, Gone, Over}
+pub use Rattle.sp_kernel.specs.Faults.{fault_in}
 use Rattle.sp_machine.specs.Calls.{returns}
 use Rattle.sp_report.specs.InOrder.{NamedProcess, sorted_by_name}
 use Rattle.sp_shown.specs.JumpTargets.{landing}
@@ -40,20 +39,6 @@ abbrev pub is_end : Option Instr → Bool
 is_end (Some i.End) = true
 is_end (Some i.Return) = true
 is_end _ = false
-
--- what a process does that works, at this instruction
-abbrev pub running_words : Option Instr → List ℕ
-running_words o = if is_end o then codes "runs to its end\n" else codes "runs\n"
-
--- the process that met a fault, and the fault
-abbrev pub fault_by : ℕ → Event → Option (ℕ × Fault) → Option (ℕ × Fault)
-fault_by q (event.Fault f) later = Some (q, f)
-fault_by _ _ later = later
-
--- the first in a journal
-abbrev pub fault_in : List Entry → Option (ℕ × Fault)
-fault_in [] = None
-fault_in (e ∷ es) = fault_by e.process e.event (fault_in es)
 
 -- the process has not ended
 abbrev pub is_live : Condition Plain → Bool
@@ -76,7 +61,8 @@ lines_below _ _ _ = []
 -- a process that works, and goes on at this instruction
 abbrev pub working_line : Known → ProcName → ℕ → List ℕ
 working_line w name pc = line_start name (statement_at w.marks (landing w.code.instrs pc))
-    ++ running_words (slice_get w.code.instrs (landing w.code.instrs pc))
+    ++ if is_end (slice_get w.code.instrs (landing w.code.instrs pc)) then codes "runs to its end\n"
+    else codes "runs\n"
 
 -- one that waits at an offer; none waits at another stop. last: the instruction at which its last turn ended
 abbrev pub waiting_line : Known → ProcName → (last : ℕ) → Stop → List ℕ

@@ -1,7 +1,8 @@
 -- All of this belongs to what the program promises (docs/promise.txt).
 -- The text of `trace`: each entry of a journal on a line of its own, with the place in the text of what made it, and
 -- the value that passes there. Processes and channels have their names as in the journal.
-use Rattle.std.specs.Prelude.{ℕ, ◌+◌, List, [], ◌∷◌, ◌++◌, Option, Some, None, codes, decimal}
+use Rattle.std.specs.Option.{option_map_or}
+use Rattle.std.specs.Prelude.{ℕ, ◌+◌, List, [], ◌∷◌, ◌++◌, Option, None, codes, decimal}
 use Rattle.sp_base.specs.declared.place.Place.{Place}
 use Rattle.sp_tree.specs.declared.checked.KindOf.{KindOf}
 use Rattle.sp_journal.specs.declared.entry.Entry.{Entry}
@@ -30,8 +31,7 @@ passed _ _ = None
 
 -- the message that passes, if one does, behind a space
 abbrev pub message_text : List KindOf → List (List (List ℕ)) → Births → Option (ℕ × List Cell) → List ℕ
-message_text kinds constants s None = []
-message_text kinds constants s (Some m) = codes " " ++ value_text kinds constants s m.0 m.1
+message_text kinds constants s m = option_map_or (λ m. codes " " ++ value_text kinds constants s m.0 m.1) m []
 
 module _ (kinds : List KindOf) (constants : List (List (List ℕ))) (marks : List Mark) where
   -- the line of entry i, as `3 1:125 0/0.1 send 0#0 1`

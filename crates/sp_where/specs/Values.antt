@@ -33,14 +33,10 @@ constant_text names n = first_or (signed_decimal n) (constant_in names n)
 
 -- a number by its type, whose constants have these names
 abbrev pub ordinal_text : List (List ℕ) → Option KindOf → ℤ → List ℕ
-ordinal_text names None n = signed_decimal n
-ordinal_text names (Some kind.Integer) n = signed_decimal n
 ordinal_text names (Some kind.Boolean) n = truth_text n
 ordinal_text names (Some kind.Char) n = char_text n
 ordinal_text names (Some (kind.Enumeration m)) n = constant_text names n
-ordinal_text names (Some (kind.Array low high index element)) n = signed_decimal n
-ordinal_text names (Some (kind.Fields fs)) n = signed_decimal n
-ordinal_text names (Some (kind.Channel ks)) n = signed_decimal n
+ordinal_text _ _ n = signed_decimal n
 
 -- a channel's name; where no entry has opened it, as no run has it, its number
 abbrev pub cell_channel_text : Births → ℕ → List ℕ
