@@ -56,6 +56,10 @@ line_of (e.BadCode n) = codes "bad code " ++ decimal n ++ codes "\n"
 line_of (e.Rejected v i) = codes "rejected V" ++ decimal (number (rule_of v)) ++ codes " " ++ decimal i ++ codes "\n"
 line_of _ = []
 
+-- an answer by its parts
+abbrev pub answer_of : Ending → Option Ran → Option Closed → Option (List ℕ) → List ℕ → Answer
+answer_of x ran run output notes = record { ending = x; ran = ran; executed = run; output = output; notes = notes }
+
 -- the notes: those of the run, of the refusal, of the journal or of the code, or a line that is the same for every text
 abbrev pub notes_by : Ending → List ℕ → List ℕ
 notes_by e.BadWords notes = line_of e.BadWords

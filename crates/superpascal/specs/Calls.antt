@@ -55,17 +55,9 @@ pub record Call : Type 0 where
   pub notes : Sink
   pub outcome : Outcome
 
+-- a call by its parts
 abbrev pub call : List (List ℕ) → Files → Stream → Reports → Sink → Sink → Outcome → Call
-call words files source reports output notes outcome =
-    record {
-      words = words;
-      files = files;
-      source = source;
-      reports = reports;
-      output = output;
-      notes = notes;
-      outcome = outcome;
-    }
+call w f s r o n x = record { words = w; files = f; source = s; reports = r; output = o; notes = n; outcome = x }
 
 -- of the run that the words ask for, and its text, where the library tells it
 abbrev pub OfRun : Call → (RunRequest → List ℕ → Type 0) → Type 0

@@ -12,6 +12,7 @@ use Rattle.sp_runner.specs.Ends.{EndsWith}
 use Rattle.sp_tree.specs.Bare.{without_places}
 use Rattle.sp_tree.specs.PlainChecked as c
 use Rattle.superpascal.specs.declared.ending.Answer.{Answer}
+use Rattle.superpascal.specs.Answers.{answer_of}
 use Rattle.superpascal.specs.Runs.{HasTree, ending_of}
 use Rattle.superpascal.specs.Texts.{IsCodeFile, IsFileOf}
 
@@ -31,10 +32,4 @@ pub record IsExecutionOf (bytes input : List ℕ) (limits : Limits) (r : Closed)
 
 -- the answer of `exec` with this run: its output, and the lines of its end
 abbrev pub execution_answer : Closed → Answer
-execution_answer r = record {
-  ending = ending_of r.end;
-  ran = None;
-  executed = Some r;
-  output = None;
-  notes = end_text r.end;
-}
+execution_answer r = answer_of (ending_of r.end) None (Some r) None (end_text r.end)

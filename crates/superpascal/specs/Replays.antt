@@ -1,6 +1,7 @@
 -- All of this belongs to what the program promises (docs/promise.txt).
 -- The program of a text along a journal, and what is told of it. The contracts of `replays` and `notes` promise it; the
 -- clauses on `replay`, `trace` and `where` and the written texts are said by it.
+use Rattle.std.specs.Option.{option_map_or}
 use Rattle.std.specs.Prelude.{◌≡◌, ℕ, ◌≤◌, List, ◌++◌, Option, Some, None, codes, length}
 use Rattle.sp_base.specs.declared.limits.Limits.{Limits}
 use Rattle.sp_execute.specs.Follows.{IsFollowed, IsUnfitAt}
@@ -18,7 +19,7 @@ use Rattle.sp_words.specs.declared.command.View.TheVariants as view
 use Rattle.superpascal.specs.declared.ending.Ending.{Ending}
 use Rattle.superpascal.specs.declared.ending.Ending.TheVariants as e
 use Rattle.superpascal.specs.declared.ending.Answer.{Answer}
-use Rattle.superpascal.specs.Answers.{line_of}
+use Rattle.superpascal.specs.Answers.{answer_of, line_of}
 use Rattle.superpascal.specs.Runs.{HasTree, ending_of}
 use Rattle.superpascal.specs.Traces.{IsStateOf, IsTraceOf}
 
@@ -42,15 +43,13 @@ pub record IsUnfitFor (text input : List ℕ) (limits : Limits) (j : Journal) (n
 
 -- what a replay comes to is told by this ending of the call
 abbrev pub ending_of_replay : Option End → Ending
-ending_of_replay None = e.NoEnd
-ending_of_replay (Some x) = ending_of x
+ending_of_replay end = option_map_or ending_of end e.NoEnd
 
 -- ---- texts
 
 -- the lines of the end, or that there is none
 abbrev pub lines_of_replay : Option End → List ℕ
-lines_of_replay None = codes "no end\n"
-lines_of_replay (Some x) = end_text x
+lines_of_replay end = option_map_or end_text end (codes "no end\n")
 
 abbrev pub replay_notes : Option End → List ℕ
 replay_notes end = codes "replayed\n" ++ lines_of_replay end
@@ -65,14 +64,8 @@ IsWritten view.State text input limits j r out = IsStateOf text input limits j o
 
 -- the answer where the journal was followed to this end, and this is written of it
 abbrev pub replay_answer : Option End → List ℕ → Answer
-replay_answer end out = record {
-  ending = ending_of_replay end;
-  ran = None;
-  executed = None;
-  output = Some out;
-  notes = replay_notes end;
-}
+replay_answer end out = answer_of (ending_of_replay end) None None (Some out) (replay_notes end)
 
 -- the answer that names a number of the journal, or of the code
 abbrev pub numbered_answer : Ending → Answer
-numbered_answer ending = record { ending = ending; ran = None; executed = None; output = None; notes = line_of ending }
+numbered_answer ending = answer_of ending None None None (line_of ending)

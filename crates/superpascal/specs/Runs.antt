@@ -25,6 +25,7 @@ use Rattle.superpascal.specs.declared.ending.Ending.TheVariants as e
 use Rattle.superpascal.specs.declared.ending.Answer.{Answer}
 use Rattle.superpascal.specs.declared.telling.Telling.{Telling}
 use Rattle.superpascal.specs.declared.telling.Telling.TheVariants as told
+use Rattle.superpascal.specs.Answers.{answer_of}
 
 -- the text has this tree, which breaks no rule, and its code is no longer than code may be
 pub record HasTree (text : List ℕ) (tree : c.Program) : Type 0 where
@@ -95,21 +96,9 @@ output_instead told.Witness r = Some (witness_text r)
 
 -- the answer of `run` or `witness` with this run
 abbrev pub run_answer : Reports → Telling → Ran → Answer
-run_answer reports telling r = record {
-  ending = ending_of r.closed.end;
-  ran = Some r;
-  executed = None;
-  output = output_instead telling r;
-  notes = told_notes reports telling r;
-}
+run_answer reports telling r =
+    answer_of (ending_of r.closed.end) (Some r) None (output_instead telling r) (told_notes reports telling r)
 
 -- the answer of `gen` with this run
 abbrev pub generated_answer : ℕ → Ran → Answer
-generated_answer size r = record {
-  ending = ending_of r.closed.end;
-  ran = Some r;
-  executed = None;
-  output = Some
-      (generated_output size r);
-  notes = [];
-}
+generated_answer size r = answer_of (ending_of r.closed.end) (Some r) None (Some (generated_output size r)) []
