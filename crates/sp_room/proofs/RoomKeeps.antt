@@ -71,9 +71,9 @@ module _ {O A G N : Type 0} (opens : O → Type 0) (steps : O → ℕ → A → 
         → get_elem? u.joined i ≡ some own
         → (notes_by author (u.from + i) log ≡ own) × (x : V) × (get_elem? views (u.from + i) ≡ some x)
         × (x.spent ≡ true)
-    taken_in j u at on i own e = let t = (r.each j u at on).taken_in i own e in
-        let h = there (u.from + i) t.1 t.2 t.3 in
-        (m.others (u.from + i) h.0 ∙ t.0, t.1, h.1, t.3)
+    taken_in j u at on i own e = let (notes_are, taken, at_taken, is_spent) = (r.each j u at on).taken_in i own e in
+        let (else_seat, still_there) = there (u.from + i) taken at_taken is_spent in
+        (m.others (u.from + i) else_seat ∙ notes_are, taken, still_there, is_spent)
 
     other : (j : ℕ) (u : V) → j ≢ id → get_elem? s.views j ≡ some u → u.spent ≡ false
         → SeatKnows author opening log (get_or words 0 0) views j u
@@ -145,14 +145,14 @@ module _ {O A G N : Type 0} (opens : O → Type 0) (steps : O → ℕ → A → 
       × Rattle.atomic_table.specs.Table.Valid s.homes me.1 a × Rule (stepped s 0 n id me.1 w a)
       × Acquires opens steps author (step slots 0 0 flag none) me (turn s)
       (w, Rattle.atomic_table.specs.Table.carried_after me.1 a))
-      (λ free. let t = r.free free in let d : SlotBox O N = t.0 in let k = r.each id me.0 at active in
+      (λ free. let (d, home, notes_are, runs, claimed, fits) = r.free free in let k = r.each id me.0 at active in
       let w : V = holder me.0 d.value.notes.items d.value.reserved in
       let same_claims = claims_set s.views id me.0 w at in let wide = r.wide in
       let now : get_or (set s.words 0 flag) 0 0 ≡ flag = get_or-set_same s.words 0 flag 0 (omega arith) in
       let is : flag ≡ id + 1 = num ∙ ap (λ (n : ℕ). n + 1) k.numbered in (
         w,
         takes 0 (Some d),
-        t.1,
+        home,
         moved s r id me.0 w (set s.words 0 flag) (set s.homes 0 none) r.log r.last record {
           at = at;
           active = active;
@@ -165,9 +165,9 @@ module _ {O A G N : Type 0} (opens : O → Type 0) (steps : O → ℕ → A → 
           looked = refl;
           grows = starts_self r.log;
           others = λ _ _. refl;
-          seen = subst (λ l. StartsWith r.log l) (sym t.2) (starts_self r.log);
+          seen = subst (λ l. StartsWith r.log l) (sym notes_are) (starts_self r.log);
           own = k.own;
-          holds = λ _. (now ∙ is, t.2, omega (arith, same_claims, t.4));
+          holds = λ _. (now ∙ is, notes_are, omega (arith, same_claims, claimed));
           alone = inl free;
           legal = r.legal;
           wide = length-set s.words 0 flag ∙ r.wide;
@@ -182,15 +182,15 @@ module _ {O A G N : Type 0} (opens : O → Type 0) (steps : O → ℕ → A → 
             d,
             ap (λ l. (w, (0, Some d) ∷ l)) bare,
             (
-              subst (λ l. StartsWith l me.0.seen) (sym t.2) k.seen,
-              ap (notes_by author me.0.number) t.2 ∙ (ap (λ n. notes_by author n r.log) k.numbered ∙ k.own),
+              subst (λ l. StartsWith l me.0.seen) (sym notes_are) k.seen,
+              ap (notes_by author me.0.number) notes_are ∙ (ap (λ n. notes_by author n r.log) k.numbered ∙ k.own),
               (λ x is. let same : opening ≡ x = same_Some opening x (sym k.opened ∙ is) in (
                 subst opens same r.fine,
                 subst (λ (z : O × List N). LeadsTo steps z.0 z.1 d.value.object)
-                    (λ i. (same i, sym t.2 i)) t.3,
+                    (λ i. (same i, sym notes_are i)) runs,
               )),
-              omega (arith, claims_has s.views id me.0 at, t.4),
-              omega (arith, ap (λ (l : List N). length l) t.2, t.5),
+              omega (arith, claims_has s.views id me.0 at, claimed),
+              omega (arith, ap (λ (l : List N). length l) notes_are, fits),
             ),
           ),
         ),

@@ -55,38 +55,41 @@ module _ {X Z O N : Type 0} (view : X → View O N) (tab : X → Z) (z : Z) (n :
 
   pub keeps_next : (rest old : List X) (x : X) (v v' : View O N) → old ≡ rest ++ x ∷ [] → HasTakenIn old v
       → v' ≡ view_after_joining v (view x) → Row → HasTakenIn rest v'
-  keeps_next rest old x v v' e k is row = let taken = k.4.0 in
-      let whole : items ≡ rest ++ x ∷ taken = k.4.1 ∙ (ap (λ l. l ++ taken) e ∙ append_assoc rest (x ∷ []) taken) in
+  keeps_next rest old x v v' e (active, idle, from, made, (taken, items_are, owns, seens)) is row =
+      let whole : items ≡ rest ++ x ∷ taken = items_are ∙ (ap (λ l. l ++ taken) e ∙ append_assoc rest (x ∷ []) taken) in
       let s = (popped rest x taken whole row).1 in
       subst (HasTakenIn rest) (sym is) (
-        k.0,
-        k.1,
+        active,
+        idle,
         s.number,
-        k.3,
-        (x ∷ taken, whole, ap (λ l. (view x).own ∷ l) k.4.2, ap (λ l. (view x).seen ∷ l) k.4.3),
+        made,
+        (x ∷ taken, whole, ap (λ l. (view x).own ∷ l) owns, ap (λ l. (view x).seen ∷ l) seens),
       )
 
   pub next_number : (rest old : List X) (x : X) (v : View O N) → old ≡ rest ++ x ∷ [] → HasTakenIn old v → Row
       → (tab x ≡ z)
       × ((view x).number + 1 ≡ v.from)
-  next_number rest old x v e k row = let taken = k.4.0 in
-      let whole : items ≡ rest ++ x ∷ taken = k.4.1 ∙ (ap (λ l. l ++ taken) e ∙ append_assoc rest (x ∷ []) taken) in
+  next_number rest old x v e (_, _, from, _, (taken, items_are, _, _)) row =
+      let whole : items ≡ rest ++ x ∷ taken = items_are ∙ (ap (λ l. l ++ taken) e ∙ append_assoc rest (x ∷ []) taken) in
       let s = popped rest x taken whole row in
-      (s.0, omega (arith, s.1.number, k.2, ap (λ (l : List X). length l) e, length-append rest (x ∷ [])))
+      (s.0, omega (arith, s.1.number, from, ap (λ (l : List X). length l) e, length-append rest (x ∷ [])))
 
   -- where it has taken in all
   pub at_start : (rest : List X) (v : View O N) → length rest ≡ 0 → 0 < length items → n ≡ length items
       → HasTakenIn rest v
       → (v.from ≡ 0) × (v.seats_made ≢ 0) × HasTakenIn [] v
-  at_start [] v none several same k = (k.2, (λ z. absurd (omega (arith, z, k.3, several, same))), k)
+  at_start [] v none several same k = let (_, _, from, made, _) = k in
+      (from, (λ z. absurd (omega (arith, z, made, several, same))), k)
   at_start (x ∷ xs) v none several same k = absurd (omega (arith, none))
 
   pub owns_of : (v : View O N) → HasTakenIn [] v → (k : ℕ) (t : X) → slice_get items k ≡ Some t
       → get_elem? (v.joined ++ v.own ∷ []) k ≡ some (view t).own
-  owns_of v kept k t e = ap (λ l. get_elem? l k) (kept.4.2 ∙ ap (map (λ u. (view u).own)) (sym kept.4.1))
+  owns_of v (_, _, _, _, (_, items_are, owns, _)) k t e =
+      ap (λ l. get_elem? l k) (owns ∙ ap (map (λ u. (view u).own)) (sym items_are))
       ∙ get_mapped (λ u. (view u).own) items t k e
 
   pub seens_of : (v : View O N) → HasTakenIn [] v → (k : ℕ) (t : X) → slice_get items k ≡ Some t
       → get_elem? (v.looked ++ v.seen ∷ []) k ≡ some (view t).seen
-  seens_of v kept k t e = ap (λ l. get_elem? l k) (kept.4.3 ∙ ap (map (λ u. (view u).seen)) (sym kept.4.1))
+  seens_of v (_, _, _, _, (_, items_are, _, seens)) k t e =
+      ap (λ l. get_elem? l k) (seens ∙ ap (map (λ u. (view u).seen)) (sym items_are))
       ∙ get_mapped (λ u. (view u).seen) items t k e

@@ -53,7 +53,8 @@ module _ {O A G N : Type 0} (opens : O → Type 0) (steps : O → ℕ → A → 
     holds = λ h. let t = k.holds h in (t.0, t.1, omega (arith, t.2, less));
     counts = counts;
     joins = k.joins;
-    taken_in = λ i own e. let h = k.taken_in i own e in (h.0, h.1, there (u.from + i) h.1 h.2 h.3, h.3);
+    taken_in = λ i own e. let (notes_are, taken, at_taken, is_spent) = k.taken_in i own e in
+        (notes_are, taken, there (u.from + i) taken at_taken is_spent, is_spent);
     had_seen = k.had_seen;
   }
 
@@ -112,21 +113,22 @@ module _ {O A G N : Type 0} (opens : O → Type 0) (steps : O → ℕ → A → 
         wide = r.wide;
         deep = r.deep;
         count = r.count;
-        free = λ z. let t = r.free z in (t.0, t.1, t.2, t.3, omega (arith, t.4, less), t.5);
-        taken = λ j e. let t = r.taken j e in dite (ℕ_discrete j id)
-            (λ same. let is : t.0 ≡ v = one s.views id t.0 v (ap (get_elem? s.views) (sym same) ∙ t.1) at in (
+        free = λ z. let (d, home, notes_are, runs, claimed, fits) = r.free z in
+            (d, home, notes_are, runs, omega (arith, claimed, less), fits);
+        taken = λ j e. let (u, at_j, holding, on) = r.taken j e in dite (ℕ_discrete j id)
+            (λ same. let is : u ≡ v = one s.views id u v (ap (get_elem? s.views) (sym same) ∙ at_j) at in (
               view_after_making v,
               at_longer old (newcomer v ∷ []) j (view_after_making v)
                   (ap (get_elem? old) same ∙ set_here s.views id (view_after_making v) inside),
               ap (λ (z : V). z.holding) (sym is)
-                  ∙ t.2,
+                  ∙ holding,
               active,
             ))
             (λ ne. (
-              t.0,
-              at_longer old (newcomer v ∷ []) j t.0 (set_else s.views id j (view_after_making v) ne ∙ t.1),
-              t.2,
-              t.3,
+              u,
+              at_longer old (newcomer v ∷ []) j u (set_else s.views id j (view_after_making v) ne ∙ at_j),
+              holding,
+              on,
             ));
         each = λ j u e on. ⊎_elim
             (λ (h : get_elem? old j ≡ some u). ⊎_elim
@@ -192,15 +194,16 @@ module _ {O A G N : Type 0} (opens : O → Type 0) (steps : O → ℕ → A → 
         wide = r.wide;
         deep = r.deep;
         count = r.count;
-        free = λ z. let t = r.free z in (t.0, t.1, t.2, t.3, omega (arith, t.4, less), t.5);
-        taken = λ j e. let t = r.taken j e in (
-          t.0,
-          stay j t.0 (λ same. true≢false (sym t.2
-              ∙ (ap (λ (z : V). z.holding) (one s.views id t.0 v (ap (get_elem? s.views) (sym same) ∙ t.1) at) ∙ idle)))
-              (λ same. true≢false (sym t.2 ∙ (ap (λ (z : V). z.holding)
-              (one s.views other t.0 w (ap (get_elem? s.views) (sym same) ∙ t.1) was) ∙ there_idle))) t.1,
-          t.2,
-          t.3,
+        free = λ z. let (d, home, notes_are, runs, claimed, fits) = r.free z in
+            (d, home, notes_are, runs, omega (arith, claimed, less), fits);
+        taken = λ j e. let (u, at_j, holding, on) = r.taken j e in (
+          u,
+          stay j u (λ same. true≢false (sym holding
+              ∙ (ap (λ (z : V). z.holding) (one s.views id u v (ap (get_elem? s.views) (sym same) ∙ at_j) at) ∙ idle)))
+              (λ same. true≢false (sym holding ∙ (ap (λ (z : V). z.holding)
+              (one s.views other u w (ap (get_elem? s.views) (sym same) ∙ at_j) was) ∙ there_idle))) at_j,
+          holding,
+          on,
         );
         each = λ j u e on. ⊎_elim
             (λ (p : (j ≡ other) × (spent_view ≡ u)). absurd (true≢false (ap (λ (z : V). z.spent) p.1 ∙ on)))
@@ -237,12 +240,13 @@ module _ {O A G N : Type 0} (opens : O → Type 0) (steps : O → ℕ → A → 
               ap (get_elem? new) here ∙ gone,
               refl,
             )
-        took log t old new k l next gone there (suc i) own e = let h = k.taken_in i own e in
+        took log t old new k l next gone there (suc i) own e =
+            let (notes_are, taken, at_taken, is_spent) = k.taken_in i own e in
             let here : w.number + suc i ≡ v.from + i = omega (arith, next) in (
-              ap (λ n. notes_by author n log) here ∙ h.0,
-              h.1,
-              ap (get_elem? new) here ∙ there (v.from + i) h.1 h.2 h.3,
-              h.3,
+              ap (λ n. notes_by author n log) here ∙ notes_are,
+              taken,
+              ap (get_elem? new) here ∙ there (v.from + i) taken at_taken is_spent,
+              is_spent,
             )
 
         looked_too : (log : List N) (t : ℕ) (old : List V) → SeatKnows author start log t old id v
@@ -255,15 +259,17 @@ module _ {O A G N : Type 0} (opens : O → Type 0) (steps : O → ℕ → A → 
   pub all_home : (s : RoomTable O N) (r : Rule s) (id : ℕ) (v : V) → get_elem? s.views id ≡ some v → v.spent ≡ false
       → v.holding ≡ false → v.from ≡ 0 → v.seats_made ≢ 0 → turn s ≡ 0
   all_home s r id v at active idle from makes_seat = dite (ℕ_discrete (turn s) 0) (λ z. z)
-      (λ held. let j : ℕ = turn s - 1 in let k = r.each id v at active in let t = r.taken j (omega (arith, held)) in
-      let c = k.counts makes_seat in let here : j < length s.views = at_inside s.views j t.0 t.1 in
+      (λ held. let j : ℕ = turn s - 1 in let k = r.each id v at active in
+      let (u, at_u, holding, on) = r.taken j (omega (arith, held)) in
+      let c = k.counts makes_seat in let here : j < length s.views = at_inside s.views j u at_u in
       absurd (dite (ℕ_discrete j id)
-      (λ same. true≢false (sym t.2 ∙ (ap (λ (z : V). z.holding)
-      (one s.views id t.0 v (ap (get_elem? s.views) (sym same) ∙ t.1) at) ∙ idle)))
-      (λ ne. let g = at_some v.joined j (omega (arith, ne, here, c.1, k.joins, from)) in let h = k.taken_in j g.0 g.1 in
+      (λ same. true≢false (sym holding ∙ (ap (λ (z : V). z.holding)
+      (one s.views id u v (ap (get_elem? s.views) (sym same) ∙ at_u) at) ∙ idle)))
+      (λ ne. let g = at_some v.joined j (omega (arith, ne, here, c.1, k.joins, from)) in
+      let (_, taken, at_taken, is_spent) = k.taken_in j g.0 g.1 in
       let at_j : v.from + j ≡ j = omega (arith, from) in
-      true≢false (sym h.3 ∙ (ap (λ (z : V). z.spent)
-      (one s.views j h.1 t.0 (ap (get_elem? s.views) (sym at_j) ∙ h.2) t.1) ∙ t.3)))))
+      true≢false (sym is_spent ∙ (ap (λ (z : V). z.spent)
+      (one s.views j taken u (ap (get_elem? s.views) (sym at_j) ∙ at_taken) at_u) ∙ on)))))
 
   -- what was laid back, and whose notes are whose
   pub settles : (words : List ℕ) (slots : List (Option (SlotBox O N))) (id : ℕ) (v : V) (x : Option (SlotBox O N))
@@ -273,20 +279,19 @@ module _ {O A G N : Type 0} (opens : O → Type 0) (steps : O → ℕ → A → 
       × ((k : ℕ) (own : List N) → get_elem? (v.joined ++ v.own ∷ []) k ≡ some own
       → notes_by author k d.value.notes.items ≡ own)
       × ((k : ℕ) (l : List N) → get_elem? (v.looked ++ v.seen ∷ []) k ≡ some l → StartsWith d.value.notes.items l)
-  settles words slots id v x final active idle from makes_seat found = let s : RoomTable O N = final.0 in
-      let r = final.1.0 in
-      let at = final.1.1 in let k = r.each id v at active in
-      let h = r.free (all_home s r id v at active idle from makes_seat) in let d : SlotBox O N = h.0 in (
+  settles words slots id v x (s, (r, at), _, _, homes) active idle from makes_seat found =
+      let k = r.each id v at active in
+      let (d, home, notes_are, runs, _, _) = r.free (all_home s r id v at active idle from makes_seat) in (
         d,
-        some-injective x (Some d) (sym found ∙ final.4 0 (Some d) h.1),
-        subst (λ l. LeadsTo steps start l d.value.object) (sym h.2) h.3,
-        λ j own e. ap (λ l. notes_by author j l) h.2 ∙ ⊎_elim
+        some-injective x (Some d) (sym found ∙ homes 0 (Some d) home),
+        subst (λ l. LeadsTo steps start l d.value.object) (sym notes_are) runs,
+        λ j own e. ap (λ l. notes_by author j l) notes_are ∙ ⊎_elim
             (λ (p : get_elem? v.joined j ≡ some own). let t = k.taken_in j own p in
             let at_j : j ≡ v.from + j = omega (arith, from) in ap (λ n. notes_by author n r.log) at_j ∙ t.0)
             (λ (p : (j ≡ length v.joined) × (v.own ≡ own)). let at_j : j ≡ id = omega (arith, p.0, k.joins, from) in
             ap (λ n. notes_by author n r.log) at_j ∙ (k.own ∙ p.1))
             (at_end v.joined v.own own j e),
-        λ j l e. subst (λ z. StartsWith z l) (sym h.2) (⊎_elim
+        λ j l e. subst (λ z. StartsWith z l) (sym notes_are) (⊎_elim
             (λ (p : get_elem? v.looked j ≡ some l). k.had_seen j l p)
             (λ (p : (j ≡ length v.looked) × (v.seen ≡ l)). subst (StartsWith r.log) p.1 k.seen)
             (at_end v.looked v.seen l j e)),
@@ -298,13 +303,13 @@ module _ {O A G N : Type 0} (opens : O → Type 0) (steps : O → ℕ → A → 
       → v.seats_made ≢ 0
       → get_elem? slots 0 ≡ some x → x ≡ Some d → (k : ℕ) → v.seats_made ≤ k
       → notes_by author k d.value.notes.items ≡ []
-  nobody_else words slots id v x d final active idle from makes_seat found is k out = let s : RoomTable O N = final.0 in
-      let r = final.1.0 in let at = final.1.1 in let c = (r.each id v at active).counts makes_seat in
-      let h = r.free (all_home s r id v at active idle from makes_seat) in
-      let same : h.0 ≡ d = same_Some h.0 d (sym (some-injective x (Some h.0) (sym found ∙ final.4 0 (Some h.0) h.1))
-      ∙ is) in
+  nobody_else words slots id v x d (s, (r, at), _, _, homes) active idle from makes_seat found is k out =
+      let c = (r.each id v at active).counts makes_seat in
+      let (there, home, notes_are, _, _, _) = r.free (all_home s r id v at active idle from makes_seat) in
+      let same : there ≡ d = same_Some there d
+      (sym (some-injective x (Some there) (sym found ∙ homes 0 (Some there) home)) ∙ is) in
       ap (λ (e : SlotBox O N). notes_by author k e.value.notes.items) (sym same)
-      ∙ (ap (λ l. notes_by author k l) h.2 ∙ r.nobody k (omega (arith, c.0, out)))
+      ∙ (ap (λ l. notes_by author k l) notes_are ∙ r.nobody k (omega (arith, c.0, out)))
 
 -- the first of several seats leaves the making to the next
 pub deals_on : {O A G N : Type 0} (opens : O → Type 0) (steps : O → ℕ → A → O → G → Option N → Type 0) (author : N → ℕ)
@@ -367,11 +372,12 @@ pub settled : {O A G N : Type 0} (opens : O → Type 0) (steps : O → ℕ → A
     × ((k : ℕ) (own : List N) → get_elem? (v.joined ++ v.own ∷ []) k ≡ some own
     → notes_by author k d.value.notes.items ≡ own)
     × ((k : ℕ) (l : List N) → get_elem? (v.looked ++ v.seen ∷ []) k ≡ some l → StartsWith d.value.notes.items l)
-settled {O} {A} {G} {N} opens steps author start words slots id v x d final active idle from making found is = let t =
+settled {O} {A} {G} {N} opens steps author start words slots id v x d final active idle from making found is =
+    let (there, there_is, runs, owns, seens) =
     settles opens steps author start words slots id v x final active idle from making found in
-    let same : t.0 ≡ d = same_Some t.0 d (sym t.1 ∙ is) in
+    let same : there ≡ d = same_Some there d (sym there_is ∙ is) in
     subst (λ (e : SlotBox O N). LeadsTo steps start e.value.notes.items e.value.object
     × ((k : ℕ) (own : List N) → get_elem? (v.joined ++ v.own ∷ []) k ≡ some own
     → notes_by author k e.value.notes.items ≡ own)
     × ((k : ℕ) (l : List N) → get_elem? (v.looked ++ v.seen ∷ []) k ≡ some l → StartsWith e.value.notes.items l)) same
-    (t.2, t.3, t.4)
+    (runs, owns, seens)

@@ -1,5 +1,5 @@
 -- What a call of a seat tells: from the steps of its turn to the clauses of `serve`.
-use Rattle.std.proofs.Common.{◌≡◌, ℕ, ◌+◌, List, [], ◌∷◌, ◌++◌, refl, sym}
+use Rattle.std.proofs.Common.{◌≡◌, ℕ, List, [], ◌∷◌, ◌++◌, refl, sym}
 use Rattle.std.proofs.Common.{ap, ◌∙◌, subst, Option, Some}
 use Rattle.sp_room.specs.History.{StartsWith, notes_by, LeadsTo}
 use Rattle.sp_room.specs.RoomRule.{SlotBox, SeatPart, holder, view_after_note, view_after_last_note, view_after_return}

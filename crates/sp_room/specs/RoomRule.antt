@@ -68,23 +68,32 @@ pub record RoomRule {O A G N : Type 0} (opens : O → Type 0) (steps : O → ℕ
   pub nobody : (j : ℕ) → length s.views ≤ j → notes_by author j log ≡ []
 
 module _ {O N : Type 0} where
-  -- the first seat of a room
-  abbrev pub first_view : O → View O N
-  first_view x = record {
-    opening = Some x;
-    number = 0;
+  -- the seat k of a room, which has done nothing; the room was opened with this, if the seat knows it, and seats_made
+  -- and claims are as in a view
+  abbrev pub newborn_with : Option O → ℕ → ℕ → ℕ → View O N
+  newborn_with opening k seats_made claims = record {
+    opening = opening;
+    number = k;
     seen = [];
     own = [];
     turns = 0;
-    claims = 64;
+    claims = claims;
     reserve = 0;
     holding = false;
     spent = false;
-    seats_made = 1;
-    from = 0;
+    seats_made = seats_made;
+    from = k;
     joined = [];
     looked = [];
   }
+
+  -- the same of a room opened with x
+  abbrev pub newborn : O → ℕ → ℕ → ℕ → View O N
+  newborn x k seats_made claims = newborn_with (Some x) k seats_made claims
+
+  -- the first seat of a room
+  abbrev pub first_view : O → View O N
+  first_view x = newborn x 0 1 64
 
   -- a seat leaves the dealing to the next
   abbrev pub view_after_making : View O N → View O N
@@ -92,21 +101,7 @@ module _ {O N : Type 0} where
 
   -- the next seat, which deals on
   abbrev pub newcomer : View O N → View O N
-  newcomer v = record {
-    opening = v.opening;
-    number = v.seats_made;
-    seen = v.seen;
-    own = [];
-    turns = 0;
-    claims = v.claims - 1;
-    reserve = 0;
-    holding = false;
-    spent = false;
-    seats_made = v.seats_made + 1;
-    from = v.seats_made;
-    joined = [];
-    looked = [];
-  }
+  newcomer v = record (newborn_with v.opening v.seats_made (v.seats_made + 1) (v.claims - 1)) { seen = v.seen }
 
   -- the seat before the others taken in is taken in too
   abbrev pub view_after_joining : View O N → View O N → View O N
@@ -114,21 +109,7 @@ module _ {O N : Type 0} where
 
   -- a seat that was taken in
   abbrev pub spent_view : View O N
-  spent_view = record {
-    opening = None;
-    number = 0;
-    seen = [];
-    own = [];
-    turns = 0;
-    claims = 0;
-    reserve = 0;
-    holding = false;
-    spent = true;
-    seats_made = 0;
-    from = 0;
-    joined = [];
-    looked = [];
-  }
+  spent_view = record (newborn_with None 0 0 0) { spent = true }
 
   -- the seat has the turn, and has seen this history
   abbrev pub holder : View O N → List N → ℕ → View O N
@@ -192,24 +173,6 @@ module _ {O N : Type 0} where
   -- no turn, no slot, and not taken in
   abbrev pub IsIdleSeat : SeatPart O N → Type 0
   IsIdleSeat m = (m.1 ≡ []) × (m.0.spent ≡ false) × (m.0.holding ≡ false)
-
-  -- the seat k of a room opened with x, which has done nothing; seats_made as in a view
-  abbrev pub newborn : O → ℕ → ℕ → ℕ → View O N
-  newborn x k seats_made claims = record {
-    opening = Some x;
-    number = k;
-    seen = [];
-    own = [];
-    turns = 0;
-    claims = claims;
-    reserve = 0;
-    holding = false;
-    spent = false;
-    seats_made = seats_made;
-    from = k;
-    joined = [];
-    looked = [];
-  }
 
   -- the seat k of n seats, which has taken in none
   pub record IsViewAt (n k : ℕ) (v : View O N) : Type 0 where

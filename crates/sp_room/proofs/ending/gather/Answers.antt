@@ -69,9 +69,9 @@ returns-clause-seen g c = let k = c.loop-next.invariant.1 in
     c.loop-next.keeper.me.0 none.2 i t e)
 
 pub returns-clause-others : goal.returns-clause-others
-returns-clause-others g c = let k = c.loop-next.invariant.1 in
+returns-clause-others g c = let k = c.loop-next.invariant.1 in let (_, _, _, made, _) = k in
     let none = at_start seat_view seat_table c.args.room.table.shared.table_id _ c.args.row.items c.loop-next.row.items
     c.loop-next.keeper.me.0 (search rules) c.requires.some refl k in
     λ i l. nobody_else g.K.Kept.opens g.K.Kept.steps g.K.Kept.author _ _ _ _ _ c.take_only-held.result
     c.in-Some-held.slot c.close_with.ensures.values.2 k.0 k.1 none.0 none.1 c.take_only-held.ensures
-    c.in-Some-held.is i (subst (λ n. n ≤ i) (sym k.3) l)
+    c.in-Some-held.is i (subst (λ n. n ≤ i) (sym made) l)

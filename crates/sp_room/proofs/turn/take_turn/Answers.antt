@@ -11,5 +11,6 @@ compare_exchange-found-requires g c = (
 )
 
 pub exchange-requires : goal.exchange-requires
-exchange-requires g c = let t = c.compare_exchange-found.ensures.2.1 c.if-found-eq0.true in
-    (search rules, (Some t.0, ap (λ m. m.1) t.1 ∙ ap (λ m. (0, Some t.0) ∷ rest m.1) (sym t.1)))
+exchange-requires g c = let (_, _, (_, acquires)) = c.compare_exchange-found.ensures in
+    let (slot, me_is, _) = acquires c.if-found-eq0.true in
+    (search rules, (Some slot, ap (λ m. m.1) me_is ∙ ap (λ m. (0, Some slot) ∷ rest m.1) (sym me_is)))

@@ -6,7 +6,7 @@ use Rattle.sp_room.proofs.seat.Room.close.Goals as goal
 pub gather-requires-clause-all : goal.gather-requires-clause-all
 gather-requires-clause-all g c = subst (λ (l : List _). (k : ℕ) (t : _) → slice_get l k ≡ Some t
     → (seat_table t ≡ c.args.self.table.shared.table_id) × IsSeatAt (length l) k t) (sym c.into_vec.ensures)
-    (λ k t e. ((c.requires.seats k t e).0.0, (c.requires.seats k t e).1))
+    (λ k t e. let ((table, _), place) = c.requires.seats k t e in (table, place))
 
 pub returns-clause-legal : goal.returns-clause-legal
 returns-clause-legal g c = let notes = c.of-notes.ensures ∙ ap (λ d. d.notes.items) c.into_inner-object.ensures in

@@ -10,9 +10,11 @@ new-requires-2 g c =
     (search rules) (search rules) (search rules) c.requires.opens (search rules) refl (search rules)
 
 pub returns-in-Ok-new-2-clause-seats : goal.returns-in-Ok-new-2-clause-seats
-returns-in-Ok-new-2-clause-seats g c = λ k t e. let f =
-    c.make_seats-row.ensures.each k t (ap (λ l. slice_get l k) (sym c.of.ensures) ∙ e) in
-    ((f.0, ap (λ v. v.opening) f.1), born c.in-Ok-new-2.table.shared.key.value c.args.seats k (seat_view t) f.1 f.2 f.3)
+returns-in-Ok-new-2-clause-seats g c = λ k t e. let (table, is_new, claim, last) =
+    c.make_seats-row.ensures.each k t (ap (λ l. slice_get l k) (sym c.of.ensures) ∙ e) in (
+      (table, ap (λ v. v.opening) is_new),
+      born c.in-Ok-new-2.table.shared.key.value c.args.seats k (seat_view t) is_new claim last,
+    )
 
 pub taken_back-requires : goal.taken_back-requires
 taken_back-requires g c = (c.in-Ok-new.slot, search rules)

@@ -5,27 +5,29 @@ use Rattle.sp_room.proofs.seat.RoomSeat.serve.Goals as goal
 
 pub put_last-got-requires-clause-serves : goal.put_last-got-requires-clause-serves
 put_last-got-requires-clause-serves g c = let v = c.args.self.now.seat.me.0 in let d = c.take_turn-held.result in
-    let x = c.args.room.now.table.shared.key.value in let known = c.take_turn-held.ensures.acquired.1 in
-    let at = known.2 x c.requires.seat.1 in
+    let x = c.args.room.now.table.shared.key.value in
+    let (begins, own, opened, claims, space) = c.take_turn-held.ensures.acquired.1 in
+    let at = opened x c.requires.seat.1 in
     subst (λ z. g.K.Kept.can_serve z.object c.args.self.now.number c.args.ask) (sym c.deref_mut.ensures.value)
     (subst (λ n. g.K.Kept.can_serve d.value.object n c.args.ask) (sym c.args.self.now.numbered)
     (g.met.K.Kept.lasting x v.number v.seen v.own c.args.ask d.value.notes.items d.value.object at.0 c.requires.asks
-    known.0 known.1 at.1 (omega (
+    begins own at.1 (omega (
       arith,
-      known.3,
-      known.4,
+      claims,
+      space,
       c.requires.last (sym c.if-last.ensures),
       d.value.notes.small,
     ))).1)
 
 pub put-requires-clause-serves : goal.put-requires-clause-serves
 put-requires-clause-serves g c = let v = c.args.self.now.seat.me.0 in let d = c.take_turn-slot.result in
-    let x = c.args.room.now.table.shared.key.value in let known = c.take_turn-slot.ensures.acquired.1 in
-    let at = known.2 x c.requires.seat.1 in
+    let x = c.args.room.now.table.shared.key.value in
+    let (begins, own, opened, _, space) = c.take_turn-slot.ensures.acquired.1 in
+    let at = opened x c.requires.seat.1 in
     subst (λ z. g.K.Kept.can_serve z.object c.args.self.now.number c.args.ask) (sym c.deref_mut-2.ensures.value)
     (subst (λ n. g.K.Kept.can_serve d.value.object n c.args.ask) (sym c.args.self.now.numbered)
     (g.met.K.Kept.lasting x v.number v.seen v.own c.args.ask d.value.notes.items d.value.object at.0 c.requires.asks
-    known.0 known.1 at.1 (omega (arith, known.4, d.value.notes.small))).1)
+    begins own at.1 (omega (arith, space, d.value.notes.small))).1)
 
 pub give_last-self-requires-clause-slot : goal.give_last-self-requires-clause-slot
 give_last-self-requires-clause-slot g c = let d = c.take_turn-held.result in let note = c.put_last-got.result.1 in
