@@ -274,19 +274,19 @@ module _ (c : p.Program) (s : Sets) (are : AreSets c s) (rises : HaveEarlierPare
       )
   broken_back rule.I9 at (b, k, e, f, site, i, h) = let a = function_back b k e f in
       (b, k, e, inr (site, i, stop_back b k e site i (flag k.answer a.0 a.1) at h))
-  broken_back r at h = (h.0, h.1, h.2, inr (h.3, h.4, site_back h.0 h.1 h.2 h.3 h.4 r at h.5))
+  broken_back r at (b, k, e, site, i, h) = (b, k, e, inr (site, i, site_back b k e site i r at h))
 
   all : Finds (blocks_first s c 0 c.blocks) (InBlocks s c 0 c.blocks)
   all = finds_blocks s c 0 c.blocks
 
   there : (x : Refusal) → InBlocks s c 0 c.blocks x → Interferes c x.rule x.at
-  there x h = let m = block_of s c 0 c.blocks x h in
-      block_to m.0 m.1 m.2 x (subst (λ n. InBlock s c n m.1 x) (omega arith) m.3)
+  there x h = let (i, block, in_list, breach) = block_of s c 0 c.blocks x h in
+      block_to i block in_list x (subst (λ n. InBlock s c n block x) (omega arith) breach)
 
   back : (r : Rule) (at : Place) → Interferes c r at → InBlocks s c 0 c.blocks (refusal r at)
-  back r at h = let m = broken_back r at h in
-      of_block s c 0 c.blocks (refusal r at) m.0 m.1 m.2
-      (subst (λ n. InBlock s c n m.1 (refusal r at)) (omega arith) m.3)
+  back r at h = let (i, block, in_list, breach) = broken_back r at h in
+      of_block s c 0 c.blocks (refusal r at) i block in_list
+      (subst (λ n. InBlock s c n block (refusal r at)) (omega arith) breach)
 
   pub verdict : (o : FirstRefusal) → rules_first s c ≡ o → IsVerdict c (phase_result o tt)
   verdict None q = λ r at h. let z = all.least None (refusal r at) (inr (back r at h)) in cc (z.1, q)

@@ -177,8 +177,8 @@ module _ (s : Sets) (c : Program) where
       × (slice_get ks i ≡ Some k) × InBlock (b + i) k x
   block_of b [] x h = absurd h
   block_of b (k ∷ ks) x (inl h) = (zero, k, refl, subst (λ n. InBlock n k x) (omega arith) h)
-  block_of b (k ∷ ks) x (inr h) = let m = block_of (suc b) ks x h in
-      (suc m.0, m.1, m.2, subst (λ n. InBlock n m.1 x) (omega arith) m.3)
+  block_of b (k ∷ ks) x (inr h) = let (i, block, in_list, breach) = block_of (suc b) ks x h in
+      (suc i, block, in_list, subst (λ n. InBlock n block x) (omega arith) breach)
 
   pub of_block : (b : ℕ) (ks : List Block) (x : Refusal) (i : ℕ) (k : Block) → slice_get ks i ≡ Some k
       → InBlock (b + i) k x → InBlocks b ks x

@@ -199,8 +199,8 @@ module _ (g : Program) (s : Sets) where
   -- I5
   implicit_to : (f y : ℕ) → OfBlock g s f → (has (implicit_targets_of s f) y ≡ true)
       ⊎ (has (implicit_expressions_of s f) y ≡ true) → Implicit g f y
-  implicit_to f y b (inl h) = let i = (b.targets y).0 h in (i.0, i.1, i.2, inl i.3)
-  implicit_to f y b (inr h) = let i = (b.expressions y).0 h in (i.0, i.1, i.2, inr i.3)
+  implicit_to f y b (inl h) = let (k, e, free, reached) = (b.targets y).0 h in (k, e, free, inl reached)
+  implicit_to f y b (inr h) = let (k, e, free, reached) = (b.expressions y).0 h in (k, e, free, inr reached)
 
   implicit_back : (f y : ℕ) → OfBlock g s f → Implicit g f y → (has (implicit_targets_of s f) y ≡ true)
       ⊎ (has (implicit_expressions_of s f) y ≡ true)

@@ -244,7 +244,7 @@ without {m} {k} {H} y f a s r t = record {
   );
   calls = λ x. (
     λ h. let o = (f.calls x).0 (ap (λ z. has z x) (sym r) ∙ h) in (o.0, (o.1, tt)),
-    λ h. ap (λ z. has z x) r ∙ (f.calls x).1 (h.0, h.1.0),
+    λ (args, (runs, _)). ap (λ z. has z x) r ∙ (f.calls x).1 (args, runs),
   );
   stops = (λ h. (f.stops.0 (ap (λ z. has z 0) (sym t) ∙ h), tt), λ h. ap (λ z. has z 0) t ∙ f.stops.1 h.0);
 }

@@ -138,7 +138,7 @@ pub of_blocks : (ks : List p.Block) (t : p.Statement) → IsInBlocks ks t → (b
     × (slice_get ks b ≡ Some k) × Rattle.sp_varsets.specs.Parts.IsPart t k.body
 of_blocks [] t h = absurd h
 of_blocks (j ∷ ks) t (inl h) = (zero, j, refl, h)
-of_blocks (j ∷ ks) t (inr h) = let r = of_blocks ks t h in (suc r.0, r.1, r.2, r.3)
+of_blocks (j ∷ ks) t (inr h) = let (b, k, at, inside) = of_blocks ks t h in (suc b, k, at, inside)
 
 -- a variable declared
 pub in_put : (old mid : List VarSet) (c x : ℕ) → ((b y : ℕ) → member mid b y ≡ ((b == c) && (x == y)) || member old b y)
@@ -156,7 +156,7 @@ pub declares_none : (g : Program) (rows : List VarSet) (x c : ℕ) → length ro
     → slice_get g.blocks c ≡ None → Declares g rows rows x c
 declares_none g rows x c l none = record {
   rows = refl;
-  members = λ b y. (λ h. inl h, λ s. elim s [ inl o ↦ o | inr d ↦ absurd (outside b d.1 d.2 d.3) ]);
+  members = λ b y. (λ h. inl h, λ s. elim s [ inl o ↦ o | inr (_, low, n, below) ↦ absurd (outside b low n below) ]);
 }
   where
     outside : (b : ℕ) → b < length rows → (n : ℕ) → IsBelow g n c b → ⊥
@@ -176,7 +176,7 @@ declares_top g old mid x c k l m at top put = record {
       | inr n ↦
           (let w = slice_get_within g.blocks c k at in let e = n.0 in inr (n.1, omega arith, zero, sym n.0))
     ],
-    λ s. (put b y).1 (elim s [ inl o ↦ inl o | inr d ↦ inr (here b d.2 d.3, d.0) ]),
+    λ s. (put b y).1 (elim s [ inl o ↦ inl o | inr (same, _, n, below) ↦ inr (here b n below, same) ]),
   );
 }
   where
@@ -200,9 +200,12 @@ declares_more g old mid new x c q k l m at up put d = record {
         | inr n ↦
             (let w = slice_get_within g.blocks c k at in let e = n.0 in inr (n.1, omega arith, zero, sym n.0))
       ]
-      | inr r ↦ (let w = r.1 in inr (r.0, omega arith, suc r.2, (k, at, q, up, r.3)))
+      | inr (same, low, n, below) ↦ inr (same, omega (arith, low), suc n, (k, at, q, up, below))
     ],
-    λ s. elim s [ inl o ↦ (d.members b y).1 (inl ((put b y).1 (inl o))) | inr r ↦ found b y r.0 r.1 r.2 r.3 ],
+    λ s. elim s [
+      | inl o ↦ (d.members b y).1 (inl ((put b y).1 (inl o)))
+      | inr (same, low, n, below) ↦ found b y same low n below
+    ],
   );
 }
   where
@@ -220,20 +223,23 @@ declared_more g old new n i a at d = record {
   members = λ b y low. (
     λ h. elim ((d.members b y).0 h) [
       | inl o ↦ (let m = (a.members b y low).0 o in let l = m.0 in (omega arith, m.1))
-      | inr r ↦ (let e = r.0 in (omega arith, (i, ap (λ z. slice_get g.variables z) r.0 ∙ at, r.2, r.3)))
+      | inr (same, _, depth, below) ↦ (
+        omega (arith, same),
+        (i, ap (λ z. slice_get g.variables z) same ∙ at, depth, below),
+      )
     ],
-    λ s. elim (cases_eq y n) [
+    λ (less, (j, found, depth, below)). elim (cases_eq y n) [
       | inl here ↦
-          let same : s.1.0 ≡ i = (let t : Some s.1.0 ≡ Some i = sym s.1.1
+          let same : j ≡ i = (let t : Some j ≡ Some i = sym found
           ∙ (ap (λ z. slice_get g.variables z) here ∙ at) in cc) in
           let count = a.count in
           (d.members b y).1 (inr (
             here,
             omega arith,
-            s.1.2,
-            subst (λ (z : Variable). IsBelow g s.1.2 z.block b) same s.1.3,
+            depth,
+            subst (λ (z : Variable). IsBelow g depth z.block b) same below,
           ))
-      | inr away ↦ (let l = s.0 in (d.members b y).1 (inl ((a.members b y low).1 (omega arith, s.1))))
+      | inr away ↦ (d.members b y).1 (inl ((a.members b y low).1 (omega (arith, less), (j, found, depth, below))))
     ],
   );
 }

@@ -46,9 +46,9 @@ module _ (g : Program) (u : Use) (x : ℕ) (rows calls hidden : List VarSet) whe
         → member hidden b x ≡ false
 
   leads_to : AreRowsOfBlocks → (cs : List ℕ) (b : ℕ) → PathLeads rows calls hidden cs b x → OfBlock g b u
-  leads_to f [] b h = let r = f.rows_of b h in step_here g b r.0 u r.1 r.2 r.3
-  leads_to f (c ∷ cs) b (run, hide, l) = let r = f.calls_of b c run in
-      step_call g b c r.0 r.2 u r.1 (f.hidden_of b r.0 r.1 hide) r.3 (leads_to f cs c l)
+  leads_to f [] b h = let (k, at, passes, uses) = f.rows_of b h in step_here g b k u at passes uses
+  leads_to f (c ∷ cs) b (run, hide, l) = let (k, at, args, runs) = f.calls_of b c run in
+      step_call g b c k args u at (f.hidden_of b k at hide) runs (leads_to f cs c l)
 
   abbrev Claim : ℕ → Use → Type 0
   Claim b v = v ≡ u → (cs : List ℕ) × PathLeads rows calls hidden cs b x
@@ -83,7 +83,7 @@ free_of g rows b x d within h i e n below =
 pub free_in : (g : Program) (rows : List VarSet) (b x : ℕ) → AreDeclared g rows (length g.variables)
     → b < length g.blocks → IsFree g b x → member rows b x ≡ false
 free_in g rows b x d within f = false_from_ne_true (member rows b x)
-    (λ h. let m = (d.members b x within).0 h in f m.1.0 m.1.1 m.1.2 m.1.3)
+    (λ h. let (_, (i, at, n, below)) = (d.members b x within).0 h in f i at n below)
 
 module _ (c : p.Program) (bodies : Bodies) (hidden rows own : List VarSet) (u : Use) (x : ℕ) where
   -- rows of what stands in the blocks' own statement parts
@@ -134,6 +134,6 @@ total_is g Here u pool rows own calls x here called reach = (
   ],
   λ r. elim (of_part g Here u r) [
     | inl h ↦ inl (here.1 h)
-    | inr t ↦ inr (t.0, (called t.0).1 (t.1, t.2), (reach t.0).1 t.3)
+    | inr (f, args, runs, reaches) ↦ inr (f, (called f).1 (args, runs), (reach f).1 reaches)
   ],
 )

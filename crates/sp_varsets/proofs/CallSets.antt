@@ -101,11 +101,11 @@ row_entries_more old mid one new targets seen entries n i j s t a es et x si y t
           stands_as tj (of_row seen m t here et),
         )
     | inr away ↦
-        let b = a.each m (omega arith) in (
-          b.0,
-          entry_at entries (record { targets = i; expressions = j }) m b.0 b.1,
-          stands_more (extends_then x y) b.2,
-          stands_more (extends_then x y) b.3,
+        let (entry, found, its_targets, its_expressions) = a.each m (omega arith) in (
+          entry,
+          entry_at entries (record { targets = i; expressions = j }) m entry found,
+          stands_more (extends_then x y) its_targets,
+          stands_more (extends_then x y) its_expressions,
         )
   ];
 }

@@ -164,12 +164,12 @@ follows_visit calls hidden old new b n r h changed er eh v = record {
   kept = v.kept;
   led = λ c x m. elim (v.led c x m) [
     | inl o ↦ ([], o)
-    | inr t ↦ (
-      t.1 ∷ [],
+    | inr (here, f, runs, hides, reaches) ↦ (
+      f ∷ [],
       (
-        ap (λ z. member calls z t.1) t.0 ∙ (row_is calls b r t.1 er ∙ t.2),
-        ap (λ z. member hidden z x) t.0 ∙ (row_is hidden b h x eh ∙ t.3),
-        t.4,
+        ap (λ z. member calls z f) here ∙ (row_is calls b r f er ∙ runs),
+        ap (λ z. member hidden z x) here ∙ (row_is hidden b h x eh ∙ hides),
+        reaches,
       ),
     )
   ];
@@ -193,7 +193,7 @@ pass_up_to_more calls hidden old mid new b r h one two er eh small s v = record 
         (sym (v.none (second_false one two e) f x) ∙ m))
   ];
   some = λ e. elim (or_cases one two e) [
-    | inl g ↦ (let t = s.some g in (t.0, t.1, v.kept t.0 t.1 t.2, t.3))
+    | inl g ↦ (let (d, x, is_there, was_not) = s.some g in (d, x, v.kept d x is_there, was_not))
     | inr g ↦ (let t = v.some g in (
       b,
       t.0,

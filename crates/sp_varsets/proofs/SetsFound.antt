@@ -121,10 +121,10 @@ module _ (c : p.Program) (start walk mid end : Walk) (bodies : Bodies)
       let o = f.writes.all t (in_blocks c.blocks b k t e part) in
       elim (f.writes.only (number_of t) o.0 o.1) [
         | inl before ↦ absurd (no_slot start.slots (number_of t) o.0 f.no_slots before)
-        | inr w ↦
-            let d = of_blocks c.blocks w.0 w.1 in
-            let same : w.0 ≡ t = numbers d.0 b d.1 k d.2 e w.0 t d.3 part w.2 in
-            (o.0, o.1, subst (λ s. Records walk.pool o.0 (In_stmt (bare_statement s))) same w.3)
+        | inr (u, in_some, number, records) ↦
+            let (d, j, at, inside) = of_blocks c.blocks u in_some in
+            let same : u ≡ t = numbers d b j k at e u t inside part number in
+            (o.0, o.1, subst (λ s. Records walk.pool o.0 (In_stmt (bare_statement s))) same records)
       ]
 
   statement_is : (b : ℕ) (k : p.Block) → slice_get c.blocks b ≡ Some k → (t : p.Statement) → IsPart t k.body
@@ -156,19 +156,19 @@ module _ (c : p.Program) (start walk mid end : Walk) (bodies : Bodies)
   block_is b k e =
       let inside = slice_get_within c.blocks b k e in
       let count = f.count in
-      let en = f.row_entries.each b (omega arith) in record {
+      let (entry, found, its_targets, its_expressions) = f.row_entries.each b (omega arith) in record {
         targets = λ x. along
-            (ap (λ z. has (set_of_index end.pool nothing (target_index z)) x) en.1
-            ∙ chosen_is end.pool nothing f.none en.0.targets x)
-            (through (en.2.members x) (through (reach_targets b x)
+            (ap (λ z. has (set_of_index end.pool nothing (target_index z)) x) found
+            ∙ chosen_is end.pool nothing f.none entry.targets x)
+            (through (its_targets.members x) (through (reach_targets b x)
             (r.is_target (without_places c) b x, r.target_is (without_places c) b x)));
         expressions = λ x. along
-            (ap (λ z. has (set_of_index end.pool nothing (expression_index z)) x) en.1
-            ∙ chosen_is end.pool nothing f.none en.0.expressions x)
-            (through (en.3.members x) (through (reach_seen b x)
-            (λ o. (o.0, o.1, o.2, o.3), λ i. (i.0, i.1, i.2, i.3))));
+            (ap (λ z. has (set_of_index end.pool nothing (expression_index z)) x) found
+            ∙ chosen_is end.pool nothing f.none entry.expressions x)
+            (through (its_expressions.members x) (through (reach_seen b x)
+            (λ (j, at, free, uses). (j, at, free, uses), λ (j, at, free, uses). (j, at, free, uses))));
         stops = along (f.flags_are b) (through (reach_stops b)
-            (λ o. (o.0, o.1, o.3.0, o.3.1), λ l. r.stop_is (without_places c) b l));
+            (λ (j, at, _, (calls, reach)). (j, at, calls, reach), λ l. r.stop_is (without_places c) b l));
       }
 
   pub are_sets : AreSets c all
@@ -181,27 +181,27 @@ pub if_found : (c : p.Program) (start walk : Walk) (bodies : Bodies) (reach : Re
     → {E : Type 0} (r : Result Sets E) → IfOk r (λ s. ArePooled walk reach s) → IfOk r (λ s. AreSets c s)
 if_found c start walk bodies reach numbers slots writes are reaches (Err e) h = h
 if_found c start walk bodies reach numbers slots writes are reaches (Ok s) h =
-    let t = reaches.declared.2 in
+    let (hidden, declared, targets, seen) = reaches.declared in
+    let (free, free_is, stops) = reaches.free in
     are_sets c start walk (record { alloc = walk.alloc; pool = h.entries.0; slots = walk.slots; known = walk.known })
-    (record { alloc = walk.alloc; pool = s.pool; slots = walk.slots; known = walk.known }) bodies reaches.declared.0
-    reaches.free.0
-    t.closes.0 reach.targets reaches.declared.3.closes.0 reach.seen reaches.free.2.closes.0 reach.stops s.statements
+    (record { alloc = walk.alloc; pool = s.pool; slots = walk.slots; known = walk.known }) bodies hidden free
+    targets.closes.0 reach.targets seen.closes.0 reach.seen stops.closes.0 reach.stops s.statements
     s.blocks s.stops s.nothing
     (record {
       no_slots = slots;
       writes = writes;
       bodies_are = are;
-      declared = reaches.declared.1;
-      free_is = reaches.free.1;
-      targets_shown = t.closes.1;
-      seen_shown = reaches.declared.3.closes.1;
-      stops_shown = reaches.free.2.closes.1;
-      targets_closed = t.closes.2;
-      seen_closed = reaches.declared.3.closes.2;
-      stops_closed = reaches.free.2.closes.2;
+      declared = declared;
+      free_is = free_is;
+      targets_shown = targets.closes.1;
+      seen_shown = seen.closes.1;
+      stops_shown = stops.closes.1;
+      targets_closed = targets.closes.2;
+      seen_closed = seen.closes.2;
+      stops_closed = stops.closes.2;
       entries = h.entries.1;
       row_entries = h.entries.2;
-      count = t.rows ∙ are.targets;
+      count = targets.rows ∙ are.targets;
       flags_are = h.flags;
       none = h.none;
     })
@@ -212,7 +212,7 @@ pub within_written : (start walk : Walk) (S : p.Statement → Type 0) → length
     → AreWithin walk
 within_written start walk S l w n sets e = elim (w.only n sets e) [
   | inl before ↦ absurd (no_slot start.slots n sets l before)
-  | inr r ↦ (let rec = r.3 in record {
+  | inr (_, _, _, rec) ↦ (record {
     targets = (let s = rec.targets in s.within);
     expressions = (let s = rec.expressions in s.within);
     calls = (let s = rec.calls in s.within);

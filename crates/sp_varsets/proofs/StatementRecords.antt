@@ -75,9 +75,11 @@ writes_then {a} {b} {c} {S} {R} f g = record {
   all = λ t s. elim s [ inl h ↦ (let o = f.all t h in g.kept (number_of t) o.0 o.1) | inr h ↦ g.all t h ];
   kept = λ n sets e. let o = f.kept n sets e in g.kept n o.0 o.1;
   only = λ n sets e. elim (g.only n sets e) [
-    | inl before ↦ elim (f.only n sets before)
-        [ inl start ↦ inl start | inr s ↦ inr (s.0, inl s.1, s.2, records_more g.pool s.3) ]
-    | inr r ↦ inr (r.0, inr r.1, r.2, r.3)
+    | inl before ↦ elim (f.only n sets before) [
+      | inl start ↦ inl start
+      | inr (t, one, number, records) ↦ inr (t, inl one, number, records_more g.pool records)
+    ]
+    | inr (t, one, number, records) ↦ inr (t, inr one, number, records)
   ];
 }
 
@@ -87,7 +89,10 @@ writes_as f to from = record {
   pool = f.pool;
   all = λ t r. f.all t (from t r);
   kept = f.kept;
-  only = λ n sets e. elim (f.only n sets e) [ inl before ↦ inl before | inr s ↦ inr (s.0, to s.0 s.1, s.2, s.3) ];
+  only = λ n sets e. elim (f.only n sets e) [
+    | inl before ↦ inl before
+    | inr (t, one, number, records) ↦ inr (t, to t one, number, records)
+  ];
 }
 
 pub kept_writes : {w v : Walk} {uses : Uses} (t : p.Statement) → HasUses uses (In_stmt (bare_statement t))
@@ -109,10 +114,10 @@ kept_writes {w} {v} {uses} t h k = record {
 }
   where
     recorded : Records v.pool k.slot.0 (In_stmt (bare_statement t))
-    recorded = record {
-      targets = stands_as k.slot.2 (λ x. h.targets x);
-      expressions = stands_as k.slot.3 (λ x. h.expressions x);
-      calls = stands_as k.slot.4 (λ x. h.calls x);
+    recorded = let (_, _, targets, expressions, calls) = k.slot in record {
+      targets = stands_as targets (λ x. h.targets x);
+      expressions = stands_as expressions (λ x. h.expressions x);
+      calls = stands_as calls (λ x. h.calls x);
     }
 
 pub walked_none : {w : Walk} {a b : Uses} {H : Use → Type 0} → AddsUses a b H → AddsAndRecords w w a b H (λ t. ⊥)

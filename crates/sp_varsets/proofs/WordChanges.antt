@@ -219,10 +219,15 @@ news_more old new others hidden n changed h within same sw sh = record {
   ];
   some = λ e. elim (or_cases _ _ e) [
     | inl before ↦
-        let s = h.some before in
-        let low = s.1 in
-        let away : s.0 ≢ n = omega arith in
-        (s.0, omega arith, s.2, s.3, rw (get_or-set_other new n s.0 (bit_or (get_or old n 0) more) 0 away) s.4, s.5)
+        let (j, low, i, small, is_one, was_zero) = h.some before in
+        let away : j ≢ n = omega (arith, low) in (
+          j,
+          omega (arith, low),
+          i,
+          small,
+          rw (get_or-set_other new n j (bit_or (get_or old n 0) more) 0 away) is_one,
+          was_zero,
+        )
     | inr now ↦
         let le = and_le_r (bit_and (get_or others n 0) (bit_not w64 (get_or hidden n 0)))
         (bit_not w64 (get_or old n 0)) in
@@ -259,15 +264,14 @@ nothing_new old new n changed h kept e x =
 pub one_new : (old new : List ℕ) (n : ℕ) (changed : Bool) → IsNewsOf old new n changed → changed ≡ true → (x : ℕ)
     × (in_words new x ≡ true) × (in_words old x ≡ false)
 one_new old new n changed h e =
-    let s = h.some e in
-    let small = s.3 in
-    let x : ℕ = 64 * s.0 + s.2 in
-    let d : x / 64 ≡ s.0 = omega arith in
-    let m : x % 64 ≡ s.2 = omega arith in (
+    let (j, _, i, small, is_one, was_zero) = h.some e in
+    let x : ℕ = 64 * j + i in
+    let d : x / 64 ≡ j = omega (arith, small) in
+    let m : x % 64 ≡ i = omega (arith, small) in (
       x,
-      in_word new s.0 s.2 x small refl s.4,
-      false_from_ne_true _ (λ h. let one : bit_at (get_or old s.0 0) s.2 ≡ 1 = rw (d, m) at (to_bit old x h) in
-          let none = s.5 in omega arith),
+      in_word new j i x small refl is_one,
+      false_from_ne_true _ (λ h. let one : bit_at (get_or old j 0) i ≡ 1 = rw (d, m) at (to_bit old x h) in
+          omega (arith, one, was_zero)),
     )
 
 -- a set within another, bit by bit

@@ -7,28 +7,34 @@ use Rattle.sp_interfere.proofs.parts.clashes_before.Goals as goal
 
 pub returns-then-meets : goal.returns-then-meets
 returns-then-meets c =
-    let w = c.meets.ensures.0 c.if-meets.true in
+    let (x, in_window, in_union, is_there) = c.meets.ensures.0 c.if-meets.true in
     sym (hit_target c.args.s.now (numbers_of (statements (map statement_of c.args.earlier.now))) c.args.n
-    c.args.targets.now c.args.used.now c.requires.targets c.requires.used w.0 w.1 w.2
-    (subst (λ a. has a w.0 ≡ true) c.targets.ensures w.3))
+    c.args.targets.now c.args.used.now c.requires.targets c.requires.used x in_window in_union
+    (subst (λ a. has a x ≡ true) c.targets.ensures is_there))
 
 pub returns-then-meets-2 : goal.returns-then-meets-2
 returns-then-meets-2 c =
-    let w = c.meets-2.ensures.0 c.if-meets-2.true in
+    let (x, in_window, in_union, is_there) = c.meets-2.ensures.0 c.if-meets-2.true in
     sym (hit_seen c.args.s.now (numbers_of (statements (map statement_of c.args.earlier.now))) c.args.n
-    c.args.targets.now c.args.used.now c.requires.targets c.requires.used w.0 w.1 w.2
-    (subst (λ a. has a w.0 ≡ true) c.expressions.ensures w.3))
+    c.args.targets.now c.args.used.now c.requires.targets c.requires.used x in_window in_union
+    (subst (λ a. has a x ≡ true) c.expressions.ensures is_there))
 
 pub returns : goal.returns
 returns c =
     no_hit c.args.s.now (numbers_of (statements (map statement_of c.args.earlier.now))) c.args.n c.args.targets.now
     c.args.used.now c.requires.targets c.requires.used
     (c.is_wide.ensures c.if-is_wide.false)
-    (λ w. let yes = c.meets.ensures.1 (w.0, w.1, w.2, subst (λ a. has a w.0 ≡ true) (sym c.targets.ensures) w.3) in
-    cc (yes, c.if-meets.false))
-    (λ w. let yes = c.meets-2.ensures.1 (
-      w.0,
-      w.1,
-      w.2,
-      subst (λ a. has a w.0 ≡ true) (sym c.expressions.ensures) w.3,
+    (λ (x, in_window, in_union, is_there).
+    let yes = c.meets.ensures.1 (
+      x,
+      in_window,
+      in_union,
+      subst (λ a. has a x ≡ true) (sym c.targets.ensures) is_there,
+    ) in cc (yes, c.if-meets.false))
+    (λ (x, in_window, in_union, is_there).
+    let yes = c.meets-2.ensures.1 (
+      x,
+      in_window,
+      in_union,
+      subst (λ a. has a x ≡ true) (sym c.expressions.ensures) is_there,
     ) in cc (yes, c.if-meets-2.false))

@@ -37,13 +37,13 @@ loop-entry-preserved c =
     let es = c.items-entry-items.result.now in
     let i = c.loop-entry.entry-index in
     let l = c.loop-entry-test.true in
-    let h = c.loop-entry.invariant in (
+    let (_, so_far, nameable, told, fit) = c.loop-entry.invariant in (
       c.in-Ok-add.ensures.ledger,
-      kept_whole es i l c.loop-entry.ledger.journal.entries c.add.new.self.journal.entries h.1
+      kept_whole es i l c.loop-entry.ledger.journal.entries c.add.new.self.journal.entries so_far
           c.in-Ok-add.ensures.added,
-      still_nameable es i any_entry l h.2,
-      one_told es i l _ _ _ h.1 c.in-Ok-tell.ensures h.3,
-      one_fits es i l _ _ _ h.1 c.in-Ok-tell.ensures h.2 h.4,
+      still_nameable es i any_entry l nameable,
+      one_told es i l _ _ _ so_far c.in-Ok-tell.ensures told,
+      one_fits es i l _ _ _ so_far c.in-Ok-tell.ensures nameable fit,
     )
 
 pub returns-clause-ledger : goal.returns-clause-ledger
@@ -58,18 +58,20 @@ pub returns-clause-table : goal.returns-clause-table
 returns-clause-table c =
     let es = c.items-entry-items.result.now in
     let t = table_conditions c.loop-entry.table in
+    let (_, _, _, told, _) = c.loop-entry.invariant in
     sym (ap (conditions_after_all (births (take c.loop-entry.entry-index es)) t)
     (drop_all c.loop-entry.entry-index es c.loop-entry-test.false))
-    ∙ c.loop-entry.invariant.3 ∙ ap conditions c.items-entry-items.ensures
+    ∙ told ∙ ap conditions c.items-entry-items.ensures
 
 pub returns-clause-fit : goal.returns-clause-fit
 returns-clause-fit c =
     let es = c.items-entry-items.result.now in
     let whole = take_all c.loop-entry.entry-index es c.loop-entry-test.false ∙ c.items-entry-items.ensures in
-    let told = sym (ap (conditions_after_all (births (take c.loop-entry.entry-index es))
+    let (_, _, _, told, fit) = c.loop-entry.invariant in
+    let all_told = sym (ap (conditions_after_all (births (take c.loop-entry.entry-index es))
     (table_conditions c.loop-entry.table))
-    (drop_all c.loop-entry.entry-index es c.loop-entry-test.false)) ∙ c.loop-entry.invariant.3
+    (drop_all c.loop-entry.entry-index es c.loop-entry-test.false)) ∙ told
     ∙ ap conditions c.items-entry-items.ensures in
-    subst (ConditionsFit (births c.args.journal.now.entries)) told
+    subst (ConditionsFit (births c.args.journal.now.entries)) all_told
     (subst (λ (xs : List Entry). ConditionsFit (births xs) (table_conditions c.loop-entry.table)) whole
-    c.loop-entry.invariant.4)
+    fit)

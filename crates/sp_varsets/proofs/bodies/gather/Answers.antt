@@ -8,16 +8,14 @@ use Rattle.sp_varsets.proofs.bodies.gather.Goals as goal
 
 pub loop-block-preserved : goal.loop-block-preserved
 loop-block-preserved c =
-    let e = c.in-Ok.ensures in
-    let put = e.1 in
-    let w = e.2.2 in (
-      bodies_more (map block_of c.args.blocks.now) c.loop-block.bodies c.walk_in.new.self e.0
+    let (uses, put, (_, empty, walk)) = c.in-Ok.ensures in (
+      bodies_more (map block_of c.args.blocks.now) c.loop-block.bodies c.walk_in.new.self uses
           (block_of c.block-item.result) c.loop-block.block-index c.loop-block.invariant.0
           (block_at c.args.blocks.now c.loop-block.block-index c.block-item.result c.loop-block-test.true
           c.block-item.is)
-          put.targets put.expressions put.calls put.stops (from_empty e.2.1 w.adds),
+          put.targets put.expressions put.calls put.stops (from_empty empty walk.adds),
       λ v f. c.loop-block.invariant.1 v (rw (blocks_on c.args.blocks.now c.loop-block.block-index c.block-item.result
-          c.loop-block-test.true c.block-item.is) (writes_then w.writes f)),
+          c.loop-block-test.true c.block-item.is) (writes_then walk.writes f)),
     )
 
 pub returns-clause-walk : goal.returns-clause-walk

@@ -15,13 +15,13 @@ pub sweeps-smaller : goal.sweeps-smaller
 sweeps-smaller c =
     let h = c.in_ok-hurry.ensures in
     let s = c.in_ok-sweep.ensures in
-    let m = s.some c.if-not-branch.false in
+    let (b, x, is_there, was_not) = s.some c.if-not-branch.false in
     let f = follows_then c.sweeps.invariant (follows_then h s.follows) in
-    let l = f.led m.0 m.1 m.2 in
-    let low = leads_below c.args.calls.now c.args.hidden.now c.args.rows.now l.0 m.0 m.1 l.1 in
+    let l = f.led b x is_there in
+    let low = leads_below c.args.calls.now c.args.hidden.now c.args.rows.now l.0 b x l.1 in
     let one = gaps_le c.sweeps.rows c.hurry.new.rows (span c.args.rows.now) h.rows h.kept in
-    let two = gaps_lt c.hurry.new.rows c.sweep.new.rows (span c.args.rows.now) m.0 m.1 s.follows.rows s.follows.kept low
-    m.2 m.3 in
+    let two = gaps_lt c.hurry.new.rows c.sweep.new.rows (span c.args.rows.now) b x s.follows.rows s.follows.kept low
+    is_there was_not in
     omega arith
 
 pub sweeps-init : goal.sweeps-init

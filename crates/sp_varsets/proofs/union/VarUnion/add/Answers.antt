@@ -19,9 +19,10 @@ returns-clause-added c x w =
     let others : length c.items-others.result.now ≡ length c.args.set.now.words = ap length c.items-others.ensures in
     let place : (x / 64 < first + c.words.k) ⊎ (length c.args.set.now.words ≤ x / 64) =
     elim (cases_lt (x / 64) (first + c.words.k)) [ inl h ↦ inl h | inr h ↦ inr (omega arith) ] in
+    let (same_first, _, more, kept) = c.words.invariant in
     let all = joined_words c.args.self.now.words c.words.self.words c.args.set.now.words first c.words.k
-    (λ j h. c.words.invariant.2 j h ∙ ap (λ z. bit_or (get_or c.args.self.now.words j 0) (get_or z (first + j) 0))
+    (λ j h. more j h ∙ ap (λ z. bit_or (get_or c.args.self.now.words j 0) (get_or z (first + j) 0))
     c.items-others.ensures)
-    c.words.invariant.3 x low place in
+    kept x low place in
     subst (λ f. in_words c.words.self.words (x - 64 * f) ≡ in_words c.args.self.now.words (x - 64 * first)
-    || in_words c.args.set.now.words x) (Rattle.std.proofs.Common.sym c.words.invariant.0) all
+    || in_words c.args.set.now.words x) (Rattle.std.proofs.Common.sym same_first) all

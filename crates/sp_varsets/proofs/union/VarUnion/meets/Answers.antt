@@ -12,9 +12,9 @@ returns-then-self-k-ne0 c =
     (get_or c.args.set.now.words (c.args.self.now.first + c.words.k) 0) ≢ 0 =
     subst (λ z. bit_and (get_or c.args.self.now.words c.words.k 0) (get_or z (c.args.self.now.first + c.words.k) 0) ≢ 0)
     c.items-others.ensures c.if-self-k-ne0.true in
-    let m = met_at c.args.self.now.words c.args.set.now.words c.args.self.now.first c.words.k words some in
-    let high = m.2 in
-    (λ h. (m.0, (omega arith, omega arith), m.3, m.4), λ h. refl)
+    let (x, from, to, in_self, in_set) = met_at c.args.self.now.words c.args.set.now.words c.args.self.now.first
+    c.words.k words some in
+    (λ h. (x, (omega (arith, from), omega (arith, to)), in_self, in_set), λ h. refl)
 
 pub returns : goal.returns
 unfolding union_has

@@ -13,9 +13,10 @@ returns-then-words-k-ne0 c =
     let eb = c.items-others.ensures in
     let some : bit_and (get_or c.args.self.now.words c.words.k 0) (get_or c.args.other.now.words (0 + c.words.k) 0)
     ≢ 0 = rw (Rattle.std.proofs.Common.zero-add c.words.k) (rw (sym ea, sym eb) c.if-words-k-ne0.true) in
-    let m = met_at c.args.self.now.words c.args.other.now.words 0 c.words.k (rw (sym ea) small) some in
-    let x0 : m.0 - 64 * 0 ≡ m.0 = omega arith in
-    (λ h. (m.0, subst (λ z. in_words c.args.self.now.words z ≡ true) x0 m.3, m.4), λ h. refl)
+    let (x, _, _, in_self, in_other) = met_at c.args.self.now.words c.args.other.now.words 0 c.words.k
+    (rw (sym ea) small) some in
+    let x0 : x - 64 * 0 ≡ x = omega arith in
+    (λ h. (x, subst (λ z. in_words c.args.self.now.words z ≡ true) x0 in_self, in_other), λ h. refl)
 
 pub returns : goal.returns
 returns c = (
