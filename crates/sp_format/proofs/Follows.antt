@@ -214,11 +214,11 @@ reads_comment {r} {is} c g h = subst (λ v. KeptItems (c ++ r) (item None v ∷ 
 reads_token : {r : List ℕ} {is : List Item} (k : Kind) (c : List ℕ) → IsSoundItem (Some k) c → NotPartOfToken k c r
     → MayFollow k r
     → KeptItems r is → KeptItems (c ++ r) (item (Some k) c ∷ is)
-reads_token {r} {is} k c g p e h =
-    let y = g.1 r p in
+reads_token {r} {is} k c (_, reads, canonical, keeps_rules) p e h =
+    let y = reads r p in
     subst (λ v. KeptItems (c ++ r) (item (Some k) v ∷ is))
-    (ap (canonical_spelling (Some k)) (front_is (c ++ r) c r refl) ∙ g.2)
-    (kept_token k y.0 y.1 (no_breach k c r y g.3 e) h)
+    (ap (canonical_spelling (Some k)) (front_is (c ++ r) c r refl) ∙ canonical)
+    (kept_token k y.0 y.1 (no_breach k c r y keeps_rules e) h)
 
 again_by : (before : List Item) (k : Option Kind) (c : List ℕ) (is : List Item) → IsSoundItem k c → AreSoundItems is
     → Apart k is

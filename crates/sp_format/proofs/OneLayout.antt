@@ -18,10 +18,10 @@ one_layout text a b x y = one_text x.1 y.1
 
 pub one_refusal : (text : List ℕ) (a b : Refusal) → HasNoLayout text a → HasNoLayout text b → a ≡ b
 one_refusal text a b (inl x) (inl y) = one_verdict text a b x y
-one_refusal text a b (inl x) (inr y) = absurd (not_both text y.0.0 a y.0.1 x)
-one_refusal text a b (inr x) (inl y) = absurd (not_both text x.0.0 b x.0.1 y)
+one_refusal text a b (inl x) (inr ((program, is_tree), _)) = absurd (not_both text program a is_tree x)
+one_refusal text a b (inr ((program, is_tree), _)) (inl y) = absurd (not_both text program b is_tree y)
 one_refusal text a b (inr x) (inr y) = x.1.refusal_is ∙ sym y.1.refusal_is
 
 pub layout_or_refusal : (text out : List ℕ) (r : Refusal) → HasLayout text out → HasNoLayout text r → ⊥
-layout_or_refusal text out r x (inl y) = not_both text x.0.0 r x.0.1 y
+layout_or_refusal text out r ((program, is_tree), _) (inl y) = not_both text program r is_tree y
 layout_or_refusal text out r x (inr y) = long_or_short x.1 y.1

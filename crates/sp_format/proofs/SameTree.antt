@@ -98,8 +98,9 @@ module _ (text other : List ℕ) where
 
     simple_like : {d : ℕ} {k : Kind} {l : List Symbol} (c : SimpleRow d k l) → SaySame k t u → (vs : Values l)
         → simple_value text c t vs ≡ simple_value other c u vs
-    simple_like (row.simple_factor {d = d} {l = l} c) h vs = let p =
-        split l (sym.MoreFactors d ∷ sym.MoreTerms d ∷ []) vs in ap (λ x. p.1.1.0 (p.1.0 x)) (factor_like c h p.0)
+    simple_like (row.simple_factor {d = d} {l = l} c) h vs =
+        let (own, (factors, (terms, _))) = split l (sym.MoreFactors d ∷ sym.MoreTerms d ∷ []) vs in
+        ap (λ x. terms (factors x)) (factor_like c h own)
     simple_like row.simple_plus h (a, (f, v)) = ap (λ (p : Place). f (tree.ExpressionAt p (tree.Unary unary.Plus a))) at
     simple_like row.simple_minus h (a, (f, v)) =
         ap (λ (p : Place). f (tree.ExpressionAt p (tree.Unary unary.Minus a))) at
@@ -140,9 +141,9 @@ module _ (text other : List ℕ) where
         ap (λ (n : Name). with_part_first (tree.Var (n ∷ ns) k) b) h
     build_like (row.statement c) h vs = ap₂ (λ (p : Place) f. tree.Does p f) at (form_like c h vs)
     build_like row.becomes h (e, v) = refl
-    build_like (row.target {d = d} {l = l} c) h vs = let p =
-        split l (sym.AToken w.Becomes ∷ sym.AnExpression d ∷ []) vs in
-        ap (λ x. λ n. tree.Assign (tree.Entire n x) p.1.1.0) (selector_like c p.0)
+    build_like (row.target {d = d} {l = l} c) h vs =
+        let (own, (_, (e, _))) = split l (sym.AToken w.Becomes ∷ sym.AnExpression d ∷ []) vs in
+        ap (λ x. λ n. tree.Assign (tree.Entire n x) e) (selector_like c own)
     build_like row.call h (e, (m, (rest, v))) = refl
     build_like row.other h (s, v) = refl
     build_like row.next_statement h (s, (ss, v)) = refl
@@ -153,18 +154,20 @@ module _ (text other : List ℕ) where
     build_like row.arms_end h vs = refl
     build_like row.arms_go_on h (rest, v) = refl
     build_like row.no_arm h vs = refl
-    build_like (row.next_arm {d = d} {l = l} c) h vs = let p =
-        split l (sym.MoreLabels ∷ sym.AStatement d ∷ sym.MoreArms d ∷ []) vs in
-        ap (λ x. tree.Or (tree.On (x ∷ p.1.0) p.1.1.0) p.1.1.1.0) (constant_like c h p.0)
+    build_like (row.next_arm {d = d} {l = l} c) h vs =
+        let (own, (cs, (s, (arms, _)))) = split l (sym.MoreLabels ∷ sym.AStatement d ∷ sym.MoreArms d ∷ []) vs in
+        ap (λ x. tree.Or (tree.On (x ∷ cs) s) arms) (constant_like c h own)
     build_like row.upward h vs = refl
     build_like row.downward h vs = refl
-    build_like (row.expression {d = d} {l = l} c) h vs = let p = split l (sym.ARelation (suc d) ∷ []) vs in
-        ap p.1.0 (simple_like c h p.0)
+    build_like (row.expression {d = d} {l = l} c) h vs =
+        let (own, (comparison, _)) = split l (sym.ARelation (suc d) ∷ []) vs in
+        ap comparison (simple_like c h own)
     build_like (row.relation o) h (b, v) = refl
     build_like (row.simple c) h vs = simple_like c h vs
     build_like (row.next_term o) h (b, (f, v)) = refl
-    build_like (row.term {d = d} {l = l} c) h vs = let p = split l (sym.MoreFactors d ∷ []) vs in
-        ap p.1.0 (factor_like c h p.0)
+    build_like (row.term {d = d} {l = l} c) h vs =
+        let (own, (factors, _)) = split l (sym.MoreFactors d ∷ []) vs in
+        ap factors (factor_like c h own)
     build_like (row.next_factor o) h (b, (f, v)) = refl
     build_like (row.factor c) h vs = factor_like c h vs
     build_like (row.negated c) h vs = factor_like c h vs

@@ -116,19 +116,19 @@ name_first {source = source} {l = l} {of = of} {plain = plain} {ts = ts} {r = r}
           ts r vs
           → plain x ≡ of vs → NameFirst source l of (plain x) ts r
       first_of (a) (and {u = u} {vs = vs} d x) e =
-          let i = name_token d in
+          let (t, begins, is_name, same_name) = name_token d in
           let left : HasRead source l (λ vs. vs) (λ (vs : Values l). vs) u r vs = has_read h.ready x refl in
           record {
             rest = u;
             begins = record {
-              token = i.0;
-              token_is = i.2;
-              all = i.1;
-              ready = record { end = a.end; fit = (subst (TokensFit source.text.now) i.1 a.fit).1 };
+              token = t;
+              token_is = is_name;
+              all = begins;
+              ready = record { end = a.end; fit = (subst (TokensFit source.text.now) begins a.fit).1 };
             };
             given = vs;
             read = left;
-            value_is = e ∙ ap (λ n. of (n, vs)) i.3 ∙ ap (λ us. of (name_of source.text.now i.0, us)) left.value_is;
+            value_is = e ∙ ap (λ n. of (n, vs)) same_name ∙ ap (λ us. of (name_of source.text.now t, us)) left.value_is;
           }
 
 pub name_less : {X V : Type 0} {source : Source} {l : List Symbol} {of : Values (AName ∷ l) → V} {plain : X → V}

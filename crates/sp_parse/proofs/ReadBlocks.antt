@@ -103,9 +103,9 @@ pub parts_more : {source : Source} {ts rest left : List Token} (d : ℕ) (all ne
     → PartsSoFar source d all ts rest → HasDeclared source d all rest left new → PartsSoFar source d new ts left
 parts_more d all new so h = record {
   derives = λ r v x.
-      let i = h.so_far.derives r v x in
-      let j = so.derives r i.0.0 (head i.1) in
-      (j.0, j.1, i.2 ∙ j.2);
+      let (one, derives_one, same) = h.so_far.derives r v x in
+      let (values, derives_all, same_all) = so.derives r one.0 (head derives_one) in
+      (values, derives_all, same ∙ same_all);
   leads = λ q. so.leads q ∙ h.so_far.leads q;
   shorter = omega (arith, so.shorter, h.less);
   ready = h.so_far.ready;
@@ -124,7 +124,8 @@ block_same at {ps} {qs} {ss} {us} p q = ap (λ ps.
 
 pub parts_end : {source : Source} {ts rest behind r : List Token} (d : ℕ) (all : List SynPart) {ss : List SynStmt}
     {b : SynBlock} → PartsSoFar source d all ts rest → (first : BeginsWith source rest w.Begin behind)
-    → HasRead source (AStatement d ∷ MoreStatements d ∷ AToken w.End ∷ []) (λ vs. tree.AndThen vs.0 vs.1.0)
+    → HasRead source (AStatement d ∷ MoreStatements d ∷ AToken w.End ∷ [])
+    (λ (first, (more, _)). tree.AndThen first more)
     statements_of behind r ss → block_of b ≡ record {
       parts = parts_of all;
       body = tree.Does first.token.at (tree.Sequence (statements_of ss));

@@ -74,7 +74,7 @@ module _ (source : Source) where
       copy_derives source (SimpleRow (suc d)) (sym.AnExpression d) (sym.ASimple (suc d)) (sym.ARelation (suc d) ∷ [])
       (λ e. row.expression e.row) (λ e. row.simple e.row)
       (λ a ws. ws.0 a)
-      (λ e t us ws. ap (λ p. p.1.0 (simple_value source.text.now e.row t p.0))
+      (λ e t us ws. ap (λ (own, (comparison, _)). comparison (simple_value source.text.now e.row t own))
       (split_join e.left (sym.ARelation (suc d) ∷ []) us ws))
       t ts u r (f, tt) (look (simple_rows (suc d)) t.kind)
       (look_map (λ e. row_entry e.key (e.left ++ sym.ARelation (suc d) ∷ []) (row.expression e.row)) (λ e. refl)
@@ -162,7 +162,7 @@ module _ (source : Source) where
       copy_derives source (FactorRow d) (sym.ATerm d) (sym.AFactor d) (sym.MoreFactors d ∷ []) (λ e. row.term e.row)
       (λ e. row.factor e.row)
       (λ a ws. ws.0 a)
-      (λ e t us ws. ap (λ p. p.1.0 (factor_value source.text.now e.row t p.0))
+      (λ e t us ws. ap (λ (own, (factors, _)). factors (factor_value source.text.now e.row t own))
       (split_join e.left (sym.MoreFactors d ∷ []) us ws))
       t ts u r (f, tt) (look (factor_rows d) t.kind)
       (look_map (λ e. row_entry e.key (e.left ++ sym.MoreFactors d ∷ []) (row.term e.row)) (λ e. refl) (factor_rows d)
@@ -172,11 +172,12 @@ module _ (source : Source) where
   term_derives d {ts = []} x y = elim x [ ]
 
   abbrev pub IsTerm : ℕ → List Token → List Token → SynExpr → Type 0
-  IsTerm d ts r e = HasRead source (sym.AFactor d ∷ sym.MoreFactors d ∷ []) (λ vs. vs.1.0 vs.0) expression_of ts r e
+  IsTerm d ts r e = HasRead source (sym.AFactor d ∷ sym.MoreFactors d ∷ []) (λ (first, (factors, _)). factors first)
+      expression_of ts r e
 
   first_of : {d : ℕ} {ts r : List Token} {vs : Values (sym.AFactor d ∷ sym.MoreFactors d ∷ [])}
       → DerivesAll source.text.now IsNestable (sym.AFactor d ∷ sym.MoreFactors d ∷ []) ts r vs
-      → Derives source.text.now IsNestable (sym.ATerm d) ts r (vs.1.0 vs.0)
+      → let (first, (factors, _)) = vs in Derives source.text.now IsNestable (sym.ATerm d) ts r (factors first)
   first_of {d} (and x (and y none)) = term_derives d x y
 
   pub term_whole : (d : ℕ) {ts r : List Token} (e : SynExpr) → IsTerm d ts r e
@@ -215,8 +216,9 @@ module _ (source : Source) where
     unsigned_derives {u} {v} {r} {f = f} {h = h} x y z =
         copy_derives source (FactorRow d) (sym.ASimple d) (sym.AFactor d) (sym.MoreFactors d ∷ sym.MoreTerms d ∷ [])
         (λ e. row.simple (row.simple_factor e.row)) (λ e. row.factor e.row)
-        (λ a ws. ws.1.0 (ws.0 a))
-        (λ e t us ws. ap (λ p. p.1.1.0 (p.1.0 (factor_value source.text.now e.row t p.0)))
+        (λ a (factors, (terms, _)). terms (factors a))
+        (λ e t us ws. ap
+        (λ (own, (factors, (terms, _))). terms (factors (factor_value source.text.now e.row t own)))
         (split_join e.left (sym.MoreFactors d ∷ sym.MoreTerms d ∷ []) us ws))
         t ts u r (f, (h, tt)) (look (factor_rows d) t.kind)
         (look_unsigned ∙ look_map as_simple (λ e. refl) (factor_rows d) t.kind)
@@ -227,13 +229,16 @@ module _ (source : Source) where
         {h : tree.Expression → tree.Expression}
         → DerivesAll source.text.now IsNestable (sym.AFactor d ∷ sym.MoreFactors d ∷ []) (t ∷ ts) v vs
         → Derives source.text.now IsNestable (sym.MoreTerms d) v r h
-        → Derives source.text.now IsNestable (sym.ASimple d) (t ∷ ts) r (h (vs.1.0 vs.0))
+        → let (first, (factors, _)) = vs in
+        Derives source.text.now IsNestable (sym.ASimple d) (t ∷ ts) r (h (factors first))
     unsigned_all (and x (and y none)) z = unsigned_derives x y z
 
     pub unsigned_begun : {rest : List Token} (e : SynExpr) → IsTerm d (t ∷ ts) rest e
         → SoFar source (sym.ASimple d ∷ []) (λ vs. vs.0) (sym.MoreTerms d) (λ f. f (expression_of e)) (t ∷ ts) rest
     unsigned_begun e x = record {
-      derives = λ r f y. ((f (x.values.1.0 x.values.0), tt), and (unsigned_all x.derives y) none, ap f x.value_is);
+      derives = λ r f y.
+          let (first, (factors, _)) = x.values in
+          ((f (factors first), tt), and (unsigned_all x.derives y) none, ap f x.value_is);
       leads = λ q. unsigned_leads q ∙ x.leads (sym.MoreTerms d ∷ q);
       shorter = x.shorter;
       ready = x.ready;
@@ -246,21 +251,24 @@ module _ (source : Source) where
 
   unsigned_at : (d : ℕ) (t : Token) (ts : List Token) → kind_is w.Plus t.kind ≡ false → kind_is w.Minus t.kind ≡ false
       → (result : Result (SynExpr × Bor (List Token)) Halt)
-      → ParsesAs source (production (sym.AFactor d ∷ sym.MoreFactors d ∷ []) (λ vs. vs.1.0 vs.0)) expression_of (t ∷ ts)
+      → ParsesAs source (production (sym.AFactor d ∷ sym.MoreFactors d ∷ []) (λ (first, (factors, _)). factors first))
+      expression_of (t ∷ ts)
       result → ReadsSoFar source (single (sym.ASimple d)) (sym.MoreTerms d) (λ e f. f (expression_of e)) (t ∷ ts) result
   unsigned_at d t ts p m (Ok x) h = unsigned_begun d t ts p m x.0 h
   unsigned_at d t ts p m (Err e) h = unsigned_halts d t ts p m e h
 
   pub unsigned : (d : ℕ) (ts r : List Token) (t : Token) (o : Option UnaryOp) → HasFirstToken source ts t r → IsSign t o
       → o ≡ None → (result : Result (SynExpr × Bor (List Token)) Halt)
-      → ParsesAs source (production (sym.AFactor d ∷ sym.MoreFactors d ∷ []) (λ vs. vs.1.0 vs.0)) expression_of
+      → ParsesAs source (production (sym.AFactor d ∷ sym.MoreFactors d ∷ []) (λ (first, (factors, _)). factors first))
+      expression_of
       ts result
       → ReadsSoFar source (single (sym.ASimple d)) (sym.MoreTerms d) (λ e f. f (expression_of e)) ts result
   unsigned d ts r t o b s e result h =
       let n : IsSign t None = subst (IsSign t) e s in
       subst (λ l. ReadsSoFar source (single (sym.ASimple d)) (sym.MoreTerms d) (λ e f. f (expression_of e)) l result)
       (back_of b.all) (unsigned_at d t r n.0 n.1 result
-      (subst (λ l. ParsesAs source (production (sym.AFactor d ∷ sym.MoreFactors d ∷ []) (λ vs. vs.1.0 vs.0))
+      (subst (λ l. ParsesAs source (production (sym.AFactor d ∷ sym.MoreFactors d ∷ [])
+      (λ (first, (factors, _)). factors first))
       expression_of l result) b.all h))
 
   -- a sign and a term
@@ -291,13 +299,14 @@ module _ (source : Source) where
       → look (rows (sym.ASimple d)) k ≡ Some (row_entry k (sym.ATerm d ∷ sym.MoreTerms d ∷ []) row)
       → HasTokens source ts
       → (b : BeginsWith source ts k r) → ((vs : Values (sym.ATerm d ∷ sym.MoreTerms d ∷ []))
-      → build source.text.now row b.token vs ≡ vs.1.0 (tree.ExpressionAt b.token.at (tree.Unary o vs.0)))
+      → build source.text.now row b.token vs ≡
+      (let (operand, (terms, _)) = vs in terms (tree.ExpressionAt b.token.at (tree.Unary o operand))))
       → IsTerm d r left a
       → expression_of new ≡ tree.ExpressionAt b.token.at (tree.Unary o (expression_of a)) → SimpleSoFar d new ts left
   signed_by d o a new row found ready b builds h e =
       let x = term_whole d a h in
       chain row found refl (nothing_yet (sym.ASimple d) (λ vs. vs.0) (λ v. v) (λ v. refl) ready) b
-      (starts {of = λ vs. vs.1.0 (tree.ExpressionAt b.token.at (tree.Unary o vs.0))} x
+      (starts {of = λ (operand, (terms, _)). terms (tree.ExpressionAt b.token.at (tree.Unary o operand))} x
       (λ f. ap f (e ∙ ap (λ y. tree.ExpressionAt b.token.at (tree.Unary o y)) x.value_is)))
       (λ vs. back_of (builds vs))
 
@@ -333,7 +342,8 @@ module _ (source : Source) where
 
   -- further factors
   abbrev pub TermSoFar : ℕ → SynExpr → List Token → List Token → Type 0
-  TermSoFar d e ts rest = SoFar source (sym.AFactor d ∷ sym.MoreFactors d ∷ []) (λ vs. vs.1.0 vs.0) (sym.MoreFactors d)
+  TermSoFar d e ts rest = SoFar source (sym.AFactor d ∷ sym.MoreFactors d ∷ []) (λ (first, (factors, _)). factors first)
+      (sym.MoreFactors d)
       (λ f. f (expression_of e)) ts rest
 
   abbrev pub IsFactor : ℕ → List Token → List Token → SynExpr → Type 0

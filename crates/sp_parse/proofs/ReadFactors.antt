@@ -219,7 +219,7 @@ module _ (source : Source) where
 
   abbrev pub IsArguments : ℕ → List Token → List Token → List SynArg → Type 0
   IsArguments d ts r args = HasRead source (sym.AnExpression d ∷ sym.AWidth d ∷ sym.MoreArguments d ∷ [])
-      (λ vs. tree.AndArgument (tree.Pass vs.0 vs.1.0) vs.1.1.0) arguments_of ts r args
+      (λ (value, (width, (more, _))). tree.AndArgument (tree.Pass value width) more) arguments_of ts r args
 
   pub call_halts : (d : ℕ) {ts rest : List Token} → BeginsWith source ts w.Open rest → (e : Halt)
       → Halts source (sym.AnExpression d ∷ sym.AWidth d ∷ sym.MoreArguments d ∷ []) rest e
@@ -245,7 +245,8 @@ module _ (source : Source) where
   pub indices_more : (d : ℕ) {ts rest behind left : List Token} (all new : List SynSelector)
       → SelectorsSoFar d all ts rest → BeginsWith source rest w.OpenIndex behind
       → SoFar source (sym.AnExpression d ∷ sym.MoreIndices d ∷ [])
-      (λ vs. and_selectors all (tree.Select (tree.Index vs.0) vs.1.0)) (sym.Selectors d) (and_selectors new) behind left
+      (λ (index, (more, _)). and_selectors all (tree.Select (tree.Index index) more)) (sym.Selectors d)
+      (and_selectors new) behind left
       → SelectorsSoFar d new ts left
   indices_more d all new so b inner = chain (row.selector row.selector_index) refl refl so b inner (λ vs. refl)
 
@@ -278,13 +279,15 @@ module _ (source : Source) where
   -- indices
   abbrev pub MoreIndicesSoFar : ℕ → List SynSelector → List SynSelector → List Token → List Token → Type 0
   MoreIndicesSoFar d before all ts rest = SoFar source (sym.AnExpression d ∷ sym.MoreIndices d ∷ [])
-      (λ vs. and_selectors before (tree.Select (tree.Index vs.0) vs.1.0)) (sym.MoreIndices d) (and_selectors all) ts
+      (λ (index, (more, _)). and_selectors before (tree.Select (tree.Index index) more)) (sym.MoreIndices d)
+      (and_selectors all) ts
       rest
 
   abbrev pub IndicesPending : ℕ → List SynSelector → List SynSelector → List Token → List Token → Type 0
   IndicesPending d before all ts rest = Pending source (sym.AnExpression d ∷ sym.MoreIndices d ∷ [])
-      (λ vs. and_selectors before (tree.Select (tree.Index vs.0) vs.1.0)) (sym.AnExpression d ∷ sym.MoreIndices d ∷ [])
-      (λ vs. and_selectors all (tree.Select (tree.Index vs.0) vs.1.0)) ts rest
+      (λ (index, (more, _)). and_selectors before (tree.Select (tree.Index index) more))
+      (sym.AnExpression d ∷ sym.MoreIndices d ∷ [])
+      (λ (index, (more, _)). and_selectors all (tree.Select (tree.Index index) more)) ts rest
 
   pub indices_none : (d : ℕ) {ts : List Token} (before : List SynSelector) → HasTokens source ts
       → IndicesPending d before before ts ts
@@ -314,14 +317,16 @@ module _ (source : Source) where
   pub indices_close : (d : ℕ) {ts rest r : List Token} (before all : List SynSelector)
       → MoreIndicesSoFar d before all ts rest → Expected source w.CloseIndex rest r
       → SoFar source (sym.AnExpression d ∷ sym.MoreIndices d ∷ [])
-      (λ vs. and_selectors before (tree.Select (tree.Index vs.0) vs.1.0)) (sym.Selectors d) (and_selectors all) ts r
+      (λ (index, (more, _)). and_selectors before (tree.Select (tree.Index index) more)) (sym.Selectors d)
+      (and_selectors all) ts r
   indices_close d before all so h = chain row.indices_end refl refl so h.first
       (nothing_yet (sym.Selectors d) (λ vs. and_selectors all vs.0) (and_selectors all) (λ v. refl) h.first.ready)
       (λ vs. refl)
 
   -- arguments
   abbrev pub ArgumentSoFar : ℕ → SynExpr → List Token → List Token → Type 0
-  ArgumentSoFar d e ts rest = SoFar source (sym.AnExpression d ∷ sym.AWidth d ∷ []) (λ vs. tree.Pass vs.0 vs.1.0)
+  ArgumentSoFar d e ts rest = SoFar source (sym.AnExpression d ∷ sym.AWidth d ∷ [])
+      (λ (value, (width, _)). tree.Pass value width)
       (sym.AWidth d) (tree.Pass (expression_of e)) ts rest
 
   pub argument_start : (d : ℕ) {ts rest : List Token} (e : SynExpr) → IsExpression d ts rest e
@@ -329,7 +334,8 @@ module _ (source : Source) where
   argument_start d e h = starts h (λ v. ap (λ x. tree.Pass x v) h.value_is)
 
   abbrev pub IsArgument : ℕ → List Token → List Token → SynArg → Type 0
-  IsArgument d ts r a = HasRead source (sym.AnExpression d ∷ sym.AWidth d ∷ []) (λ vs. tree.Pass vs.0 vs.1.0)
+  IsArgument d ts r a = HasRead source (sym.AnExpression d ∷ sym.AWidth d ∷ [])
+      (λ (value, (width, _)). tree.Pass value width)
       argument_of ts r a
 
   pub no_width : (d : ℕ) {ts rest : List Token} (e : SynExpr) (a : SynArg) → IsExpression d ts rest e
@@ -354,18 +360,19 @@ module _ (source : Source) where
 
   abbrev pub ArgumentsSoFar : ℕ → List SynArg → List Token → List Token → Type 0
   ArgumentsSoFar d all ts rest = SoFar source (sym.AnExpression d ∷ sym.AWidth d ∷ sym.MoreArguments d ∷ [])
-      (λ vs. tree.AndArgument (tree.Pass vs.0 vs.1.0) vs.1.1.0) (sym.MoreArguments d) (and_arguments all) ts rest
+      (λ (value, (width, (more, _))). tree.AndArgument (tree.Pass value width) more) (sym.MoreArguments d)
+      (and_arguments all) ts rest
 
   abbrev pub ArgumentsPending : ℕ → List SynArg → List Token → List Token → Type 0
   ArgumentsPending d all ts rest = Pending source (sym.AnExpression d ∷ sym.AWidth d ∷ sym.MoreArguments d ∷ [])
-      (λ vs. tree.AndArgument (tree.Pass vs.0 vs.1.0) vs.1.1.0)
+      (λ (value, (width, (more, _))). tree.AndArgument (tree.Pass value width) more)
       (sym.AnExpression d ∷ sym.AWidth d ∷ sym.MoreArguments d ∷ [])
-      (λ vs. and_arguments all (tree.AndArgument (tree.Pass vs.0 vs.1.0) vs.1.1.0)) ts rest
+      (λ (value, (width, (more, _))). and_arguments all (tree.AndArgument (tree.Pass value width) more)) ts rest
 
   pub arguments_none : (d : ℕ) {ts : List Token} (all : List SynArg) → all ≡ [] → HasTokens source ts
       → ArgumentsPending d all ts ts
-  arguments_none d all e a = none_read (λ vs. ap
-      (λ l. and_arguments l (tree.AndArgument (tree.Pass vs.0 vs.1.0) vs.1.1.0)) e) a
+  arguments_none d all e a = none_read (λ (value, (width, (more, _))). ap
+      (λ l. and_arguments l (tree.AndArgument (tree.Pass value width) more)) e) a
 
   pub arguments_read : (d : ℕ) {ts rest left : List Token} (a : SynArg) (all new : List SynArg)
       → ArgumentsPending d all ts rest → IsArgument d rest left a → new ≡ all ++ a ∷ [] → ArgumentsSoFar d new ts left

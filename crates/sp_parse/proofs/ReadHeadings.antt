@@ -44,16 +44,17 @@ no_formal source b e h = named_halts source row.by_value refl refl b.token b.res
     (λ n. none_if _ n (none_if _ b.differs refl)) refl e h
 
 abbrev pub FormalsSoFar : Source → List SynFormal → List Token → List Token → Type 0
-FormalsSoFar source all ts rest = SoFar source (AFormal ∷ MoreFormals ∷ []) (λ vs. vs.0 ∷ vs.1.0) MoreFormals
+FormalsSoFar source all ts rest = SoFar source (AFormal ∷ MoreFormals ∷ []) (λ (formal, (more, _)). formal ∷ more)
+    MoreFormals
     (λ fs. all ++ fs) ts rest
 
 abbrev pub FormalsPending : Source → List SynFormal → List Token → List Token → Type 0
-FormalsPending source all ts rest = Pending source (AFormal ∷ MoreFormals ∷ []) (λ vs. vs.0 ∷ vs.1.0)
-    (AFormal ∷ MoreFormals ∷ []) (λ vs. all ++ vs.0 ∷ vs.1.0) ts rest
+FormalsPending source all ts rest = Pending source (AFormal ∷ MoreFormals ∷ []) (λ (formal, (more, _)). formal ∷ more)
+    (AFormal ∷ MoreFormals ∷ []) (λ (formal, (more, _)). all ++ formal ∷ more) ts rest
 
 pub formals_none : {source : Source} {ts : List Token} (all : List SynFormal) → all ≡ [] → HasTokens source ts
     → FormalsPending source all ts ts
-formals_none all e a = none_read (λ vs. ap (λ l. l ++ vs.0 ∷ vs.1.0) e) a
+formals_none all e a = none_read (λ (formal, (more, _)). ap (λ l. l ++ formal ∷ more) e) a
 
 pub formals_read : {source : Source} {ts rest left : List Token} {f : SynFormal} (all new : List SynFormal)
     → FormalsPending source all ts rest → FormalRead source rest left f → new ≡ all ++ f ∷ []
@@ -66,7 +67,8 @@ pub formals_on : {source : Source} {ts rest behind : List Token} (all : List Syn
 formals_on all so b = round_on row.next_formal refl refl so b (λ vs. refl)
 
 pub formals_close : {source : Source} {ts rest r : List Token} (all : List SynFormal) → FormalsSoFar source all ts rest
-    → BeginsWith source rest w.Close r → HasRead source (AFormal ∷ MoreFormals ∷ []) (λ vs. vs.0 ∷ vs.1.0)
+    → BeginsWith source rest w.Close r → HasRead source (AFormal ∷ MoreFormals ∷ [])
+    (λ (formal, (more, _)). formal ∷ more)
     (λ (fs : List SynFormal). fs) ts r all
 formals_close all so b = closes row.formals_end refl refl so b (back_of (append-nil all))
 

@@ -30,16 +30,18 @@ name_is {source} {ts} {r} {t} {n} b p e = has_read b.ready
     (and (take (row_entry _ _ row.name) refl t p tt none) none)) e
 
 abbrev pub NamesSoFar : Source → List Name → List Token → List Token → Type 0
-NamesSoFar source all ts rest = SoFar source (AName ∷ MoreNames ∷ []) (λ vs. vs.0 ∷ vs.1.0) MoreNames (λ ns. all ++ ns)
+NamesSoFar source all ts rest = SoFar source (AName ∷ MoreNames ∷ []) (λ (name, (more, _)). name ∷ more) MoreNames
+    (λ ns. all ++ ns)
     ts rest
 
 abbrev pub NamesPending : Source → List Name → List Token → List Token → Type 0
-NamesPending source all ts rest = Pending source (AName ∷ MoreNames ∷ []) (λ vs. vs.0 ∷ vs.1.0) (AName ∷ MoreNames ∷ [])
-    (λ vs. all ++ vs.0 ∷ vs.1.0) ts rest
+NamesPending source all ts rest = Pending source (AName ∷ MoreNames ∷ []) (λ (name, (more, _)). name ∷ more)
+    (AName ∷ MoreNames ∷ [])
+    (λ (name, (more, _)). all ++ name ∷ more) ts rest
 
 pub names_none : {source : Source} {ts : List Token} (all : List Name) → all ≡ [] → HasTokens source ts
     → NamesPending source all ts ts
-names_none all e a = none_read (λ vs. ap (λ l. l ++ vs.0 ∷ vs.1.0) e) a
+names_none all e a = none_read (λ (name, (more, _)). ap (λ l. l ++ name ∷ more) e) a
 
 pub names_read : {source : Source} {ts rest left : List Token} {n : Name} (all new : List Name)
     → NamesPending source all ts rest → HasRead source (AName ∷ []) (λ vs. vs.0) (λ (n : Name). n) rest left n
@@ -52,7 +54,8 @@ pub names_on : {source : Source} {ts rest behind : List Token} (all : List Name)
 names_on all so b = round_on row.next_name refl refl so b (λ vs. refl)
 
 pub names_end : {source : Source} {ts rest : List Token} (all : List Name) → NamesSoFar source all ts rest
-    → BeginsOther rest w.Comma → HasRead source (AName ∷ MoreNames ∷ []) (λ vs. vs.0 ∷ vs.1.0) (λ (ns : List Name). ns)
+    → BeginsOther rest w.Comma → HasRead source (AName ∷ MoreNames ∷ []) (λ (name, (more, _)). name ∷ more)
+    (λ (ns : List Name). ns)
     ts rest all
 names_end all so b = ends so (skipped MoreNames b.token b.rest b.all
     (ap (λ x. cond x (Some (row_entry _ _ row.next_name)) None) b.differs) refl) so.ready (back_of (append-nil all))

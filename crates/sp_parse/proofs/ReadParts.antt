@@ -48,21 +48,22 @@ has_name b n = absurd (let x : true ≡ false = back_of (ap (kind_is kind.Name) 
 -- constants
 abbrev pub ConstantsRead : Source → List Token → List Token → SynPart → Type 0
 ConstantsRead source ts r p = HasRead source (AName ∷ AToken w.Equal ∷ AConstant ∷ AToken w.Semicolon ∷ [])
-    (λ vs. tree.Const vs.0 vs.1.1.0) part_of ts r p
+    (λ (name, (_, (value, _))). tree.Const name value) part_of ts r p
 
 abbrev pub ConstantsSoFar : Source → ℕ → List SynPart → List SynPart → List Token → List Token → Type 0
 ConstantsSoFar source d before all ts rest =
     SoFar source (AName ∷ AToken w.Equal ∷ AConstant ∷ AToken w.Semicolon ∷ MoreConstants d ∷ [])
-    (λ vs. and_parts before (with_part_first (tree.Const vs.0 vs.1.1.0) vs.1.1.1.1.0)) (MoreConstants d)
+    (λ (name, (_, (value, (_, (behind, _))))). and_parts before (with_part_first (tree.Const name value) behind))
+    (MoreConstants d)
     (λ b. and_parts all b)
     ts rest
 
 abbrev pub ConstantsPending : Source → ℕ → List SynPart → List SynPart → List Token → List Token → Type 0
 ConstantsPending source d before all ts rest =
     Pending source (AName ∷ AToken w.Equal ∷ AConstant ∷ AToken w.Semicolon ∷ MoreConstants d ∷ [])
-    (λ vs. and_parts before (with_part_first (tree.Const vs.0 vs.1.1.0) vs.1.1.1.1.0))
+    (λ (name, (_, (value, (_, (behind, _))))). and_parts before (with_part_first (tree.Const name value) behind))
     (AName ∷ AToken w.Equal ∷ AConstant ∷ AToken w.Semicolon ∷ MoreConstants d ∷ [])
-    (λ vs. and_parts all (with_part_first (tree.Const vs.0 vs.1.1.0) vs.1.1.1.1.0)) ts rest
+    (λ (name, (_, (value, (_, (behind, _))))). and_parts all (with_part_first (tree.Const name value) behind)) ts rest
 
 pub constants_none : {source : Source} {ts : List Token} (before : List SynPart) → HasTokens source ts → (d : ℕ)
     → ConstantsPending source d before before ts ts
@@ -92,7 +93,8 @@ look_constants d t h = ap (λ x. cond x (Some
 pub constants_end : {source : Source} {ts rest : List Token} (before all : List SynPart)
     → ((d : ℕ) → ConstantsSoFar source d before all ts rest) → BeginsOther rest kind.Name → (d : ℕ)
     → SoFar source (AName ∷ AToken w.Equal ∷ AConstant ∷ AToken w.Semicolon ∷ MoreConstants d ∷ [])
-    (λ vs. and_parts before (with_part_first (tree.Const vs.0 vs.1.1.0) vs.1.1.1.1.0)) (Parts d)
+    (λ (name, (_, (value, (_, (behind, _))))). and_parts before (with_part_first (tree.Const name value) behind))
+    (Parts d)
     (λ b. and_parts all b) ts rest
 constants_end {source} {ts} {rest} before all so b d = record {
   derives = λ r v x. (so d).derives r v
@@ -117,21 +119,24 @@ constants_end {source} {ts} {rest} before all so b d = record {
 -- types
 abbrev pub TypesRead : Source → List Token → List Token → SynPart → Type 0
 TypesRead source ts r p = HasRead source (AName ∷ AToken w.Equal ∷ AType ∷ AToken w.Semicolon ∷ [])
-    (λ vs. tree.Kind vs.0 vs.1.1.0) part_of ts r p
+    (λ (name, (_, (definition, _))). tree.Kind name definition) part_of ts r p
 
 abbrev pub TypesSoFar : Source → ℕ → List SynPart → List SynPart → List Token → List Token → Type 0
 TypesSoFar source d before all ts rest = SoFar source
     (AName ∷ AToken w.Equal ∷ AType ∷ AToken w.Semicolon ∷ MoreTypes d ∷ [])
-    (λ vs. and_parts before (with_part_first (tree.Kind vs.0 vs.1.1.0) vs.1.1.1.1.0)) (MoreTypes d)
+    (λ (name, (_, (definition, (_, (behind, _))))). and_parts before
+    (with_part_first (tree.Kind name definition) behind)) (MoreTypes d)
     (λ b. and_parts all b) ts
     rest
 
 abbrev pub TypesPending : Source → ℕ → List SynPart → List SynPart → List Token → List Token → Type 0
 TypesPending source d before all ts rest = Pending source
     (AName ∷ AToken w.Equal ∷ AType ∷ AToken w.Semicolon ∷ MoreTypes d ∷ [])
-    (λ vs. and_parts before (with_part_first (tree.Kind vs.0 vs.1.1.0) vs.1.1.1.1.0))
+    (λ (name, (_, (definition, (_, (behind, _))))). and_parts before
+    (with_part_first (tree.Kind name definition) behind))
     (AName ∷ AToken w.Equal ∷ AType ∷ AToken w.Semicolon ∷ MoreTypes d ∷ [])
-    (λ vs. and_parts all (with_part_first (tree.Kind vs.0 vs.1.1.0) vs.1.1.1.1.0)) ts rest
+    (λ (name, (_, (definition, (_, (behind, _))))). and_parts all (with_part_first (tree.Kind name definition) behind))
+    ts rest
 
 pub types_none : {source : Source} {ts : List Token} (before : List SynPart) → HasTokens source ts → (d : ℕ)
     → TypesPending source d before before ts ts
@@ -160,7 +165,8 @@ look_types d t h = ap (λ x. cond x (Some (row_entry kind.Name
 pub types_end : {source : Source} {ts rest : List Token} (before all : List SynPart)
     → ((d : ℕ) → TypesSoFar source d before all ts rest) → BeginsOther rest kind.Name → (d : ℕ)
     → SoFar source (AName ∷ AToken w.Equal ∷ AType ∷ AToken w.Semicolon ∷ MoreTypes d ∷ [])
-    (λ vs. and_parts before (with_part_first (tree.Kind vs.0 vs.1.1.0) vs.1.1.1.1.0)) (Parts d)
+    (λ (name, (_, (definition, (_, (behind, _))))). and_parts before
+    (with_part_first (tree.Kind name definition) behind)) (Parts d)
     (λ b. and_parts all b) ts rest
 types_end {source} {ts} {rest} before all so b d = record {
   derives = λ r v x. (so d).derives r v
@@ -183,20 +189,23 @@ types_end {source} {ts} {rest} before all so b d = record {
 -- variables
 abbrev pub VariablesRead : Source → List Token → List Token → SynPart → Type 0
 VariablesRead source ts r p = HasRead source (AName ∷ MoreNames ∷ AToken w.Colon ∷ AName ∷ AToken w.Semicolon ∷ [])
-    (λ vs. tree.Var (vs.0 ∷ vs.1.0) vs.1.1.1.0) part_of ts r p
+    (λ (name, (more, (_, (type_name, _)))). tree.Var (name ∷ more) type_name) part_of ts r p
 
 abbrev pub VariablesSoFar : Source → ℕ → List SynPart → List SynPart → List Token → List Token → Type 0
 VariablesSoFar source d before all ts rest =
     SoFar source (AName ∷ MoreNames ∷ AToken w.Colon ∷ AName ∷ AToken w.Semicolon ∷ MoreVariables d ∷ [])
-    (λ vs. and_parts before (with_part_first (tree.Var (vs.0 ∷ vs.1.0) vs.1.1.1.0) vs.1.1.1.1.1.0)) (MoreVariables d)
+    (λ (name, (more, (_, (type_name, (_, (behind, _)))))). and_parts before
+    (with_part_first (tree.Var (name ∷ more) type_name) behind)) (MoreVariables d)
     (λ b. and_parts all b) ts rest
 
 abbrev pub VariablesPending : Source → ℕ → List SynPart → List SynPart → List Token → List Token → Type 0
 VariablesPending source d before all ts rest =
     Pending source (AName ∷ MoreNames ∷ AToken w.Colon ∷ AName ∷ AToken w.Semicolon ∷ MoreVariables d ∷ [])
-    (λ vs. and_parts before (with_part_first (tree.Var (vs.0 ∷ vs.1.0) vs.1.1.1.0) vs.1.1.1.1.1.0))
+    (λ (name, (more, (_, (type_name, (_, (behind, _)))))). and_parts before
+    (with_part_first (tree.Var (name ∷ more) type_name) behind))
     (AName ∷ MoreNames ∷ AToken w.Colon ∷ AName ∷ AToken w.Semicolon ∷ MoreVariables d ∷ [])
-    (λ vs. and_parts all (with_part_first (tree.Var (vs.0 ∷ vs.1.0) vs.1.1.1.0) vs.1.1.1.1.1.0)) ts rest
+    (λ (name, (more, (_, (type_name, (_, (behind, _)))))). and_parts all
+    (with_part_first (tree.Var (name ∷ more) type_name) behind)) ts rest
 
 pub variables_none : {source : Source} {ts : List Token} (before : List SynPart) → HasTokens source ts → (d : ℕ)
     → VariablesPending source d before before ts ts
@@ -226,7 +235,8 @@ look_variables d t h = ap (λ x. cond x (Some
 pub variables_end : {source : Source} {ts rest : List Token} (before all : List SynPart)
     → ((d : ℕ) → VariablesSoFar source d before all ts rest) → BeginsOther rest kind.Name → (d : ℕ)
     → SoFar source (AName ∷ MoreNames ∷ AToken w.Colon ∷ AName ∷ AToken w.Semicolon ∷ MoreVariables d ∷ [])
-    (λ vs. and_parts before (with_part_first (tree.Var (vs.0 ∷ vs.1.0) vs.1.1.1.0) vs.1.1.1.1.1.0)) (Parts d)
+    (λ (name, (more, (_, (type_name, (_, (behind, _)))))). and_parts before
+    (with_part_first (tree.Var (name ∷ more) type_name) behind)) (Parts d)
     (λ b. and_parts all b) ts rest
 variables_end {source} {ts} {rest} before all so b d = record {
   derives = λ r v x. (so d).derives r v

@@ -167,19 +167,22 @@ module _ (source : Source) where
     target_derives {u} {v} {r} {x = x} a b y =
         copied_derives source (SelectorRow d) (sym.AfterName d) (sym.Selectors d)
         (sym.AToken w.Becomes ∷ sym.AnExpression d ∷ []) (λ e. row.target e.row) (λ e. row.selector e.row)
-        (λ ss ws. λ n. tree.Assign (tree.Entire n ss) ws.1.0)
-        (λ e t us ws. ap (λ p. λ n. tree.Assign (tree.Entire n (selector_value text e.row t p.0)) p.1.1.0)
+        (λ selectors (_, (value, _)). λ n. tree.Assign (tree.Entire n selectors) value)
+        (λ e t us ws. ap
+        (λ (own, (_, (value, _))). λ n. tree.Assign (tree.Entire n (selector_value text e.row t own)) value)
         (split_join e.left (sym.AToken w.Becomes ∷ sym.AnExpression d ∷ []) us ws))
         t ts u r (tt, (x, tt)) e look_target look_selector tt a (and b (and y none))
 
     target_all : {r : List Token} {vs : Values (sym.Selectors d ∷ sym.AToken w.Becomes ∷ sym.AnExpression d ∷ [])}
         → DerivesAll text IsNestable (sym.Selectors d ∷ sym.AToken w.Becomes ∷ sym.AnExpression d ∷ []) (t ∷ ts) r vs
-        → Derives text IsNestable (sym.AfterName d) (t ∷ ts) r (λ n. tree.Assign (tree.Entire n vs.0) vs.1.1.0)
+        → let (selectors, (_, (value, _))) = vs in
+        Derives text IsNestable (sym.AfterName d) (t ∷ ts) r (λ n. tree.Assign (tree.Entire n selectors) value)
     target_all (and a (and b (and y none))) = target_derives a b y
 
     target_at : (at : Place) (n : Name) (result : Result (SynStmt × Bor (List Token)) Halt)
         → ParsesAs source (production (sym.Selectors d ∷ sym.AToken w.Becomes ∷ sym.AnExpression d ∷ [])
-        (λ vs. tree.Does at (tree.Assign (tree.Entire n vs.0) vs.1.1.0))) statement_of (t ∷ ts) result
+        (λ (selectors, (_, (value, _))). tree.Does at (tree.Assign (tree.Entire n selectors) value))) statement_of
+        (t ∷ ts) result
         → ParsesAs source (production (sym.AfterName d ∷ []) (λ vs. tree.Does at (vs.0 n))) statement_of (t ∷ ts) result
     target_at at n (Ok x) h = has_read h.ready (and (target_all h.derives) none) h.value_is
     target_at at n (Err x) h = halts_same source (sym.AfterName d ∷ [])
@@ -189,7 +192,8 @@ module _ (source : Source) where
       → kind_is w.Open t.kind ≡ false → kind_is w.Becomes t.kind ≡ false
       → is_some (look (selector_rows d) t.kind) ≡ true → (result : Result (SynStmt × Bor (List Token)) Halt)
       → ParsesAs source (production (sym.Selectors d ∷ sym.AToken w.Becomes ∷ sym.AnExpression d ∷ [])
-      (λ vs. tree.Does at (tree.Assign (tree.Entire n vs.0) vs.1.1.0))) statement_of ts result
+      (λ (selectors, (_, (value, _))). tree.Does at (tree.Assign (tree.Entire n selectors) value))) statement_of ts
+      result
       → ParsesAs source (production (sym.AfterName d ∷ []) (λ vs. tree.Does at (vs.0 n))) statement_of ts result
   target_result d ts r t at n b o c s result h =
       let f = some_of (look (selector_rows d) t.kind) s in
@@ -198,7 +202,8 @@ module _ (source : Source) where
       (back_of b.all)
       (target_at d t r o c f.0 f.1 at n result
       (subst (λ l. ParsesAs source (production (sym.Selectors d ∷ sym.AToken w.Becomes ∷ sym.AnExpression d ∷ [])
-      (λ vs. tree.Does at (tree.Assign (tree.Entire n vs.0) vs.1.1.0))) statement_of l result) b.all h))
+      (λ (selectors, (_, (value, _))). tree.Does at (tree.Assign (tree.Entire n selectors) value))) statement_of l
+      result) b.all h))
 
   pub no_target : (d : ℕ) (t : Token) → kind_is w.Open t.kind ≡ false → kind_is w.Becomes t.kind ≡ false
       → is_some (look (selector_rows d) t.kind) ≡ false → look (rows (sym.AfterName d)) t.kind ≡ None
@@ -214,21 +219,21 @@ module _ (source : Source) where
   -- statements one after another
   abbrev pub StatementsSoFar : ℕ → List SynStmt → List Token → List Token → Type 0
   StatementsSoFar d all ts rest = SoFar source (sym.AStatement d ∷ sym.MoreStatements d ∷ [])
-      (λ vs. tree.AndThen vs.0 vs.1.0) (sym.MoreStatements d) (and_statements all) ts rest
+      (λ (first, (more, _)). tree.AndThen first more) (sym.MoreStatements d) (and_statements all) ts rest
 
   abbrev pub AreStatements : ℕ → List Token → List Token → List SynStmt → Type 0
   AreStatements d ts r ss = HasRead source (sym.AStatement d ∷ sym.MoreStatements d ∷ [])
-      (λ vs. tree.AndThen vs.0 vs.1.0) statements_of ts r ss
+      (λ (first, (more, _)). tree.AndThen first more) statements_of ts r ss
 
   -- statements are read so far, and another one is pending
   abbrev pub StatementsPending : ℕ → List SynStmt → List Token → List Token → Type 0
   StatementsPending d all ts rest = Pending source (sym.AStatement d ∷ sym.MoreStatements d ∷ [])
-      (λ vs. tree.AndThen vs.0 vs.1.0) (sym.AStatement d ∷ sym.MoreStatements d ∷ [])
-      (λ vs. and_statements all (tree.AndThen vs.0 vs.1.0)) ts rest
+      (λ (first, (more, _)). tree.AndThen first more) (sym.AStatement d ∷ sym.MoreStatements d ∷ [])
+      (λ (first, (more, _)). and_statements all (tree.AndThen first more)) ts rest
 
   pub statements_none : (d : ℕ) {ts : List Token} (all : List SynStmt) → all ≡ [] → HasTokens source ts
       → StatementsPending d all ts ts
-  statements_none d all e a = none_read (λ vs. ap (λ l. and_statements l (tree.AndThen vs.0 vs.1.0)) e) a
+  statements_none d all e a = none_read (λ (first, (more, _)). ap (λ l. and_statements l (tree.AndThen first more)) e) a
 
   pub statements_read : (d : ℕ) {ts rest left : List Token} (s : SynStmt) (all new : List SynStmt)
       → StatementsPending d all ts rest → IsStatement d rest left s → new ≡ all ++ s ∷ []
@@ -250,33 +255,34 @@ module _ (source : Source) where
   compound_all : (d : ℕ) {ts rest r : List Token} (all : List SynStmt)
       {vs : Values (sym.AStatement d ∷ sym.MoreStatements d ∷ [])}
       → DerivesAll text IsNestable (sym.AStatement d ∷ sym.MoreStatements d ∷ []) ts rest vs
-      → statements_of all ≡ tree.AndThen vs.0 vs.1.0 → Expected source w.End rest r
+      → statements_of all ≡ (let (first, (more, _)) = vs in tree.AndThen first more) → Expected source w.End rest r
       → HasRead source (sym.AStatement d ∷ sym.MoreStatements d ∷ sym.AToken w.End ∷ [])
-      (λ vs. tree.AndThen vs.0 vs.1.0) statements_of ts r all
+      (λ (first, (more, _)). tree.AndThen first more) statements_of ts r all
   compound_all d all (and a (and b none)) e x = has_read x.first.ready (and a (and b (and (expected x) none))) e
 
   pub compound_is : (d : ℕ) {ts rest r : List Token} (all : List SynStmt) → AreStatements d ts rest all
       → Expected source w.End rest r → HasRead source (sym.AStatement d ∷ sym.MoreStatements d ∷ sym.AToken w.End ∷ [])
-      (λ vs. tree.AndThen vs.0 vs.1.0) statements_of ts r all
+      (λ (first, (more, _)). tree.AndThen first more) statements_of ts r all
   compound_is d all h x = compound_all d all h.derives h.value_is x
 
   pub sequence_is : (d : ℕ) {ts r : List Token} (at : Place) (all : List SynStmt) (s : SynStmt)
       → HasRead source (sym.AStatement d ∷ sym.MoreStatements d ∷ sym.AToken w.End ∷ [])
-      (λ vs. tree.AndThen vs.0 vs.1.0) statements_of ts r all
+      (λ (first, (more, _)). tree.AndThen first more) statements_of ts r all
       → statement_of s ≡ tree.Does at (tree.Sequence (statements_of all))
       → HasRead source (sym.AStatement d ∷ sym.MoreStatements d ∷ sym.AToken w.End ∷ [])
-      (λ vs. tree.Does at (tree.Sequence (tree.AndThen vs.0 vs.1.0))) statement_of ts r s
+      (λ (first, (more, _)). tree.Does at (tree.Sequence (tree.AndThen first more))) statement_of ts r s
   sequence_is d at all s h e = has_read h.ready h.derives (e ∙ ap (λ x. tree.Does at (tree.Sequence x)) h.value_is)
 
   -- a condition last
   repeat_all : (d : ℕ) {ts rest behind r : List Token} (at : Place) (all : List SynStmt) (x : SynExpr) (s : SynStmt)
       {vs : Values (sym.AStatement d ∷ sym.MoreStatements d ∷ [])}
       → DerivesAll text IsNestable (sym.AStatement d ∷ sym.MoreStatements d ∷ []) ts rest vs
-      → statements_of all ≡ tree.AndThen vs.0 vs.1.0 → Expected source w.Until rest behind
+      → statements_of all ≡ (let (first, (more, _)) = vs in tree.AndThen first more) → Expected source w.Until rest
+      behind
       → IsExpression source d behind r x → statement_of s
       ≡ tree.Does at (tree.Repeat (statements_of all) (expression_of x))
       → HasRead source (sym.AStatement d ∷ sym.MoreStatements d ∷ sym.AToken w.Until ∷ sym.AnExpression d ∷ [])
-      (λ vs. tree.Does at (tree.Repeat (tree.AndThen vs.0 vs.1.0) vs.1.1.1.0)) statement_of ts r s
+      (λ (first, (more, (_, (test, _)))). tree.Does at (tree.Repeat (tree.AndThen first more) test)) statement_of ts r s
   repeat_all d at all x s (and a (and b none)) p u h e =
       has_read h.ready (and a (and b (and (expected u) (and (first_derived h) none))))
       (e ∙ (λ i. tree.Does at (tree.Repeat (p i) (h.value_is i))))
@@ -285,7 +291,7 @@ module _ (source : Source) where
       → AreStatements d ts rest all → Expected source w.Until rest behind → IsExpression source d behind r x
       → statement_of s ≡ tree.Does at (tree.Repeat (statements_of all) (expression_of x))
       → HasRead source (sym.AStatement d ∷ sym.MoreStatements d ∷ sym.AToken w.Until ∷ sym.AnExpression d ∷ [])
-      (λ vs. tree.Does at (tree.Repeat (tree.AndThen vs.0 vs.1.0) vs.1.1.1.0)) statement_of ts r s
+      (λ (first, (more, (_, (test, _)))). tree.Does at (tree.Repeat (tree.AndThen first more) test)) statement_of ts r s
   repeat_is d at all x s h u y e = repeat_all d at all x s h.derives h.value_is u y e
 
   -- behind `else`
@@ -308,15 +314,17 @@ module _ (source : Source) where
   IsConstant ts r c = HasRead source (sym.AConstant ∷ []) (λ vs. vs.0) (λ (c : SynConst). c) ts r c
 
   abbrev pub LabelsSoFar : List SynConst → List Token → List Token → Type 0
-  LabelsSoFar all ts rest = SoFar source (sym.AConstant ∷ sym.MoreLabels ∷ []) (λ vs. vs.0 ∷ vs.1.0) sym.MoreLabels
+  LabelsSoFar all ts rest = SoFar source (sym.AConstant ∷ sym.MoreLabels ∷ []) (λ (label, (labels, _)). label ∷ labels)
+      sym.MoreLabels
       (λ cs. all ++ cs) ts rest
 
   abbrev pub LabelsPending : List SynConst → List Token → List Token → Type 0
-  LabelsPending all ts rest = Pending source (sym.AConstant ∷ sym.MoreLabels ∷ []) (λ vs. vs.0 ∷ vs.1.0)
-      (sym.AConstant ∷ sym.MoreLabels ∷ []) (λ vs. all ++ vs.0 ∷ vs.1.0) ts rest
+  LabelsPending all ts rest = Pending source (sym.AConstant ∷ sym.MoreLabels ∷ [])
+      (λ (label, (labels, _)). label ∷ labels)
+      (sym.AConstant ∷ sym.MoreLabels ∷ []) (λ (label, (labels, _)). all ++ label ∷ labels) ts rest
 
   pub labels_none : {ts : List Token} (all : List SynConst) → all ≡ [] → HasTokens source ts → LabelsPending all ts ts
-  labels_none all e a = none_read (λ vs. ap (λ l. l ++ vs.0 ∷ vs.1.0) e) a
+  labels_none all e a = none_read (λ (label, (labels, _)). ap (λ l. l ++ label ∷ labels) e) a
 
   pub labels_read : {ts rest left : List Token} (c : SynConst) (all new : List SynConst) → LabelsPending all ts rest
       → IsConstant rest left c → new ≡ all ++ c ∷ [] → LabelsSoFar new ts left
@@ -335,7 +343,8 @@ module _ (source : Source) where
       (cond x (Some (row_entry _ _ row.next_label)) None)) b.differs) refl refl so e h
 
   pub labels_done : {ts rest r : List Token} (all : List SynConst) → LabelsSoFar all ts rest
-      → Expected source w.Colon rest r → HasRead source (sym.AConstant ∷ sym.MoreLabels ∷ []) (λ vs. vs.0 ∷ vs.1.0)
+      → Expected source w.Colon rest r → HasRead source (sym.AConstant ∷ sym.MoreLabels ∷ [])
+      (λ (label, (labels, _)). label ∷ labels)
       (λ (cs : List SynConst). cs) ts r all
   labels_done {r = r} all so h =
       ends so (subst (λ l. Derives text IsNestable sym.MoreLabels l r []) (back_of h.first.all)
@@ -345,37 +354,41 @@ module _ (source : Source) where
   -- arms
   abbrev pub IsArm : ℕ → List Token → List Token → SynArm → Type 0
   IsArm d ts r a = HasRead source (sym.AConstant ∷ sym.MoreLabels ∷ sym.AStatement d ∷ [])
-      (λ vs. tree.On (vs.0 ∷ vs.1.0) vs.1.1.0) arm_of ts r a
+      (λ (label, (labels, (body, _))). tree.On (label ∷ labels) body) arm_of ts r a
 
   arm_all : (d : ℕ) {ts rest r : List Token} (cs : List SynConst) (s : SynStmt) (a : SynArm)
       {vs : Values (sym.AConstant ∷ sym.MoreLabels ∷ [])}
-      → DerivesAll text IsNestable (sym.AConstant ∷ sym.MoreLabels ∷ []) ts rest vs → cs ≡ vs.0 ∷ vs.1.0
+      → DerivesAll text IsNestable (sym.AConstant ∷ sym.MoreLabels ∷ []) ts rest vs
+      → cs ≡ (let (label, (labels, _)) = vs in label ∷ labels)
       → IsStatement d rest r s → arm_of a ≡ tree.On cs (statement_of s) → IsArm d ts r a
   arm_all d cs s a (and x (and y none)) p h e =
       has_read h.ready (and x (and y (and (first_derived h) none))) (e ∙ (λ i. tree.On (p i) (h.value_is i)))
 
   pub arm_is : (d : ℕ) {ts rest r : List Token} (cs : List SynConst) (s : SynStmt) (a : SynArm)
-      → HasRead source (sym.AConstant ∷ sym.MoreLabels ∷ []) (λ vs. vs.0 ∷ vs.1.0) (λ (cs : List SynConst). cs) ts rest
+      → HasRead source (sym.AConstant ∷ sym.MoreLabels ∷ []) (λ (label, (labels, _)). label ∷ labels)
+      (λ (cs : List SynConst). cs) ts rest
       cs → IsStatement d rest r s → arm_of a ≡ tree.On cs (statement_of s) → IsArm d ts r a
   arm_is d cs s a h x e = arm_all d cs s a h.derives h.value_is x e
 
   abbrev pub ArmsSoFar : ℕ → List SynArm → List Token → List Token → Type 0
   ArmsSoFar d all ts rest = SoFar source (sym.AConstant ∷ sym.MoreLabels ∷ sym.AStatement d ∷ sym.MoreArms d ∷ [])
-      (λ vs. tree.Or (tree.On (vs.0 ∷ vs.1.0) vs.1.1.0) vs.1.1.1.0) (sym.MoreArms d) (and_arms all) ts rest
+      (λ (label, (labels, (body, (more, _)))). tree.Or (tree.On (label ∷ labels) body) more) (sym.MoreArms d)
+      (and_arms all) ts rest
 
   abbrev pub AreArms : ℕ → List Token → List Token → List SynArm → Type 0
   AreArms d ts r all = HasRead source (sym.AConstant ∷ sym.MoreLabels ∷ sym.AStatement d ∷ sym.MoreArms d ∷ [])
-      (λ vs. tree.Or (tree.On (vs.0 ∷ vs.1.0) vs.1.1.0) vs.1.1.1.0) arms_of ts r all
+      (λ (label, (labels, (body, (more, _)))). tree.Or (tree.On (label ∷ labels) body) more) arms_of ts r all
 
   abbrev pub ArmsPending : ℕ → List SynArm → List Token → List Token → Type 0
   ArmsPending d all ts rest = Pending source (sym.AConstant ∷ sym.MoreLabels ∷ sym.AStatement d ∷ sym.MoreArms d ∷ [])
-      (λ vs. tree.Or (tree.On (vs.0 ∷ vs.1.0) vs.1.1.0) vs.1.1.1.0)
+      (λ (label, (labels, (body, (more, _)))). tree.Or (tree.On (label ∷ labels) body) more)
       (sym.AConstant ∷ sym.MoreLabels ∷ sym.AStatement d ∷ sym.MoreArms d ∷ [])
-      (λ vs. and_arms all (tree.Or (tree.On (vs.0 ∷ vs.1.0) vs.1.1.0) vs.1.1.1.0)) ts rest
+      (λ (label, (labels, (body, (more, _)))). and_arms all (tree.Or (tree.On (label ∷ labels) body) more)) ts rest
 
   pub arms_none : (d : ℕ) {ts : List Token} (all : List SynArm) → all ≡ [] → HasTokens source ts
       → ArmsPending d all ts ts
-  arms_none d all e a = none_read (λ vs. ap (λ l. and_arms l (tree.Or (tree.On (vs.0 ∷ vs.1.0) vs.1.1.0) vs.1.1.1.0)) e)
+  arms_none d all e a = none_read (λ (label, (labels, (body, (more, _)))). ap
+      (λ l. and_arms l (tree.Or (tree.On (label ∷ labels) body) more)) e)
       a
 
   pub arms_read : (d : ℕ) {ts rest left : List Token} (a : SynArm) (all new : List SynArm) → ArmsPending d all ts rest
@@ -409,8 +422,10 @@ module _ (source : Source) where
         copy_derives source ConstantRow (sym.ArmOrEnd d) sym.AConstant
         (sym.MoreLabels ∷ sym.AStatement d ∷ sym.MoreArms d ∷ []) (λ e. row.next_arm e.row)
         (λ e. row.constant e.row)
-        (λ c ws. tree.Or (tree.On (c ∷ ws.0) ws.1.0) ws.1.1.0)
-        (λ e t us ws. ap (λ p. tree.Or (tree.On (constant_value text e.row t p.0 ∷ p.1.0) p.1.1.0) p.1.1.1.0)
+        (λ label (labels, (body, (more, _))). tree.Or (tree.On (label ∷ labels) body) more)
+        (λ e t us ws. ap
+        (λ (own, (labels, (body, (more, _)))).
+        tree.Or (tree.On (constant_value text e.row t own ∷ labels) body) more)
         (split_join e.left (sym.MoreLabels ∷ sym.AStatement d ∷ sym.MoreArms d ∷ []) us ws))
         t ts u r (cs, (s, (m, tt))) (look constant_rows t.kind)
         (look_arm ∙ look_map as_arm (λ e. refl) constant_rows t.kind)
@@ -421,15 +436,18 @@ module _ (source : Source) where
         (sym.AConstant ∷ sym.MoreLabels ∷ sym.AStatement d ∷ sym.MoreArms d ∷ [])}
         → DerivesAll text IsNestable (sym.AConstant ∷ sym.MoreLabels ∷ sym.AStatement d ∷ sym.MoreArms d ∷ [])
         (t ∷ ts) r vs
-        → Derives text IsNestable (sym.ArmOrEnd d) (t ∷ ts) r (tree.Or (tree.On (vs.0 ∷ vs.1.0) vs.1.1.0) vs.1.1.1.0)
+        → let (label, (labels, (body, (more, _)))) = vs in
+        Derives text IsNestable (sym.ArmOrEnd d) (t ∷ ts) r (tree.Or (tree.On (label ∷ labels) body) more)
     arm_derives (and a (and b (and y (and z none)))) = arm_derives_at a b y z
 
     an_arm_at : {us : List Token} (all : List SynArm)
         → Pending source (sym.AConstant ∷ sym.MoreLabels ∷ sym.AStatement d ∷ sym.MoreArms d ∷ [])
-        (λ vs. tree.Or (tree.On (vs.0 ∷ vs.1.0) vs.1.1.0) vs.1.1.1.0) (sym.ArmOrEnd d ∷ []) (λ vs. and_arms all vs.0) us
+        (λ (label, (labels, (body, (more, _)))). tree.Or (tree.On (label ∷ labels) body) more) (sym.ArmOrEnd d ∷ [])
+        (λ vs. and_arms all vs.0) us
         (t ∷ ts) → ArmsPending d all us (t ∷ ts)
     an_arm_at all p = record {
-      derives = λ r vs y. p.derives r (tree.Or (tree.On (vs.0 ∷ vs.1.0) vs.1.1.0) vs.1.1.1.0, tt)
+      derives = λ r (label, (labels, (body, (more, _)))) y.
+          p.derives r (tree.Or (tree.On (label ∷ labels) body) more, tt)
           (and (arm_derives y) none);
       leads = λ q. p.leads q ∙ arm_leads_at q;
       shorter = p.shorter;
@@ -440,12 +458,14 @@ module _ (source : Source) where
       → BeginsWith source rest w.Semicolon behind → BeginsOther behind w.End → ArmsPending d all ts behind
   arms_on d {ts = ts} all so b n =
       let p : Pending source (sym.AConstant ∷ sym.MoreLabels ∷ sym.AStatement d ∷ sym.MoreArms d ∷ [])
-      (λ vs. tree.Or (tree.On (vs.0 ∷ vs.1.0) vs.1.1.0) vs.1.1.1.0) (sym.ArmOrEnd d ∷ []) (λ vs. and_arms all vs.0)
+      (λ (label, (labels, (body, (more, _)))). tree.Or (tree.On (label ∷ labels) body) more) (sym.ArmOrEnd d ∷ [])
+      (λ vs. and_arms all vs.0)
       ts _ = round_on row.arms_go_on refl refl so b (λ vs. refl) in
       subst (λ l. ArmsPending d all ts l) (back_of n.all)
       (an_arm_at d n.token n.rest n.differs all
       (subst (λ l. Pending source (sym.AConstant ∷ sym.MoreLabels ∷ sym.AStatement d ∷ sym.MoreArms d ∷ [])
-      (λ vs. tree.Or (tree.On (vs.0 ∷ vs.1.0) vs.1.1.0) vs.1.1.1.0) (sym.ArmOrEnd d ∷ []) (λ vs. and_arms all vs.0)
+      (λ (label, (labels, (body, (more, _)))). tree.Or (tree.On (label ∷ labels) body) more) (sym.ArmOrEnd d ∷ [])
+      (λ vs. and_arms all vs.0)
       ts l) n.all p))
 
   pub arms_end_halt : (d : ℕ) {ts rest behind : List Token} (all : List SynArm) → ArmsSoFar d all ts rest
@@ -483,21 +503,23 @@ module _ (source : Source) where
   -- processes
   abbrev pub BranchesSoFar : ℕ → List SynBranch → List Token → List Token → Type 0
   BranchesSoFar d all ts rest = SoFar source (sym.AStatement d ∷ sym.MoreStatements d ∷ sym.MoreBranches d ∷ [])
-      (λ vs. tree.Beside (tree.AndThen vs.0 vs.1.0) vs.1.1.0) (sym.MoreBranches d) (and_branches all) ts rest
+      (λ (first, (statements, (more, _))). tree.Beside (tree.AndThen first statements) more) (sym.MoreBranches d)
+      (and_branches all) ts rest
 
   abbrev pub AreBranches : ℕ → List Token → List Token → List SynBranch → Type 0
   AreBranches d ts r all = HasRead source (sym.AStatement d ∷ sym.MoreStatements d ∷ sym.MoreBranches d ∷ [])
-      (λ vs. tree.Beside (tree.AndThen vs.0 vs.1.0) vs.1.1.0) branches_of ts r all
+      (λ (first, (statements, (more, _))). tree.Beside (tree.AndThen first statements) more) branches_of ts r all
 
   abbrev pub BranchesPending : ℕ → List SynBranch → List Token → List Token → Type 0
   BranchesPending d all ts rest = Pending source (sym.AStatement d ∷ sym.MoreStatements d ∷ sym.MoreBranches d ∷ [])
-      (λ vs. tree.Beside (tree.AndThen vs.0 vs.1.0) vs.1.1.0)
+      (λ (first, (statements, (more, _))). tree.Beside (tree.AndThen first statements) more)
       (sym.AStatement d ∷ sym.MoreStatements d ∷ sym.MoreBranches d ∷ [])
-      (λ vs. and_branches all (tree.Beside (tree.AndThen vs.0 vs.1.0) vs.1.1.0)) ts rest
+      (λ (first, (statements, (more, _))). and_branches all (tree.Beside (tree.AndThen first statements) more)) ts rest
 
   pub branches_none : (d : ℕ) {ts : List Token} (all : List SynBranch) → all ≡ [] → HasTokens source ts
       → BranchesPending d all ts ts
-  branches_none d all e a = none_read (λ vs. ap (λ l. and_branches l (tree.Beside (tree.AndThen vs.0 vs.1.0) vs.1.1.0))
+  branches_none d all e a = none_read (λ (first, (statements, (more, _))). ap
+      (λ l. and_branches l (tree.Beside (tree.AndThen first statements) more))
       e) a
 
   pub branches_read : (d : ℕ) {ts rest left : List Token} (ss : List SynStmt) (x : SynBranch) (all new : List SynBranch)
@@ -528,5 +550,6 @@ module _ (source : Source) where
   pub parallel_is : (d : ℕ) {ts r : List Token} (at : Place) (all : List SynBranch) (s : SynStmt)
       → AreBranches d ts r all → statement_of s ≡ tree.Does at (tree.Parallel (branches_of all))
       → HasRead source (sym.AStatement d ∷ sym.MoreStatements d ∷ sym.MoreBranches d ∷ [])
-      (λ vs. tree.Does at (tree.Parallel (tree.Beside (tree.AndThen vs.0 vs.1.0) vs.1.1.0))) statement_of ts r s
+      (λ (first, (statements, (more, _))). tree.Does at (tree.Parallel
+      (tree.Beside (tree.AndThen first statements) more))) statement_of ts r s
   parallel_is d at all s h e = has_read h.ready h.derives (e ∙ ap (λ x. tree.Does at (tree.Parallel x)) h.value_is)

@@ -25,7 +25,7 @@ abbrev pub GroupSymbols : List Symbol
 GroupSymbols = AName ∷ MoreNames ∷ AToken w.Colon ∷ AName ∷ []
 
 abbrev pub group_value : Values GroupSymbols → SynGroup
-group_value vs = record { names = vs.0 ∷ vs.1.0; kind = vs.1.1.1.0 }
+group_value (name, (more, (_, (type_name, _)))) = record { names = name ∷ more; kind = type_name }
 
 abbrev pub GroupRead : Source → List Token → List Token → SynGroup → Type 0
 GroupRead source ts r g = HasRead source GroupSymbols group_value (λ (g : SynGroup). g) ts r g
@@ -46,22 +46,26 @@ no_type k a b c d e = none_if _ a (none_if _ b (none_if _ c (none_if _ d (none_i
 
 abbrev pub FieldsSoFar : Source → List SynGroup → List Token → List Token → Type 0
 FieldsSoFar source all ts rest = SoFar source (AName ∷ MoreNames ∷ AToken w.Colon ∷ AName ∷ MoreFields ∷ [])
-    (λ vs. record { names = vs.0 ∷ vs.1.0; kind = vs.1.1.1.0 } ∷ vs.1.1.1.1.0) MoreFields (λ gs. all ++ gs) ts rest
+    (λ (name, (more, (_, (type_name, (groups, _))))). record { names = name ∷ more; kind = type_name } ∷ groups)
+    MoreFields (λ gs. all ++ gs) ts rest
 
 -- behind a `;`
 abbrev pub FieldsUpTo : Source → List SynGroup → List Token → List Token → Type 0
 FieldsUpTo source all ts rest = SoFar source (AName ∷ MoreNames ∷ AToken w.Colon ∷ AName ∷ MoreFields ∷ [])
-    (λ vs. record { names = vs.0 ∷ vs.1.0; kind = vs.1.1.1.0 } ∷ vs.1.1.1.1.0) FieldOrEnd (λ gs. all ++ gs) ts rest
+    (λ (name, (more, (_, (type_name, (groups, _))))). record { names = name ∷ more; kind = type_name } ∷ groups)
+    FieldOrEnd (λ gs. all ++ gs) ts rest
 
 abbrev pub FieldsPending : Source → List SynGroup → List Token → List Token → Type 0
 FieldsPending source all ts rest = Pending source (AName ∷ MoreNames ∷ AToken w.Colon ∷ AName ∷ MoreFields ∷ [])
-    (λ vs. record { names = vs.0 ∷ vs.1.0; kind = vs.1.1.1.0 } ∷ vs.1.1.1.1.0)
+    (λ (name, (more, (_, (type_name, (groups, _))))). record { names = name ∷ more; kind = type_name } ∷ groups)
     (AName ∷ MoreNames ∷ AToken w.Colon ∷ AName ∷ MoreFields ∷ [])
-    (λ vs. all ++ record { names = vs.0 ∷ vs.1.0; kind = vs.1.1.1.0 } ∷ vs.1.1.1.1.0) ts rest
+    (λ (name, (more, (_, (type_name, (groups, _))))). all ++ record { names = name ∷ more; kind = type_name } ∷ groups)
+    ts rest
 
 pub fields_none : {source : Source} {ts : List Token} (all : List SynGroup) → all ≡ [] → HasTokens source ts
     → FieldsPending source all ts ts
-fields_none all e a = none_read (λ vs. ap (λ l. l ++ record { names = vs.0 ∷ vs.1.0; kind = vs.1.1.1.0 } ∷ vs.1.1.1.1.0)
+fields_none all e a = none_read (λ (name, (more, (_, (type_name, (groups, _))))). ap
+    (λ l. l ++ record { names = name ∷ more; kind = type_name } ∷ groups)
     e) a
 
 pub fields_read : {source : Source} {ts rest left : List Token} {g : SynGroup} (all new : List SynGroup)
@@ -82,12 +86,14 @@ fields_next all so b = round_at row.next_field refl refl so b.token b.rest b.all
 
 pub fields_close : {source : Source} {ts rest r : List Token} (all : List SynGroup) → FieldsSoFar source all ts rest
     → BeginsWith source rest w.End r → HasRead source (AName ∷ MoreNames ∷ AToken w.Colon ∷ AName ∷ MoreFields ∷ [])
-    (λ vs. record { names = vs.0 ∷ vs.1.0; kind = vs.1.1.1.0 } ∷ vs.1.1.1.1.0) (λ (gs : List SynGroup). gs) ts r all
+    (λ (name, (more, (_, (type_name, (groups, _))))). record { names = name ∷ more; kind = type_name } ∷ groups)
+    (λ (gs : List SynGroup). gs) ts r all
 fields_close all so b = closes row.fields_end refl refl so b (back_of (append-nil all))
 
 pub fields_up : {source : Source} {ts rest r : List Token} (all : List SynGroup) → FieldsUpTo source all ts rest
     → BeginsWith source rest w.End r → HasRead source (AName ∷ MoreNames ∷ AToken w.Colon ∷ AName ∷ MoreFields ∷ [])
-    (λ vs. record { names = vs.0 ∷ vs.1.0; kind = vs.1.1.1.0 } ∷ vs.1.1.1.1.0) (λ (gs : List SynGroup). gs) ts r all
+    (λ (name, (more, (_, (type_name, (groups, _))))). record { names = name ∷ more; kind = type_name } ∷ groups)
+    (λ (gs : List SynGroup). gs) ts r all
 fields_up all so b = closes row.no_field refl refl so b (back_of (append-nil all))
 
 pub no_fields : {source : Source} {ts rest : List Token} (all : List SynGroup) → FieldsSoFar source all ts rest

@@ -86,11 +86,12 @@ named_completes : {V : Type 0} {source : Source} {l : List Symbol} {of : Values 
     → (ws : Values l) × DerivesAll source.text.now IsNestable l ts r ws × (new vs ≡ of ws)
 named_completes {source = source} {s = s} {m = m} new row found whole so e r (and {u = u} {vs = us} x xs) =
     let text = source.text.now in
-    let i = name_token x in
-    let j = so.derives r (build text row i.0 us) (subst (λ l. Derives text IsNestable s l r (build text row i.0 us))
-    (back_of i.1) (take (row_entry kind.Name m row) found i.0 i.2
-    (subst (λ p. MayBegin IsNestable p (i.0 ∷ u)) (back_of whole) tt) xs)) in
-    (j.0, j.1, ap (λ n. new (n, us)) i.3 ∙ e i.0 us ∙ j.2)
+    let (t, begins, is_name, same_name) = name_token x in
+    let (values, derives_all, same) = so.derives r (build text row t us)
+    (subst (λ l. Derives text IsNestable s l r (build text row t us)) (back_of begins)
+    (take (row_entry kind.Name m row) found t is_name
+    (subst (λ p. MayBegin IsNestable p (t ∷ u)) (back_of whole) tt) xs)) in
+    (values, derives_all, ap (λ n. new (n, us)) same_name ∙ e t us ∙ same)
 
 pub round_at : {V : Type 0} {source : Source} {l : List Symbol} {of : Values l → V} {s : Symbol} {gives : Value s → V}
     {m : List Symbol} {new : Values (AName ∷ m) → V} {ts rest : List Token} (row : Row s kind.Name m)

@@ -99,20 +99,21 @@ limit_in_range options is name bound greatest default e f d = number_in_range bo
 limits_in_range : (options : List Choice) (is : List WordItem) (workers : ℕ) → list_all (is_accepted options) is ≡ true
     → HoldsOfEach (IsFoundIn options) limit_options → IsUpTo 64 workers
     → IsInRange workers (limits_from (lookup is))
-limits_in_range options is workers e f w = record {
-  workers = w;
-  ticks = limit_in_range options is (codes "ticks") (2 ^ 64) 1000000000 10000000 e f.0 (omega arith, omega arith);
-  depth = limit_in_range options is (codes "depth") (2 ^ 32) 10000 1000 e f.1.0 (omega arith, omega arith);
-  cells = limit_in_range options is (codes "cells") (2 ^ 32) 67108864 4194304 e f.1.1.0 (omega arith, omega arith);
-  processes = limit_in_range options is (codes "processes") (2 ^ 32) 1000000 100000 e f.1.1.1.0
-      (omega arith, omega arith);
-  channels = limit_in_range options is (codes "channels") (2 ^ 32) 1000000 100000 e f.1.1.1.1.0
-      (omega arith, omega arith);
-  entries = limit_in_range options is (codes "entries") (2 ^ 32) 10000000 1000000 e f.1.1.1.1.1.0
-      (omega arith, omega arith);
-  output = limit_in_range options is (codes "output") (2 ^ 64) 268435456 16777216 e f.1.1.1.1.1.1.0
-      (omega arith, omega arith);
-}
+limits_in_range options is workers e limits w =
+    let (ticks, (depth, (cells, (processes, (channels, (entries, (output, _))))))) = limits in record {
+      workers = w;
+      ticks = limit_in_range options is (codes "ticks") (2 ^ 64) 1000000000 10000000 e ticks (omega arith, omega arith);
+      depth = limit_in_range options is (codes "depth") (2 ^ 32) 10000 1000 e depth (omega arith, omega arith);
+      cells = limit_in_range options is (codes "cells") (2 ^ 32) 67108864 4194304 e cells (omega arith, omega arith);
+      processes = limit_in_range options is (codes "processes") (2 ^ 32) 1000000 100000 e processes
+          (omega arith, omega arith);
+      channels = limit_in_range options is (codes "channels") (2 ^ 32) 1000000 100000 e channels
+          (omega arith, omega arith);
+      entries = limit_in_range options is (codes "entries") (2 ^ 32) 10000000 1000000 e entries
+          (omega arith, omega arith);
+      output = limit_in_range options is (codes "output") (2 ^ 64) 268435456 16777216 e output
+          (omega arith, omega arith);
+    }
 
 limits_of_run : HoldsOfEach (IsFoundIn run_options) limit_options
 limits_of_run = (

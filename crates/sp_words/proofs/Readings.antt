@@ -37,11 +37,11 @@ missing false n default never = refl
 -- what `parse` reads is the number below the bound of the type
 pub number_read : {E : Type 0} (k : ℕ) (text : Text) (r : Result ℕ E) (default : ℕ) → ParsesUnsigned k 10 text r
     → result_unwrap_or r default ≡ number_or (2 ^ k) default (Some text)
-number_read k text (Ok n) default h =
+number_read k text (Ok n) default ((numeral, small), same) =
     let digits = without_leading_plus text in
     let tested : (is_numeral digits && nat_lt (digits_value 10 digits) (2 ^ k)) ≡ true =
-    rw (numeral_back digits h.0.0, lt-ltb (digits_value 10 digits) (2 ^ k) h.0.1) refl in
-    h.1 ∙ ap (λ (t : Bool). unwrap_or (cond t (Some (digits_value 10 digits)) None) default) (sym tested)
+    rw (numeral_back digits numeral, lt-ltb (digits_value 10 digits) (2 ^ k) small) refl in
+    same ∙ ap (λ (t : Bool). unwrap_or (cond t (Some (digits_value 10 digits)) None) default) (sym tested)
 number_read k text (Err e) default h =
     let digits = without_leading_plus text in
     missing (is_numeral digits && nat_lt (digits_value 10 digits) (2 ^ k)) (digits_value 10 digits) default (λ tested.
@@ -55,11 +55,11 @@ unwritten false n never = refl
 -- what `parse` reads is the number below the bound of the type, where there is one
 pub number_parsed : {E : Type 0} (k : ℕ) (text : Text) (r : Result ℕ E) → ParsesUnsigned k 10 text r
     → result_ok r ≡ number_below (2 ^ k) text
-number_parsed k text (Ok n) h =
+number_parsed k text (Ok n) ((numeral, small), same) =
     let digits = without_leading_plus text in
     let tested : (is_numeral digits && nat_lt (digits_value 10 digits) (2 ^ k)) ≡ true =
-    rw (numeral_back digits h.0.0, lt-ltb (digits_value 10 digits) (2 ^ k) h.0.1) refl in
-    ap Some h.1 ∙ ap (λ (t : Bool). cond t (Some (digits_value 10 digits)) None) (sym tested)
+    rw (numeral_back digits numeral, lt-ltb (digits_value 10 digits) (2 ^ k) small) refl in
+    ap Some same ∙ ap (λ (t : Bool). cond t (Some (digits_value 10 digits)) None) (sym tested)
 number_parsed k text (Err e) h =
     let digits = without_leading_plus text in
     unwritten (is_numeral digits && nat_lt (digits_value 10 digits) (2 ^ k)) (digits_value 10 digits) (λ tested.

@@ -54,21 +54,23 @@ parts-more-preserved t c = parts_more c.args.depth c.more.all c.in-Ok-declaratio
 
 pub declarations-returns-then-is : goal.declarations-returns-then-is
 declarations-returns-then-is t c = section_result c.args.depth c.args.all
-    (λ vs. and_parts c.args.all (with_part_first (tree.Const vs.0 vs.1.1.0) vs.1.1.1.1.0))
+    (λ (name, (_, (value, (_, (behind, _))))). and_parts c.args.all (with_part_first (tree.Const name value) behind))
     (row.parts row.parts_const) refl
     c.requires.ready (with_at w.Const c.in-Ok.ensures c.is.ensures c.if-is.true) (λ vs. refl) c.constants.result
     (c.constants.ensures c.args.depth)
 
 pub declarations-returns-then-is-2 : goal.declarations-returns-then-is-2
 declarations-returns-then-is-2 t c = section_result c.args.depth c.args.all
-    (λ vs. and_parts c.args.all (with_part_first (tree.Kind vs.0 vs.1.1.0) vs.1.1.1.1.0))
+    (λ (name, (_, (definition, (_, (behind, _))))). and_parts c.args.all
+    (with_part_first (tree.Kind name definition) behind))
     (row.parts row.parts_type) refl
     c.requires.ready (with_at w.Type' c.in-Ok.ensures c.is-2.ensures c.if-is-2.true) (λ vs. refl) c.types.result
     (c.types.ensures c.args.depth)
 
 pub declarations-returns-then-is-3 : goal.declarations-returns-then-is-3
 declarations-returns-then-is-3 t c = section_result c.args.depth c.args.all
-    (λ vs. and_parts c.args.all (with_part_first (tree.Var (vs.0 ∷ vs.1.0) vs.1.1.1.0) vs.1.1.1.1.1.0))
+    (λ (name, (more, (_, (type_name, (_, (behind, _)))))). and_parts c.args.all
+    (with_part_first (tree.Var (name ∷ more) type_name) behind))
     (row.parts row.parts_var) refl c.requires.ready (with_at w.Var c.in-Ok.ensures c.is-3.ensures c.if-is-3.true)
     (λ vs. refl) c.variables.result (c.variables.ensures c.args.depth)
 

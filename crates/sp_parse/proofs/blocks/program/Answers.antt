@@ -9,7 +9,8 @@ use Rattle.sp_parse.proofs.Declares.{none_if}
 use Rattle.sp_parse.proofs.blocks.program.Goals as goal
 
 pub returns-then-is : goal.returns-then-is
-returns-then-is c = row_result (λ vs. record { name = vs.0; heading = vs.1.0; block = vs.1.1.1.0 }) program_of
+returns-then-is c = row_result
+    (λ (name, (heading, (_, (block, _)))). record { name = name; heading = heading; block = block }) program_of
     (λ vs. vs.0) row.program refl (with_at w.Program c.in-Ok.ensures c.is.ensures c.if-is.true) refl tt
     (λ vs. refl) c.titled.result c.titled.ensures
 

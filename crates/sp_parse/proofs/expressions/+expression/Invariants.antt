@@ -47,7 +47,8 @@ abbrev pub decreases-simple-more : goal.decreases-simple-more
 decreases-simple-more l = length l.rest
 
 abbrev pub invariant-term-more : goal.invariant-term-more
-invariant-term-more l = SoFar l.source (AFactor l.depth ∷ MoreFactors l.depth ∷ []) (λ vs. vs.1.0 vs.0)
+invariant-term-more l = SoFar l.source (AFactor l.depth ∷ MoreFactors l.depth ∷ [])
+    (λ (first, (factors, _)). factors first)
     (MoreFactors l.depth) (λ f. f (expression_of l.product)) l.tokens l.rest
 
 abbrev pub decreases-term-more : goal.decreases-term-more

@@ -8,7 +8,7 @@ use Rattle.sp_parse.proofs.Declares.{stands_for_nothing, none_if}
 use Rattle.sp_parse.proofs.headings.heading.Goals as goal
 
 pub returns-in-Some : goal.returns-in-Some
-returns-in-Some c = row_result (λ vs. vs.0 ∷ vs.1.0) (λ x. x) (λ vs. vs.0) row.heading refl
+returns-in-Some c = row_result (λ (name, (more, _)). name ∷ more) (λ x. x) (λ vs. vs.0) row.heading refl
     (passed c.args.source.now w.Open c.args.tokens.now _ c.in-Some.after c.in-Ok.ensures c.in-Some.is) refl tt
     (λ vs. refl) c.listed.result c.listed.ensures
 

@@ -29,52 +29,56 @@ pub statement-returns-then-is-2 : goal.statement-returns-then-is-2
 statement-returns-then-is-2 t c = form_result c.args.source.now c.args.depth _
     (λ n. sym.AStatement n ∷ sym.MoreStatements n ∷ sym.AToken w.End ∷ []) (λ n. row.form_begin) refl
     (with_at w.Begin c.in-Ok.ensures c.is-2.ensures c.if-is-2.true) (add-one c.args.depth) (omega arith)
-    (λ n vs. tree.Sequence (tree.AndThen vs.0 vs.1.0)) (λ n vs. refl) _ c.sequence.ensures
+    (λ n (first, (more, _)). tree.Sequence (tree.AndThen first more)) (λ n vs. refl) _ c.sequence.ensures
 
 pub statement-returns-then-is-3 : goal.statement-returns-then-is-3
 statement-returns-then-is-3 t c = form_result c.args.source.now c.args.depth _
     (λ n. sym.AnExpression n ∷ sym.AToken w.Then ∷ sym.AStatement n ∷ sym.AnElse n ∷ []) (λ n. row.form_if) refl
     (with_at w.If c.in-Ok.ensures c.is-3.ensures c.if-is-3.true) (add-one c.args.depth) (omega arith)
-    (λ n vs. tree.If vs.0 vs.1.1.0 vs.1.1.1.0) (λ n vs. refl) _ c.choice.ensures
+    (λ n (test, (_, (body, (other, _)))). tree.If test body other) (λ n vs. refl) _ c.choice.ensures
 
 pub statement-returns-then-is-4 : goal.statement-returns-then-is-4
 statement-returns-then-is-4 t c = form_result c.args.source.now c.args.depth _
     (λ n. sym.AnExpression n ∷ sym.AToken w.Do ∷ sym.AStatement n ∷ []) (λ n. row.form_while) refl
     (with_at w.While c.in-Ok.ensures c.is-4.ensures c.if-is-4.true) (add-one c.args.depth) (omega arith)
-    (λ n vs. tree.While vs.0 vs.1.1.0) (λ n vs. refl) _ c.while_loop.ensures
+    (λ n (test, (_, (body, _))). tree.While test body) (λ n vs. refl) _ c.while_loop.ensures
 
 pub statement-returns-then-is-5 : goal.statement-returns-then-is-5
 statement-returns-then-is-5 t c = form_result c.args.source.now c.args.depth _
     (λ n. sym.AStatement n ∷ sym.MoreStatements n ∷ sym.AToken w.Until ∷ sym.AnExpression n ∷ []) (λ n. row.form_repeat)
     refl (with_at w.Repeat c.in-Ok.ensures c.is-5.ensures c.if-is-5.true) (add-one c.args.depth) (omega arith)
-    (λ n vs. tree.Repeat (tree.AndThen vs.0 vs.1.0) vs.1.1.1.0) (λ n vs. refl) _ c.repeat_loop.ensures
+    (λ n (first, (more, (_, (test, _)))). tree.Repeat (tree.AndThen first more) test) (λ n vs. refl) _
+    c.repeat_loop.ensures
 
 pub statement-returns-then-is-6 : goal.statement-returns-then-is-6
 statement-returns-then-is-6 t c = form_result c.args.source.now c.args.depth _
     (λ n. sym.AName ∷ sym.AToken w.Becomes ∷ sym.AnExpression n ∷ sym.ADirection ∷ sym.AnExpression n ∷ sym.AToken w.Do
     ∷ sym.AStatement n ∷ []) (λ n. row.form_for) refl
     (with_at w.For c.in-Ok.ensures c.is-6.ensures c.if-is-6.true) (add-one c.args.depth) (omega arith)
-    (λ n vs. tree.For vs.0 vs.1.1.0 vs.1.1.1.0 vs.1.1.1.1.0 vs.1.1.1.1.1.1.0) (λ n vs. refl) _ c.for_loop.ensures
+    (λ n (name, (_, (from, (down, (to, (_, (body, _))))))). tree.For name from down to body) (λ n vs. refl) _
+    c.for_loop.ensures
 
 pub statement-returns-then-is-7 : goal.statement-returns-then-is-7
 statement-returns-then-is-7 t c = form_result c.args.source.now c.args.depth _
     (λ n. sym.AnExpression n ∷ sym.AToken w.Of ∷ sym.AConstant ∷ sym.MoreLabels ∷ sym.AStatement n ∷ sym.MoreArms n
     ∷ []) (λ n. row.form_case) refl (with_at w.Case c.in-Ok.ensures c.is-7.ensures c.if-is-7.true)
-    (add-one c.args.depth) (omega arith) (λ n vs. tree.Case vs.0
-    (tree.Or (tree.On (vs.1.1.0 ∷ vs.1.1.1.0) vs.1.1.1.1.0) vs.1.1.1.1.1.0)) (λ n vs. refl) _ c.case_choice.ensures
+    (add-one c.args.depth) (omega arith) (λ n (test, (_, (label, (labels, (body, (more, _)))))). tree.Case test
+    (tree.Or (tree.On (label ∷ labels) body) more)) (λ n vs. refl) _ c.case_choice.ensures
 
 pub statement-returns-then-is-8 : goal.statement-returns-then-is-8
 statement-returns-then-is-8 t c = form_result c.args.source.now c.args.depth _
     (λ n. sym.AStatement n ∷ sym.MoreStatements n ∷ sym.MoreBranches n ∷ []) (λ n. row.form_parallel) refl
     (with_at w.Parallel c.in-Ok.ensures c.is-8.ensures c.if-is-8.true) (add-one c.args.depth) (omega arith)
-    (λ n vs. tree.Parallel (tree.Beside (tree.AndThen vs.0 vs.1.0) vs.1.1.0)) (λ n vs. refl) _ c.parallel.ensures
+    (λ n (first, (statements, (more, _))). tree.Parallel (tree.Beside (tree.AndThen first statements) more))
+    (λ n vs. refl) _ c.parallel.ensures
 
 pub statement-returns-then-is-9 : goal.statement-returns-then-is-9
 statement-returns-then-is-9 t c = form_result c.args.source.now c.args.depth _
     (λ n. sym.AName ∷ sym.AToken w.Becomes ∷ sym.AnExpression n ∷ sym.AToken w.To ∷ sym.AnExpression n ∷ sym.AToken w.Do
     ∷ sym.AStatement n ∷ []) (λ n. row.form_forall) refl
     (with_at w.Forall c.in-Ok.ensures c.is-9.ensures c.if-is-9.true) (add-one c.args.depth) (omega arith)
-    (λ n vs. tree.Forall vs.0 vs.1.1.0 vs.1.1.1.1.0 vs.1.1.1.1.1.1.0) (λ n vs. refl) _ c.forall.ensures
+    (λ n (name, (_, (from, (_, (to, (_, (body, _))))))). tree.Forall name from to body) (λ n vs. refl) _
+    c.forall.ensures
 
 pub statement-returns-then-is-10 : goal.statement-returns-then-is-10
 statement-returns-then-is-10 t c = form_result c.args.source.now c.args.depth _ (λ n. sym.AnExpression n ∷ [])

@@ -24,7 +24,8 @@ returns-then-is-2 c = row_reads row.enumeration refl
     (ap kinds.Enumeration c.in-Ok-listed.ensures.value_is)
 
 pub returns-then-is-3 : goal.returns-then-is-3
-returns-then-is-3 c = row_result (λ vs. kinds.Array vs.1.0 vs.1.1.1.0 vs.1.1.1.1.1.1.0) (λ k. k) (λ vs. vs.0) row.array
+returns-then-is-3 c = row_result (λ (_, (low, (_, (high, (_, (_, (element, _))))))). kinds.Array low high element)
+    (λ k. k) (λ vs. vs.0) row.array
     refl (with_at w.Array c.in-Ok.ensures c.is-3.ensures c.if-is-3.true) refl tt (λ vs. refl) c.array.result
     c.array.ensures
 
@@ -37,7 +38,8 @@ returns-then-is-4 c = row_reads row.fields refl (with_at w.Record c.in-Ok.ensure
     tt c.in-Ok-fields.ensures (ap kinds.Record c.in-Ok-fields.ensures.value_is)
 
 pub returns-then-is-5 : goal.returns-then-is-5
-returns-then-is-5 c = row_result (λ vs. kinds.Channel (vs.1.0 ∷ vs.1.1.0)) (λ k. k) (λ vs. vs.0) row.channel refl
+returns-then-is-5 c = row_result (λ (_, (name, (more, _))). kinds.Channel (name ∷ more)) (λ k. k) (λ vs. vs.0)
+    row.channel refl
     (with_at w.Times c.in-Ok.ensures c.is-5.ensures c.if-is-5.true) refl tt (λ vs. refl) c.channel.result
     c.channel.ensures
 
