@@ -117,11 +117,11 @@ after_tick ts p ss (inr l) = absurd l
 
 comes_to : (n p : ℕ) (ss : List Shape) → BringsShapes ticking (Body 1) n p ss → (p ≡ 1) ⊎ (p ≡ 2)
 comes_to zero p ss h = inl h.0
-comes_to (suc n) p ss h = by (comes_to n h.0 h.1 h.2)
+comes_to (suc n) p ss (q, ts, before, leads) = by (comes_to n q ts before)
   where
-    by : (h.0 ≡ 1) ⊎ (h.0 ≡ 2) → (p ≡ 1) ⊎ (p ≡ 2)
-    by (inl e) = inr (after_tick h.1 p ss (subst (λ q. Leads h.1 p ss q) e h.3))
-    by (inr e) = absurd (after_return h.1 p ss (subst (λ q. Leads h.1 p ss q) e h.3))
+    by : (q ≡ 1) ⊎ (q ≡ 2) → (p ≡ 1) ⊎ (p ≡ 2)
+    by (inl e) = inr (after_tick ts p ss (subst (λ z. Leads ts p ss z) e leads))
+    by (inr e) = absurd (after_return ts p ss (subst (λ z. Leads ts p ss z) e leads))
 
 no_stop : HasStop ticking (Body 1) → ⊥
 no_stop (p, ss, r, t) = by (comes_to r.steps p ss r.way)

@@ -137,13 +137,14 @@ becomes_output l ss y x is h (inr z) = absurd (none z.0 (subst (λ w. slice_get 
     none (suc k) e = cc e
 
 only_output : (bs : List Area) (e : EffectKind) (x : ℕ) → EffectBy writing (Does writing) bs e (Body 1) x → x ≡ 1
-only_output [] e x (inl d) = done_at e d.0 d.1 x d.3
-only_output [] e x (inr d) = let none = no_child d.0 d.1 in let some = d.3.1 in absurd (cc (none, some))
-only_output (b ∷ bs) e x (inl d) = let none = no_child d.0 d.1 in let some = d.4.1 in absurd (cc (none, some))
-only_output (b ∷ bs) e x (inr d) = let one = called_at d.0 d.1 d.2 d.6.call in
-    let found = ap (λ z. layout_of writing.layouts z) (sym one) ∙ d.6.layout in
-    becomes_output d.4 d.3 d.7.0 x (same_Some _ _ found)
-    (only_output bs e d.7.0 (subst (λ a. EffectBy writing (Does writing) bs e a d.7.0) (d.5 ∙ ap Body one) d.7.1)) d.7.2
+only_output [] e x (inl (p, ss, _, touches)) = done_at e p ss x touches
+only_output [] e x (inr (p, k, _, (_, some), _)) = let none = no_child p k in absurd (cc (none, some))
+only_output (b ∷ bs) e x (inl (p, k, _, _, (_, some), _, _)) = let none = no_child p k in absurd (cc (none, some))
+only_output (b ∷ bs) e x (inr (p, f, up, ss, l, is_body, call, (y, by_body, becomes))) =
+    let one = called_at p f up call.call in
+    let found = ap (λ z. layout_of writing.layouts z) (sym one) ∙ call.layout in
+    becomes_output l ss y x (same_Some _ _ found)
+    (only_output bs e y (subst (λ a. EffectBy writing (Does writing) bs e a y) (is_body ∙ ap Body one) by_body)) becomes
 
 writes_alone : BreaksV7Inside writing (Does writing) (HasStop writing) (Inside writing) (block_at 1 1 0 false) 1 → ⊥
 writes_alone (called, (x, outer, more)) = by x outer.0 more

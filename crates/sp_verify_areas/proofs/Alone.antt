@@ -47,7 +47,7 @@ named_there b t (o ∷ os) e = go (or_cases (is_table t (table_by b o)) (named_i
         → (named_in b t os ≡ true → (q : ℕ) × (x : Instr) × (slice_get os q ≡ Some x) × (table_by b x ≡ Some t))
         → (q : ℕ) × (x : Instr) × (slice_get (o ∷ os) q ≡ Some x) × (table_by b x ≡ Some t)
     go (inl h) on = (zero, o, refl, is_the_table t (table_by b o) h)
-    go (inr h) on = let r = on h in (suc r.0, r.1, r.2, r.3)
+    go (inr h) on = let (q, x, there, names) = on h in (suc q, x, there, names)
 
 there_named : (b : Bool) (t q : ℕ) (os : List Instr) (o : Instr) → slice_get os q ≡ Some o → table_by b o ≡ Some t
     → named_in b t os ≡ true
@@ -123,29 +123,31 @@ module _ (c : Parts) (first : BTreeMap ℕ ℕ) (numbered : IsNumbered first c.l
       child : Upto (ChildFails (child_fails (length c.instrs) (flag_at forked t)) tb.children) (length tb.children) p
           → BreaksAlone c p
       child u =
-          let ch = u.holds.0 in
-          let is = child_is t u.item tb ch e u.holds.1 in
+          let (ch, there, begins, fails) = u.holds in
+          let is = child_is t u.item tb ch e there in
           ⊎_elim
           (λ h. inl (inr (record {
-            past = reached (length c.instrs) ch.entry p h u.holds.2;
+            past = reached (length c.instrs) ch.entry p h begins;
             of = inr
-                (t, u.item, ch, is, u.holds.2);
+                (t, u.item, ch, is, begins);
           })))
           (λ h. let b = and_parts (flag_at forked t) (is_some ch.index) h in
-          let r = named_there false t c.instrs (sym (forks.1 t (slice_get_within c.forks t tb e)) ∙ b.0) in
-          inr (inr (inr (t, r.0, inl (r.2 ∙ ap Some (fork_is t r.1 r.3), (u.item, ch, is, u.holds.2, b.1))))))
-          (or_cases (nat_le (length c.instrs) ch.entry) (flag_at forked t && is_some ch.index) u.holds.3)
+          let (q, x, x_there, names) = named_there false t c.instrs
+          (sym (forks.1 t (slice_get_within c.forks t tb e)) ∙ b.0) in
+          inr (inr (inr (t, q, inl (x_there ∙ ap Some (fork_is t x names), (u.item, ch, is, begins, b.1))))))
+          (or_cases (nat_le (length c.instrs) ch.entry) (flag_at forked t && is_some ch.index) fails)
 
       alone : ChildFails (first_fails (flag_at foralled t) (length tb.children)) tb.children 0 p → BreaksAlone c p
       alone (ch, f, at, h) =
           let b = and_parts (flag_at foralled t) (not ((length tb.children == 1) && is_some ch.index)) h in
-          let r = named_there true t c.instrs (sym (foralls.1 t (slice_get_within c.forks t tb e)) ∙ b.0) in
+          let (q, x, x_there, names) = named_there true t c.instrs
+          (sym (foralls.1 t (slice_get_within c.forks t tb e)) ∙ b.0) in
           inr (inr (inr (
             t,
-            r.0,
+            q,
             inr (
-              r.2
-                  ∙ ap Some (forall_is t r.1 r.3),
+              x_there
+                  ∙ ap Some (forall_is t x names),
               (ch, tb, child_is t 0 tb ch e f, at, e, not-true ((length tb.children == 1) && is_some ch.index) b.1),
             ),
           )))
@@ -189,8 +191,9 @@ module _ (c : Parts) (first : BTreeMap ℕ ℕ) (numbered : IsNumbered first c.l
       inr (inl (to_layout z.0 p z.1 z.2 (or_left (nat_le (length c.instrs) z.0.entry) (not (has_sizes z.0)
       || ((z.0.block == 0) && not (is_program z.0))) (at_least (length c.instrs) z.0.entry p m.past z.2)))))
       (λ (z : (t k : ℕ) × (ch : ChildTable) × IsChild c t k ch × (ch.entry ≡ p)).
-      inr (inr (to_child z.0 z.1 p z.2 z.3 z.4 (or_left (nat_le (length c.instrs) z.2.entry) (flag_at forked z.0
-      && is_some z.2.index) (at_least (length c.instrs) z.2.entry p m.past z.4)))))
+      let (t, k, ch, is_child, begins) = z in
+      inr (inr (to_child t k p ch is_child begins (or_left (nat_le (length c.instrs) ch.entry) (flag_at forked t
+      && is_some ch.index) (at_least (length c.instrs) ch.entry p m.past begins)))))
       m.of
 
   no_program : (p : ℕ) → NoProgram c p → (Names p ⊎ Program p) ⊎ (Layouts p ⊎ Tables p)

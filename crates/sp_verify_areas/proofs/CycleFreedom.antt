@@ -217,12 +217,15 @@ module _ (c : Parts) (s : ℕ) where
   all_flagged fs size done zero p q at w l =
       let e : w.0 ≡ q = w.2 in
       subst (λ z. flag_at fs z ≡ true) e (done p at w.0 w.1 (omega (arith, e, l, size)))
-  all_flagged fs size done (suc n) p q at w l =
-      let h = leads_within c w.0 w.2.0 w.2.1 in
-      all_flagged fs size done n w.0 q (inr (done p at w.0 w.1 (omega (arith, h, size)))) w.2 l
+  all_flagged fs size done (suc n) p q at (next, leads, rest) l =
+      let (third, leads_on, _) = rest in
+      let h = leads_within c next third leads_on in
+      all_flagged fs size done n next q (inr (done p at next leads (omega (arith, h, size)))) rest l
 
   pub flagged : (fs : List Bool) → AreFlagsReached c s fs → HasGoneOn c s fs → HasFreePath c s s → flag_at fs s ≡ true
-  flagged fs led done w = all_flagged fs led.size done w.0 s s (inl refl) w.1 (leads_within c s w.1.0 w.1.1)
+  flagged fs led done (n, path) =
+      let (next, leads, _) = path in
+      all_flagged fs led.size done n s s (inl refl) path (leads_within c s next leads)
 
 -- V9 is broken where a search from an instruction of an area comes back
 pub breaks_if : (c : Parts) (p : ℕ) (a : Area) → LiesIn c p a → HasFreePath c p p → BreaksV9 c p
@@ -236,8 +239,8 @@ lies_back c p (ComesBack a n l w) = (back_within c n p p w, (a, l))
 
 module _ (c : Parts) (os : List Owner) (are : AreOwners c os) (p : ℕ) where
   pub not_broken : has_owner os p ≡ false → BreaksV9 c p → ⊥
-  not_broken e b = let l = lies_back c p b in
-      not_true_and_false (has_owner os p) (has_there c os are p l.1.0 l.1.1 l.0) e
+  not_broken e b = let (low, (a, lies)) = lies_back c p b in
+      not_true_and_false (has_owner os p) (has_there c os are p a lies low) e
 
   -- V9 is broken there as the search says
   pub broken_is : (fs : List Bool) (b : Bool) → has_owner os p ≡ true → AreFlagsReached c p fs → HasGoneOn c p fs

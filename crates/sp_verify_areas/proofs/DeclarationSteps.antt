@@ -56,7 +56,7 @@ module _ (c : Parts) where
       has x (e, q, b, h) = k.has x (e, q, back e x q h b, h)
 
       just : (x : ℕ) → contains nat_cmp s x ≡ true → IsDeclaredBefore c n x
-      just x i = let r = k.just x i in (r.0, r.1, to r.0 x r.1 r.3 r.2, r.3)
+      just x i = let (e, q, earlier, declares) = k.just x i in (e, q, to e x q declares earlier, declares)
 
       up : (p : ℕ) → IsLateBefore c d p → IsLateBefore c n p
       up p (e, b, l) = (e, to e l.0 p l.1 b, l)
@@ -141,7 +141,7 @@ module _ (c : Parts) where
           is ∙ ap (λ v. Some (v, p))
               (sym u),
         ))
-        (λ z. let r = k.just y z in (r.0, r.1, next.before r.0 r.2, r.3))
+        (λ z. let (e, q, earlier, declares) = k.just y z in (e, q, next.before e earlier, declares))
         (added_split (is_eq (nat_cmp x y)) (contains nat_cmp s y) (sym (note.added y) ∙ i))
 
     is_so : (q : ℕ) → (p ≡ q) × (is_late s x ≡ true) → IsLate c d q
@@ -292,7 +292,7 @@ module _ (c : Parts) where
   pub ends : (n : ℕ) (s : BTreeSet ℕ) (o : Option ℕ) → length c.forks ≤ n → SeenBefore c (OfChild n 0) s o
       → IsLeast (DeclaredTwice c) o
   ends n s o h k = least_of_same (IsLateBefore c (OfChild n 0)) (DeclaredTwice c) o
-      (λ p z. (z.0, z.2.0, z.2.1, z.2.2)) down
+      (λ p (d, _, (x, declares, late)). (d, x, declares, late)) down
       k.lowest
     where
       before : (d : Declared) (x q : ℕ) → declaration_at c d ≡ Some (x, q) → IsBefore d (OfChild n 0)
@@ -300,7 +300,7 @@ module _ (c : Parts) where
       before (OfChild a b) x q e = inl (let i = a_table a b x q e in omega (arith, i, h))
 
       down : (p : ℕ) → DeclaredTwice c p → IsLateBefore c (OfChild n 0) p
-      down p h = (h.0, before h.0 h.1 p h.2, (h.1, h.2, h.3))
+      down p (d, x, declares, late) = (d, before d x p declares, (x, declares, late))
 
   -- ---- what the code of a pass gives
 

@@ -18,9 +18,9 @@ one_layout fails ls j l b o e f = least_of_same (λ p. (l.entry ≡ p) × (b ≡
     up p h = (l, e, h.0, sym f ∙ h.1)
 
     down : (p : ℕ) → LayoutFails fails ls j p → (l.entry ≡ p) × (b ≡ true)
-    down p h =
-        let s : h.0 ≡ l = same_Some h.0 l (sym h.1 ∙ e) in
-        (ap (λ (m : Layout). m.entry) (sym s) ∙ h.2, f ∙ ap fails (sym s) ∙ h.3)
+    down p (m, there, begins, failing) =
+        let s : m ≡ l = same_Some m l (sym there ∙ e) in
+        (ap (λ (z : Layout). z.entry) (sym s) ∙ begins, f ∙ ap fails (sym s) ∙ failing)
 
 pub one_child : (fails : ChildTable → Bool) (ts : List ChildTable) (k : ℕ) (t : ChildTable) (b : Bool) (o : Option ℕ)
     → slice_get ts k ≡ Some t → b ≡ fails t
@@ -31,9 +31,9 @@ one_child fails ts k t b o e f = least_of_same (λ p. (t.entry ≡ p) × (b ≡ 
     up p h = (t, e, h.0, sym f ∙ h.1)
 
     down : (p : ℕ) → ChildFails fails ts k p → (t.entry ≡ p) × (b ≡ true)
-    down p h =
-        let s : h.0 ≡ t = same_Some h.0 t (sym h.1 ∙ e) in
-        (ap (λ (m : ChildTable). m.entry) (sym s) ∙ h.2, f ∙ ap fails (sym s) ∙ h.3)
+    down p (m, there, begins, failing) =
+        let s : m ≡ t = same_Some m t (sym there ∙ e) in
+        (ap (λ (z : ChildTable). z.entry) (sym s) ∙ begins, f ∙ ap fails (sym s) ∙ failing)
 
 pub one_table : (n : ℕ) (forked foralled : List Bool) (fs : List ForkTable) (t : ℕ) (tb : ForkTable) (o : Option ℕ)
     → slice_get fs t ≡ Some tb

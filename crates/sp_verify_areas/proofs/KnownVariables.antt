@@ -139,10 +139,10 @@ pub unknown_none : (ls : List Layout) (xs : List ℕ) (hs : List Home) (n : ℕ)
 unknown_none ls xs hs n l known = record { yes = λ z. absurd (cc z); no = λ z u. no u }
   where
     no : HasUnknown ls xs hs → ⊥
-    no u =
-        let g = in_get u.0 xs u.1 in
-        let w = slice_get_within xs g.0 u.0 g.1 in
-        known g.0 u.0 (omega (arith, w, l)) g.1 (u.2, u.3)
+    no (x, among, large, absent) =
+        let g = in_get x xs among in
+        let w = slice_get_within xs g.0 x g.1 in
+        known g.0 x (omega (arith, w, l)) g.1 (large, absent)
 
 in_left : (x : ℕ) (xs ys : List ℕ) → IsIn x xs → IsIn x (xs ++ ys)
 in_left x [] ys i = absurd i
@@ -156,20 +156,20 @@ in_right x (y ∷ xs) ys i = inr (in_right x xs ys i)
 module _ (ls : List Layout) (xs ys : List ℕ) (hs : List Home) where
   pub unknown_first : (t : Bool) → Decides t (HasUnknown ls xs hs) → t ≡ true
       → Decides true (HasUnknown ls (xs ++ ys) hs)
-  unknown_first t d e = let u = d.yes e in
-      record { yes = λ z. (u.0, in_left u.0 xs ys u.1, u.2, u.3); no = λ z. absurd (cc z) }
+  unknown_first t d e = let (x, among, large, absent) = d.yes e in
+      record { yes = λ z. (x, in_left x xs ys among, large, absent); no = λ z. absurd (cc z) }
 
   pub unknown_second : (s t : Bool) → Decides s (HasUnknown ls xs hs) → s ≡ false → Decides t (HasUnknown ls ys hs)
       → Decides t (HasUnknown ls (xs ++ ys) hs)
   unknown_second s t d e h = record {
-    yes = λ z. (let u = h.yes z in (u.0, in_right u.0 xs ys u.1, u.2, u.3));
+    yes = λ z. (let (x, among, large, absent) = h.yes z in (x, in_right x xs ys among, large, absent));
     no =
         λ z u. no z u (in_split u.0 xs ys u.1);
   }
     where
       no : t ≡ false → (u : HasUnknown ls (xs ++ ys) hs) → IsIn u.0 xs ⊎ IsIn u.0 ys → ⊥
-      no z u (inl i) = d.no e (u.0, i, u.2, u.3)
-      no z u (inr i) = h.no z (u.0, i, u.2, u.3)
+      no z (x, _, large, absent) (inl i) = d.no e (x, i, large, absent)
+      no z (x, _, large, absent) (inr i) = h.no z (x, i, large, absent)
 
 -- ---- the least one
 
@@ -223,9 +223,9 @@ module _ (P : ℕ → Type 0) (ls : List Layout) (hs : List Home) (ts : List Chi
           → (P p ⊎ Upto (ChildUnknown ls hs ts) n p) ⊎ ((ch.entry ≡ p) × HasUnknown ls (ch.moved ++ ch.shared) hs)
       split p u (inl l) = inl (inr (record { item = u.item; below = l; holds = u.holds }))
       split p u (inr q) =
-          let x = u.holds in
-          let s : x.0 ≡ ch = same_Some x.0 ch (sym x.1 ∙ ap (slice_get ts) q ∙ e) in
-          inr (subst (λ (z : ChildTable). (z.entry ≡ p) × HasUnknown ls (z.moved ++ z.shared) hs) s (x.2, x.3))
+          let (other, there, begins, unknown) = u.holds in
+          let s : other ≡ ch = same_Some other ch (sym there ∙ ap (slice_get ts) q ∙ e) in
+          inr (subst (λ (z : ChildTable). (z.entry ≡ p) × HasUnknown ls (z.moved ++ z.shared) hs) s (begins, unknown))
 
       down : (p : ℕ) → P p ⊎ Upto (ChildUnknown ls hs ts) (n + 1) p → (P p ⊎ Upto (ChildUnknown ls hs ts) n p)
           ⊎ ((ch.entry ≡ p) × HasUnknown ls (ch.moved ++ ch.shared) hs)
@@ -258,21 +258,21 @@ module _ (c : Parts) where
           ⊎ Upto (ChildUnknown c.layouts (homes c a) tb.children) (length tb.children) p → Upto (UnknownBy c) (q + 1) p
       up p (inl u) = record { item = u.item; below = (let l = u.below in omega (arith, l)); holds = u.holds }
       up p (inr u) =
-          let x = u.holds in
+          let (ch, is_child, begins, unknown) = u.holds in
           record {
             item = q;
             below = omega arith;
             holds = (
               t,
               u.item,
-              x.0,
+              ch,
               a,
               names,
               only,
               ap (λ (o : Option ForkTable). child_of o u.item) there
-                  ∙ x.1,
-              x.2,
-              x.3,
+                  ∙ is_child,
+              begins,
+              unknown,
             );
           }
 
@@ -295,28 +295,30 @@ module _ (c : Parts) where
       down p u (inr e) = inr (by_it p (subst (λ i. UnknownBy c i p) e u.holds))
 
   pub never_several : (q p : ℕ) → Owns c q owner.Several → UnknownBy c q p → ⊥
-  never_several q p h u = apart u.3 (owner_is c q owner.Several u.3 h u.5)
+  never_several q p h (_, _, _, area, _, only, _, _, _) = apart area (owner_is c q owner.Several area h only)
     where
       apart : (a : Area) → owner.Several ≡ owner_of a → ⊥
       apart (Body b) e = cc e
       apart (Child a q k) e = cc e
 
   pub never_nobody : (q p : ℕ) → Owns c q owner.Nobody → UnknownBy c q p → ⊥
-  never_nobody q p h u = h u.3 u.5.0
+  never_nobody q p h (_, _, _, area, _, (lies, _), _, _, _) = h area lies
 
   pub never_named : (q p : ℕ) → table_named (instr_at c q) ≡ None → UnknownBy c q p → ⊥
-  never_named q p e u = none-some u.0 (sym e ∙ u.4)
+  never_named q p e (t, _, _, _, names, _, _, _, _) = none-some t (sym e ∙ names)
 
   pub never_there : (q p t : ℕ) → table_named (instr_at c q) ≡ Some t → slice_get c.forks t ≡ None → UnknownBy c q p → ⊥
-  never_there q p t e n u =
-      let s : u.0 ≡ t = same_Some u.0 t (sym u.4 ∙ e) in
-      none-some u.2 (sym (ap (λ (o : Option ForkTable). child_of o u.1) (ap (slice_get c.forks) s ∙ n)) ∙ u.6)
+  never_there q p t e n (u, k, ch, _, names, _, is_child, _, _) =
+      let s : u ≡ t = same_Some u t (sym names ∙ e) in
+      none-some ch (sym (ap (λ (o : Option ForkTable). child_of o k) (ap (slice_get c.forks) s ∙ n)) ∙ is_child)
 
   pub all_unknown : (o : Option ℕ) → IsLeast (Upto (UnknownBy c) (length c.instrs)) o → IsLeast (UnknownOnly c) o
   all_unknown o h = least_of_same (Upto (UnknownBy c) (length c.instrs)) (UnknownOnly c) o up down h
     where
       up : (p : ℕ) → Upto (UnknownBy c) (length c.instrs) p → UnknownOnly c p
-      up p u = let x = u.holds in let h = x.8 in (x.0, u.item, x.1, h.0, x.2, x.3, x.4, x.5, x.6, x.7, h.1, h.2, h.3)
+      up p u =
+          let (t, k, ch, a, names, only, is_child, begins, (x, among, large, absent)) = u.holds in
+          (t, u.item, k, x, ch, a, names, only, is_child, begins, among, large, absent)
 
       down : (p : ℕ) → UnknownOnly c p → Upto (UnknownBy c) (length c.instrs) p
       down p (t, q, k, x, ch, a, n, l, i, e, j, two, unknown) = record {

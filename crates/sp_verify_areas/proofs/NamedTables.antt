@@ -148,7 +148,8 @@ module _ (c : Parts) where
 
   -- all tables
   pub all_tables : (n : ℕ) (o : Option ℕ) → length c.forks ≡ n → IsLeast (Upto (LostAt c) n) o → IsLeast (Unnamed c) o
-  all_tables n o e = all (LostAt c) (Unnamed c) n o (λ t p h. (t, h.0, h.1, h.2, h.3)) down
+  all_tables n o e = all (LostAt c) (Unnamed c) n o
+      (λ t p (ch, is_child, begins, lost). (t, ch, is_child, begins, lost)) down
     where
       down : (p : ℕ) → Unnamed c p → Upto (LostAt c) n p
       down p (t, ch, is, at, z) = record {

@@ -118,10 +118,10 @@ module _ (ls : List Layout) (j : ℕ) (l : Layout) (e : slice_get ls j ≡ Some 
     where
       yes : IsOrphanBlock ls j l
       yes =
-          let d = are.yes j t in
-          let m = placed_layout ls d.1.block j d.4 in
+          let (k, twin, there, apart, placed) = are.yes j t in
+          let m = placed_layout ls twin.block j placed in
           let lm : m.0 ≡ l = same_Some m.0 l (sym m.1 ∙ e) in
-          inl (d.0, d.1, d.2, d.3, sym (layout_block ls d.1.block m.0 m.2) ∙ ap (λ (x : Layout). x.block) lm)
+          inl (k, twin, there, apart, sym (layout_block ls twin.block m.0 m.2) ∙ ap (λ (x : Layout). x.block) lm)
 
   pub lacks_none : (fs : List Bool) (g : Grown) → is_place (number_from 0 ls l.block) j ≡ true
       → AreDoubled ls fs (length ls) → flag_at fs j ≡ false → HaveAllBlockNodes ls g → node_at g.of j ≡ None
@@ -157,10 +157,10 @@ module _ (ls : List Layout) (j : ℕ) (l : Layout) (e : slice_get ls j ≡ Some 
       × (b ≡ true)) (OrphanBlockAt ls j) o (λ p z. (l, e, z.0, d.yes z.1)) (λ p z. down p z b refl) h
     where
       down : (p : ℕ) → OrphanBlockAt ls j p → (t : Bool) → b ≡ t → (l.entry ≡ p) × (b ≡ true)
-      down p z t s =
-          let q : z.0 ≡ l = same_Some z.0 l (sym z.1 ∙ e) in
+      down p (m, there, begins, orphan) t s =
+          let q : m ≡ l = same_Some m l (sym there ∙ e) in
           let w : (l.entry ≡ p)
-          × IsOrphanBlock ls j l = subst (λ (x : Layout). (x.entry ≡ p) × IsOrphanBlock ls j x) q (z.2, z.3) in
+          × IsOrphanBlock ls j l = subst (λ (x : Layout). (x.entry ≡ p) × IsOrphanBlock ls j x) q (begins, orphan) in
           (w.0, go t s w.1)
         where
           go : (t : Bool) → b ≡ t → IsOrphanBlock ls j l → b ≡ true
@@ -170,5 +170,6 @@ module _ (ls : List Layout) (j : ℕ) (l : Layout) (e : slice_get ls j ≡ Some 
 pub all_orphan_blocks : (c : Parts) (o : Option ℕ) → IsLeast (Upto (OrphanBlockAt c.layouts) (length c.layouts)) o
     → IsLeast (OrphanBlock c) o
 all_orphan_blocks c o h = least_of_same (Upto (OrphanBlockAt c.layouts) (length c.layouts)) (OrphanBlock c) o
-    (λ p u. (u.item, u.holds.0, u.holds.1, u.holds.2, u.holds.3))
-    (λ p z. record { item = z.0; below = slice_get_within c.layouts z.0 z.1 z.2; holds = (z.1, z.2, z.3, z.4) }) h
+    (λ p u. let (l, there, begins, orphan) = u.holds in (u.item, l, there, begins, orphan))
+    (λ p (j, l, there, begins, orphan).
+    record { item = j; below = slice_get_within c.layouts j l there; holds = (l, there, begins, orphan) }) h

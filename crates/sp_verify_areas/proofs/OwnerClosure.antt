@@ -202,8 +202,10 @@ module _ (c : Parts) (os : List Owner) (are : AreTrue c os) (closed : IsAllSprea
       let e : owner.Child q j ≡ owner.Child r i = alike (Child a q j) (Child b r i) p l h k never in
       let s : q ≡ r = cc (e) in
       let t : j ≡ i = cc (e) in
-      let d : LiesIn c q b = subst (λ z. LiesIn c z b) (sym s) (k.0.0, k.0.1) in
-      let m : a ≡ b = one_area a b q (at_fork a q j h.0) (h.0.0, h.0.1) d (not_around a q j p l h never) in
+      let ((h_area, h_fork, _), _) = h in
+      let ((k_area, k_fork, _), _) = k in
+      let d : LiesIn c q b = subst (λ z. LiesIn c z b) (sym s) (k_area, k_fork) in
+      let m : a ≡ b = one_area a b q (at_fork a q j h.0) (h_area, h_fork) d (not_around a q j p l h never) in
       λ z. Child (m z) (s z) (t z)
 
   -- ---- the owners

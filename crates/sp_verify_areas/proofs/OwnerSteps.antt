@@ -163,13 +163,13 @@ module _ (c : Parts) where
       || t) u (spreads_then c a b d (KnowsAt c f o) (KnowsAt c s o) r t h k) m)
     where
       is_spread : e ≡ a → (KnowsAt c f o e × KnowsAt c s o e) × Tabled p o e → IsSpread c p e
-      is_spread same k v ev some =
+      is_spread same ((by_first, by_second), by_table) v ev some =
           let w : v ≡ o = same_Some v o (sym ev ∙ ap (λ (os : List Owner). slice_get os p) same ∙ ea) in
           subst (λ z. ((q : ℕ) → IsIn q (nexts p (instr_at c p)) → q < length c.instrs → KnowsOwner e q z)
           × ((t : ℕ) → Names c t p → t < length c.forks → KnowsOwner e (length c.instrs + t) (as_child p z))) (sym w) (
-            (λ q j l. ⊎_elim (λ z. k.0.0 q z l) (λ z. k.0.1 q z l) (in_listed q f s (subst (IsIn q) (ap (nexts p) ei
-                ∙ sym ways) j))),
-            k.1,
+            (λ q j l. ⊎_elim (λ z. by_first q z l) (λ z. by_second q z l)
+                (in_listed q f s (subst (IsIn q) (ap (nexts p) ei ∙ sym ways) j))),
+            by_table,
           )
 
   -- ---- children
@@ -251,7 +251,8 @@ module _ (c : Parts) where
   swept a b d e r s t h k m =
       spreads_as c a e (λ os. (AreBegun c (length c.layouts) os × EachFirst (IsSpread c) (length c.instrs) os)
       × EachFirst (IsSpreadBy c) (length c.forks) os) (IsAllSpread c) ((r || s) || t)
-      (λ same z. record { begun = z.0.0; spread = z.0.1; tables = z.1 })
+      (λ same ((begun_layouts, spread_first), spread_tables).
+      record { begun = begun_layouts; spread = spread_first; tables = spread_tables })
       (spreads_then c a d e (λ os. AreBegun c (length c.layouts) os
       × EachFirst (IsSpread c) (length c.instrs) os) (EachFirst (IsSpreadBy c) (length c.forks)) (r || s) t
       (spreads_then c a b d (AreBegun c (length c.layouts)) (EachFirst (IsSpread c) (length c.instrs)) r s h k) m)

@@ -46,11 +46,11 @@ module _ (c : Parts) where
   last_step : (n p q : ℕ) → LeadsInSteps c n p q → (p ≡ q)
       ⊎ ((m r : ℕ) × LeadsInSteps c m p r × IsIn q (nexts r (instr_at c r)))
   last_step zero p q g = inl g
-  last_step (suc n) p q g = ⊎_elim
-      (λ (e : g.0 ≡ q). inr (0, p, refl, subst (λ z. IsIn z (nexts p (instr_at c p))) e g.1))
-      (λ (z : (m r : ℕ) × LeadsInSteps c m g.0 r × IsIn q (nexts r (instr_at c r))). inr
-      (suc z.0, z.1, (g.0, g.1, z.2), z.3))
-      (last_step n g.0 q g.2)
+  last_step (suc n) p q (next, leads, rest) = ⊎_elim
+      (λ (e : next ≡ q). inr (0, p, refl, subst (λ z. IsIn z (nexts p (instr_at c p))) e leads))
+      (λ (z : (m r : ℕ) × LeadsInSteps c m next r × IsIn q (nexts r (instr_at c r))).
+      let (m, r, way, last) = z in inr (suc m, r, (next, leads, way), last))
+      (last_step n next q rest)
 
   -- it leads to the next instruction, or to one that the instruction names
   target : (r q : ℕ) (o : Option Instr) → IsIn q (nexts r o) → (q ≡ r + 1) ⊎ (names_there c o ≡ nat_lt q
@@ -159,8 +159,8 @@ module _ (c : Parts) where
 
   past : (a : Area) (p : ℕ) → LiesIn c p a → length c.instrs ≤ p → FoundBy p
   past a p (ia, w) h = ⊎_elim (at_entry a p ia h)
-      (λ (z : (m r : ℕ) × LeadsInSteps c m (entry c a) r × IsIn p (nexts r (instr_at c r))). by_step a p z.0 z.1 ia h
-      z.2 z.3)
+      (λ (z : (m r : ℕ) × LeadsInSteps c m (entry c a) r × IsIn p (nexts r (instr_at c r))).
+      let (m, r, way, last) = z in by_step a p m r ia h way last)
       (last_step w.steps (entry c a) p w.way)
 
   shared : (p : ℕ) → Shared c p → FoundBy p

@@ -49,22 +49,22 @@ module _ (c : Parts) where
   -- the entry of a child that alone has an instruction in its code lies in it alone
   pub entry_only : (a : Area) (p q k : ℕ) (ch : ChildTable) → LiesOnlyIn c p (Child a q k) → child_at c q k ≡ Some ch
       → LiesOnlyIn c ch.entry (Child a q k)
-  entry_only a p q k ch h e = ((h.0.0, record { steps = 0; way = ap entry_of_child e }), only)
+  entry_only a p q k ch ((area, inside), alone) e = ((area, record { steps = 0; way = ap entry_of_child e }), only)
     where
       only : (b : Area) → LiesIn c ch.entry b → b ≡ Child a q k
       only b l =
-          let on = subst (λ z. LeadsInSteps c h.0.1.steps z p) (ap entry_of_child e) h.0.1.way in
-          let w = goes_then l.1.steps (entry c b) ch.entry p h.0.1.steps l.1.way on in
-          h.1 b (l.0, record { steps = w.0; way = w.1 })
+          let on = subst (λ z. LeadsInSteps c inside.steps z p) (ap entry_of_child e) inside.way in
+          let w = goes_then l.1.steps (entry c b) ch.entry p inside.steps l.1.way on in
+          alone b (l.0, record { steps = w.0; way = w.1 })
 
   -- and its fork lies in the code of the area around alone
   pub fork_only : (a : Area) (p q k : ℕ) → LiesOnlyIn c p (Child a q k) → LiesOnlyIn c q a
-  fork_only a p q k h = ((h.0.0.0, h.0.0.1), only)
+  fork_only a p q k (((area, at_fork, child), inside), alone) = ((area, at_fork), only)
     where
       only : (b : Area) → LiesIn c q b → b ≡ a
       only b l =
-          let e : Child b q k ≡ Child a q k = h.1 (Child b q k)
-          ((l.0, l.1, h.0.0.2), record { steps = h.0.1.steps; way = h.0.1.way }) in
+          let e : Child b q k ≡ Child a q k = alone (Child b q k)
+          ((l.0, l.1, child), record { steps = inside.steps; way = inside.way }) in
           ap around_of e
 
   -- ---- owners
@@ -110,8 +110,7 @@ module _ (c : Parts) where
             × (are.lists n ≡ homes c (Child a q k))
         last t base s w false e = absurd (none-some n e)
         last t base s w true e =
-            let ch = l.0.0.2.0 in
-            let there = l.0.0.2.1 in
+            let (((_, _, (ch, there)), _), _) = l in
             let i : IsChild c t k ch = sym (ap (λ (z : Option ℕ). child_of (table_at c.forks z) k) s) ∙ there in
             let h = are.child t base k ch w i in
             let is = same_Some (base + k) n e in
@@ -146,6 +145,12 @@ module _ (c : Parts) where
       one : (a : Area) × LiesOnlyIn c q a × (owner_of a ≡ o)
       one = one_area (length old.nodes) blocks old.of q around o owns node
 
+      alone : LiesOnlyIn c q one.0
+      alone = one.1
+
+      lies : LiesIn c q one.0
+      lies = alone.0
+
       right : (around < length old.nodes) × (are.lists around ≡ homes c one.0)
       right = node_right old are one.0 q around one.1 (ap (node_of c (length old.nodes) blocks old.of) one.2 ∙ node)
 
@@ -164,7 +169,7 @@ module _ (c : Parts) where
             omega (arith, l, more),
             λ r a n only.
                 let same : Child one.0 q k ≡ Child a r k = only.1 (Child one.0 q k) (
-                  (one.1.0.0, one.1.0.1, (ch, child_there t q k ch names i)),
+                  (lies.0, lies.1, (ch, child_there t q k ch names i)),
                   record { steps = 0; way = ap entry_of_child (child_there t q k ch names i) },
                 ) in
                 extended.each k ch l e ∙ ap (with_home ch.index) (right.1 ∙ ap (homes c) (ap around_of same))
@@ -241,11 +246,11 @@ module _ (c : Parts) where
         → AreAllAttached c os blocks g
         → (a : Area) (p : ℕ) → LiesOnlyIn c p a
         → (n : ℕ) × (node_of c (length g.nodes) blocks g.of (owner_of a) ≡ Some n)
-    node_known os g owners full are (Body b) p l = go (number_from 0 c.layouts b) refl
+    node_known os g owners full are (Body b) p (((l, there), _), _) = go (number_from 0 c.layouts b) refl
       where
         go : (u : Option ℕ) → number_from 0 c.layouts b ≡ u → (n : ℕ)
             × (on_option None (number_from 0 c.layouts b) (λ k. node_at blocks k) ≡ Some n)
-        go None s = absurd (none-some l.0.0.0 (sym (place_none 0 c.layouts b s) ∙ l.0.0.1))
+        go None s = absurd (none-some l (sym (place_none 0 c.layouts b s) ∙ there))
         go (Some k) s =
             let m = placed_layout c.layouts b k s in
             let n = full k (slice_get_within c.layouts k m.0 m.1) in
@@ -256,8 +261,7 @@ module _ (c : Parts) where
         known : (n : ℕ) × (node_of c (length g.nodes) blocks g.of (owner_of a) ≡ Some n) → (n : ℕ)
             × (node_of c (length g.nodes) blocks g.of (owner.Child q k) ≡ Some n)
         known m =
-            let ch = l.0.0.2.0 in
-            let there = l.0.0.2.1 in
+            let (((_, _, (ch, there)), _), _) = l in
             let t = name_of (table_named (instr_at c q)) k c.forks ch there in
             let i : IsChild c t.0 k ch = sym (ap (λ (z : Option ℕ). child_of (table_at c.forks z) k) t.1) ∙ there in
             let only = fork_only a p q k l in

@@ -94,7 +94,7 @@ module _ (c : Parts) where
       no e m = let u = unfit p m in not_true_and_false (not t) (not_from_false t (test u.0 u.1 ∙ u.2)) e
 
   pub decides_nobody : (p : ℕ) → Owns c p owner.Nobody → Decides false (MisnamesOnly c p)
-  decides_nobody p h = record { yes = λ e. absurd (cc e); no = λ e m. h (unfit p m).0 (unfit p m).1.0 }
+  decides_nobody p h = record { yes = λ e. absurd (cc e); no = λ e m. let (a, (lies, _), _) = unfit p m in h a lies }
 
   pub decides_several : (p : ℕ) → Owns c p owner.Several → Decides false (MisnamesOnly c p)
   decides_several p h = record {
