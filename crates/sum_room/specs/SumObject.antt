@@ -65,7 +65,8 @@ ask_returns a b g one two p q = cc (p, q)
 
 pub sum_is : (x : Total) (log : List Note) (y : Total) → LeadsTo SumSteps x log y → y.value ≡ x.value + length log
 sum_is x [] y r = let e : x.value ≡ y.value = λ i. (r i).value in omega (arith, e)
-sum_is x (n ∷ ns) y r = let e = sum_is r.0 ns y r.5 in let f = one_more x r.1 r.2 r.0 r.3 n r.4 in omega (arith, e, f)
+sum_is x (n ∷ ns) y (mid, worker, ask, got, step, rest) =
+    let e = sum_is mid ns y rest in let f = one_more x worker ask mid got n step in omega (arith, e, f)
 
 pub never_full : (x : Total) (log : List Note) (y : Total) → x.value ≡ 0 → LeadsTo SumSteps x log y
     → length log < 18446744073709551615 → y.value + 1 < 18446744073709551616

@@ -20,7 +20,8 @@ close-settled-requires-clause-seats g c =
     let b = c.in-Ok.ensures.seats 1 c.three-a.result.1 (ap (λ l. slice_get l 1) c.three-a.ensures) in
     let d = c.in-Ok.ensures.seats 2 c.three-a.result.2 (ap (λ l. slice_get l 2) c.three-a.ensures) in
     let p = c.join-one.ensures.first in let q = c.join-one.ensures.second in let r = c.serve-seen.ensures.place in
-    all_three (λ n k t. IsSeatOf c.in-Ok.room t × IsSeatAt n k t) c.join-one.result.0.0 c.join-one.result.1.0
+    let ((one, _), (two, _)) = c.join-one.result in
+    all_three (λ n k t. IsSeatOf c.in-Ok.room t × IsSeatAt n k t) one two
     c.serve-seen.new.self _ (c.of.ensures ∙ c.in-Ok-from_array.ensures.items)
     (stays_of c.in-Ok.room _ _ p a.0, stays_at 3 0 _ _ p a.1.stands)
     (stays_of c.in-Ok.room _ _ q b.0, stays_at 3 1 _ _ q b.1.stands)
