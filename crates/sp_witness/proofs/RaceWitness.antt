@@ -32,9 +32,8 @@ use Rattle.sp_witness.specs.Witness.{who_of, who_at, entry_list, past_before, is
 use Rattle.sp_witness.specs.Witness.{is_member, is_among, members, first_part, witness}
 use Rattle.sp_witness.specs.Contention.{IsContention, Shows}
 use Rattle.sp_witness.proofs.IndependentSteps.{Head, Free, MarkedFree, Cuts, Tag, Block, heads, kept, left}
-use Rattle.sp_witness.proofs.IndependentSteps.{IsNextOfProcess, Runs}
-use Rattle.sp_witness.proofs.IndependentSteps.{BlockRuns, EachFree, parted, in_front, ready_of, ready_back}
-use Rattle.sp_witness.proofs.IndependentSteps.{ready_before}
+use Rattle.sp_witness.proofs.IndependentSteps.{IsNextOfProcess, Runs, BlockRuns, EachFree, parted, in_front, ready_of}
+use Rattle.sp_witness.proofs.IndependentSteps.{ready_back, ready_before}
 use Rattle.sp_witness.proofs.Pasts.{heads_from, Stage, past_here, MarksAre, cuts_from, get_at}
 use Rattle.sp_witness.proofs.Ticks.{said_same}
 use Rattle.sp_witness.proofs.Blocks.{AllSilent, Valid, since_all, AllValid}
@@ -84,8 +83,7 @@ module _ (g : RunInput) (disjoint : IsDisjointRun g) (turn : ℕ) (es : List Occ
 
   stage_first : Stage es before (one ∷ (mid ++ two ∷ after)) (knowledge_of before) earlier
   stage_first = record {
-    whole = whole
-        ∙ append_assoc before (one ∷ mid) (two ∷ after);
+    whole = whole ∙ append_assoc before (one ∷ mid) (two ∷ after);
     knowledge_is = refl;
     size = size_first;
   }
@@ -330,8 +328,7 @@ module _ (g : RunInput) (disjoint : IsDisjointRun g) (turn : ℕ) (es : List Occ
     act_is = refl;
     pauses_are = refl;
     past = λ k e lt is. knows_so g between local_steps.notes (knowledge_of front) front later label label second
-        local_steps.known
-        (λ i l. refl) k e lt is;
+        local_steps.known (λ i l. refl) k e lt is;
   }
 
   -- first the first part, then the earlier offer, and then the later one's local steps
@@ -347,11 +344,14 @@ module _ (g : RunInput) (disjoint : IsDisjointRun g) (turn : ℕ) (es : List Occ
   others = runs_split g label after_part second_notes (left g mark cut.front) (block ∷ left g mark cut.back)
       (subst (λ z. BlockRuns g label after_part z second_notes) left_is parts.2)
 
+  abbrev block_runs : BlockRuns g label others.0 (block ∷ left g mark cut.back) second_notes
+  block_runs = others.2
+
   block_first : (m : WithNotes L) × Runs g label after_part block.head block.tags m
-      × BlockRuns g label m (left g mark cut.front) others.2.0
-  block_first = in_front g label disjoint after_part others.0 others.2.0 (left g mark cut.front) block.head block.tags
+      × BlockRuns g label m (left g mark cut.front) block_runs.0
+  block_first = in_front g label disjoint after_part others.0 block_runs.0 (left g mark cut.front) block.head block.tags
       (subst (EachFree g label (left g mark cut.front)) (sym cut.block_is)
-      (each_left g mark label cut.front head_first front_free)) others.1 others.2.1
+      (each_left g mark label cut.front head_first front_free)) others.1 block_runs.1
 
   abbrev after_first : WithNotes L
   after_first = block_first.0
@@ -377,8 +377,8 @@ module _ (g : RunInput) (disjoint : IsDisjointRun g) (turn : ℕ) (es : List Occ
   second_first : (m : WithNotes L) × Runs g label after_first head_second tags m
       × BlockRuns g label m remaining end_notes
   second_first = in_front g label disjoint after_first second_notes end_notes remaining head_second tags free_cut.0
-      (runs_join g label after_first others.2.0 second_notes (left g mark cut.front) (left g mark cut.back)
-      block_first.2 others.2.2) (local_steps.runs label (λ k lt. refl))
+      (runs_join g label after_first block_runs.0 second_notes (left g mark cut.front) (left g mark cut.back)
+      block_first.2 block_runs.2) (local_steps.runs label (λ k lt. refl))
 
   abbrev at_end : WithNotes L
   at_end = second_first.0
