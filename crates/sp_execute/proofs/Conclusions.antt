@@ -80,12 +80,12 @@ module _ (g : RunInput) (moves shares : Stmt
   module _ (n : ℕ) (s : StateOf g) (k : IsAlong g pause (occurrences_from first_births es) n s) where
     pub same_output : (q : ℕ) (text : List ℕ) → IsOutputOf t q text → text ≡ output_of g s
     same_output q text o =
-        let mine = program_output g moves shares pause ready es names t h n s k in
-        let holder : mine.0 ≡ q = o.only mine.0 mine.1 (output_of g s) mine.2 mine.3 in
-        let store : Some o.store ≡ Some mine.1 = sym o.store_is ∙ ap (λ y. store_in (t.condition y)) (sym holder)
-        ∙ mine.2 in
-        same_Some text (output_of g s) (sym o.output ∙ ap (λ y. plain.output y) (same_Some o.store mine.1 store)
-        ∙ mine.3)
+        let (mine, its_store, store_is, text_is) = program_output g moves shares pause ready es names t h n s k in
+        let holder : mine ≡ q = o.only mine its_store (output_of g s) store_is text_is in
+        let store : Some o.store ≡ Some its_store = sym o.store_is ∙ ap (λ y. store_in (t.condition y)) (sym holder)
+        ∙ store_is in
+        same_Some text (output_of g s) (sym o.output ∙ ap (λ y. plain.output y) (same_Some o.store its_store store)
+        ∙ text_is)
 
     -- the first process has ended
     over : phase_in (t.condition 0) ≡ Finished → meant.IsDone g s

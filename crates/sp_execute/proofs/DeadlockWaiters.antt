@@ -92,31 +92,21 @@ module _ (t : System Plain) (lawful : Lawful t.births) (unborn : (q : ℕ) → t
     where
       by : ((k.doing h.0 ≡ Sending h.1) × (w ≡ Sends_at k.births h.0 h.1))
           ⊎ ((k.doing h.0 ≡ Receiving h.1) × (w ≡ Receives_at k.births h.0 h.1)) → WaitsAs t w
-      by (inl x) = let z = to_send t.births h.0 h.1 (t.condition h.0) x.0 in (
-        h.0,
-        z.0,
-        z.1,
-        z.2,
-        z.3
-            ∙ ap (λ y. Some y) (sym x.1),
-      )
-      by (inr x) = let z = to_receive t.births h.0 h.1 (t.condition h.0) x.0 in (
-        h.0,
-        z.0,
-        z.1,
-        z.2,
-        z.3
-            ∙ ap (λ y. Some y) (sym x.1),
-      )
+      by (inl (does, is)) =
+          let (stop, store, waits, waiter_is) = to_send t.births h.0 h.1 (t.condition h.0) does in
+          (h.0, stop, store, waits, waiter_is ∙ ap (λ y. Some y) (sym is))
+      by (inr (does, is)) =
+          let (stop, store, waits, waiter_is) = to_receive t.births h.0 h.1 (t.condition h.0) does in
+          (h.0, stop, store, waits, waiter_is ∙ ap (λ y. Some y) (sym is))
 
   from_system : (w : Waiting) → WaitsAs t w → IsWaiting k w
-  from_system w h = by h.1 h.3 h.4
+  from_system w (q, stop, store, waits, waiter_is) = by stop waits waiter_is
     where
-      by : (stop : Stop) → t.condition h.0 ≡ Waits stop h.2 → waiting_at t.births h.0 stop ≡ Some w → IsWaiting k w
+      by : (stop : Stop) → t.condition q ≡ Waits stop store → waiting_at t.births q stop ≡ Some w → IsWaiting k w
       by (Forks tb v n) e r = absurd (none-some _ r)
       by (Opens x) e r = absurd (none-some _ r)
-      by (Sends c m cs) e r = (h.0, c, inl (ap doing_in e, sym (same_Some _ _ r)))
-      by (Receives c m x) e r = (h.0, c, inr (ap doing_in e, sym (same_Some _ _ r)))
+      by (Sends c m cs) e r = (q, c, inl (ap doing_in e, sym (same_Some _ _ r)))
+      by (Receives c m x) e r = (q, c, inr (ap doing_in e, sym (same_Some _ _ r)))
       by Ends e r = absurd (none-some _ r)
       by Pauses e r = absurd (none-some _ r)
 

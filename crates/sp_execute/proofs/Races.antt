@@ -13,8 +13,8 @@ use Rattle.sp_journal.specs.declared.outcome.End.TheVariants as end
 use Rattle.sp_journal.specs.declared.outcome.Verdict.{Verdict}
 use Rattle.sp_journal.specs.declared.outcome.Verdict.TheVariants as verdict
 use Rattle.sp_journal.specs.Births.{IsNameable, occurrences}
-use Rattle.sp_journal.specs.Names.{Channel, Occurrence, proc_name}
-use Rattle.sp_judge.specs.Races.{IsFault, IsLeastRace, IsVerdict, Race}
+use Rattle.sp_journal.specs.Names.{Channel, Occurrence, chan_name, proc_name}
+use Rattle.sp_judge.specs.Races.{IsFault, IsJudged, IsLeastRace, IsVerdict, Race}
 use Rattle.sp_link.specs.Premises.{IsReady}
 use Rattle.sp_meaning.specs.Along.{IsAlong, IsClean}
 use Rattle.sp_meaning.specs.Ends.{EndIs, EndsSo}
@@ -90,11 +90,20 @@ module _ (g : RunInput) (moves shares : Stmt
     pub named : IsVerdict names r.closed.end (verdict.Race w c earlier later)
     named = verdict_race names r.closed.end r.verdict w c earlier later is x.verdict
 
+    abbrev judged : IsJudged names (verdict.Race w c earlier later)
+    judged = named.1
+
+    abbrev race : (d : Channel) × (c ≡ chan_name d) × IsLeastRace names w d earlier later
+    race = judged.1
+
     abbrev pub channel : Channel
-    channel = named.1.1.0
+    channel = race.0
+
+    pub channel_is : c ≡ chan_name channel
+    channel_is = race.1
 
     least : IsLeastRace names w channel earlier later
-    least = named.1.1.2
+    least = race.2
 
     pub is_clean : IsClean names
     is_clean = clean g TURN_TICKS names x.about.steps x.about.state r.closed.end x.about.along x.about.end named.0
@@ -135,7 +144,7 @@ module _ (g : RunInput) (moves shares : Stmt
   shows_race ordered = record {
     witness = λ w c earlier later is. (
       channel w c earlier later is,
-      (named w c earlier later is).1.1.1,
+      channel_is w c earlier later is,
       is_witness w c earlier later is,
     );
     ordered = λ no. ordered g TURN_TICKS names x.about.steps x.about.state r.closed.end r.verdict ready.free

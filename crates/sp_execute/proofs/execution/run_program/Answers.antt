@@ -10,18 +10,18 @@ use Rattle.sp_execute.proofs.execution.run_program.Goals as goal
 
 pub run-requires-clause-sound : goal.run-requires-clause-sound
 run-requires-clause-sound g c κs within =
-    let p = c.requires.program in
-    subst (λ (x : Parts). IsSound x) (sym p.3.emitted)
-    (program_sound (run_input p.0 c.args.input.value c.args.limits.now) p.1 p.2 p.3.ready)
+    let (p, moves, shares, is) = c.requires.program in
+    subst (λ (x : Parts). IsSound x) (sym is.emitted)
+    (program_sound (run_input p c.args.input.value c.args.limits.now) moves shares is.ready)
 
 pub judge-requires : goal.judge-requires
 judge-requires g c =
-    let p = c.requires.program in
+    let (p, moves, shares, is) = c.requires.program in
     record {
       about = (
-        run_input p.0 c.args.input.value c.args.limits.now,
-        c.conclude-concluded.ensures.about (run_input p.0 c.args.input.value c.args.limits.now) p.1 p.2
-            (run_of_code c.args.code.value c.args.input.value c.args.limits.now p.0 p.1 p.2 p.3 c.args.workers
+        run_input p c.args.input.value c.args.limits.now,
+        c.conclude-concluded.ensures.about (run_input p c.args.input.value c.args.limits.now) moves shares
+            (run_of_code c.args.code.value c.args.input.value c.args.limits.now p moves shares is c.args.workers
             c.in_ok-closed.closed c.in_ok-closed.ensures),
       );
     }

@@ -8,14 +8,14 @@ use Rattle.sp_execute.proofs.follow.follow.Goals as goal
 
 pub replay-requires-clause-sound : goal.replay-requires-clause-sound
 replay-requires-clause-sound c =
-    let p = c.requires.program in
-    subst (λ (x : Parts). IsSound x) (sym p.3.emitted)
-    (program_sound (run_input p.0 c.args.input.value c.args.limits.now) p.1 p.2 p.3.ready)
+    let (p, moves, shares, is) = c.requires.program in
+    subst (λ (x : Parts). IsSound x) (sym is.emitted)
+    (program_sound (run_input p c.args.input.value c.args.limits.now) moves shares is.ready)
 
 pub replay-requires-clause-limits : goal.replay-requires-clause-limits
 replay-requires-clause-limits c =
-    let p = c.requires.program in
-    p.3.ready.limits
+    let (_, _, _, is) = c.requires.program in
+    is.ready.limits
 
 pub returns : goal.returns
 returns c = λ p moves shares is.

@@ -8,14 +8,14 @@ use Rattle.sp_execute.proofs.follow.follow_told.Goals as goal
 
 pub replay_told-requires-clause-sound : goal.replay_told-requires-clause-sound
 replay_told-requires-clause-sound c =
-    let p = c.requires.program in
-    subst (λ (x : Parts). IsSound x) (sym p.3.emitted)
-    (program_sound (run_input p.0 c.args.input.value c.args.limits.now) p.1 p.2 p.3.ready)
+    let (p, moves, shares, is) = c.requires.program in
+    subst (λ (x : Parts). IsSound x) (sym is.emitted)
+    (program_sound (run_input p c.args.input.value c.args.limits.now) moves shares is.ready)
 
 pub replay_told-requires-clause-limits : goal.replay_told-requires-clause-limits
 replay_told-requires-clause-limits c =
-    let p = c.requires.program in
-    p.3.ready.limits
+    let (_, _, _, is) = c.requires.program in
+    is.ready.limits
 
 pub returns-clause-follows : goal.returns-clause-follows
 returns-clause-follows c = λ p moves shares is.
@@ -24,6 +24,6 @@ returns-clause-follows c = λ p moves shares is.
 
 pub returns-clause-sound : goal.returns-clause-sound
 returns-clause-sound c =
-    let p = c.requires.program in
-    subst (λ (x : Parts). IsSound x) (sym p.3.emitted)
-    (program_sound (run_input p.0 c.args.input.value c.args.limits.now) p.1 p.2 p.3.ready)
+    let (p, moves, shares, is) = c.requires.program in
+    subst (λ (x : Parts). IsSound x) (sym is.emitted)
+    (program_sound (run_input p c.args.input.value c.args.limits.now) moves shares is.ready)
