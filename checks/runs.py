@@ -44,7 +44,6 @@ OPEN = {
     "sp_code/specs/Ranks": "ways",
     "sp_codefile/proofs/InstrLaws": "operands_small",
     "sp_codegen/proofs/AssignSteps": "assign_makes",
-    "sp_codegen/proofs/Follows": "push_follows",
     "sp_codegen/proofs/OperatorValues": "input_gives",
     "sp_codegen/proofs/PureCode": "right_pure",
     "sp_codegen/proofs/Turn": "go",

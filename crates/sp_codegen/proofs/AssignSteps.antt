@@ -136,16 +136,16 @@ module _ {M : Type 0} (ex : Execution M) where
           (known_bind ops rel w code (checked_value ty.0) val val (fetch_known ex c) (ty.2 val o1 s1)))
           (record {
             proof = (
-              after_var q v + 1,
-              stack,
-              ops.copy u b (size p k) n1,
-              fs,
+              m.At (after_var q v + 1) stack (ops.copy u b (size p k) n1),
               goes ops rel w code (at_one ex (after_var q v) _ n1 h.1
                   ∙ holds_when (ops.has b (size p k) n1 && ops.has u (size p k) n1) _ (and_from _ _ has_from has_to)),
-              subst (λ y. rel.Agrees fs o1 (at_key same_loc a.spot
-                  (content_with a (s1 a.spot) (Tree (get_at c.path (value_in (s1 c.spot))))) s1)
-                  (ops.copy u b (size p y) n1)) ek (law.copy t1 a c u b pt x.1 ra x.2 (ek ∙ sym x.0)),
-              fo,
+              record {
+                frames = fs;
+                stand = subst (λ y. rel.Agrees fs o1 (at_key same_loc a.spot
+                    (content_with a (s1 a.spot) (Tree (get_at c.path (value_in (s1 c.spot))))) s1)
+                    (ops.copy u b (size p y) n1)) ek (law.copy t1 a c u b pt x.1 ra x.2 (ek ∙ sym x.0));
+                follows = fo;
+              },
             );
           })
   assign_makes call ok end base below Many k (Number v) sc q stack todo a u fs o s n t pl ez ek pt ra h fo = absurd h

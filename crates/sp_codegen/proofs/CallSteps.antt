@@ -249,32 +249,35 @@ module _ {M : Type 0} (ex : Execution M) where
       go : (x : WorkOutcome Block × Store) (d : MemoryResult M) → CallMatches rel w fs s f b r.around gs x d
           → next_step ops code c ≡ calls_to l (q + 1) stack d → Made ex c (After ex end base below) (then_run next w x)
       go (Computed b1 o1, s1) (Done n1) (block_is, (fr, frame_is, stands, mine)) e = (
-        l.entry,
-        m.Link (q + 1) ∷ stack,
-        n1,
-        fr ∷ fs,
         c,
         stays ops rel w code c,
-        e ∙ ap (λ y. if y then Goes (m.At l.entry (m.Reply (q + 1) ∷ stack) n1) else
-            pause_step ops code l.entry (m.Link (q + 1) ∷ stack) n1) no_answer,
-        stands,
-        subst (λ (y : Block). After ex end base below (push y.body (Leave ∷ todo)) (fr ∷ fs) l.entry
-            (m.Link (q + 1) ∷ stack)) (sym block_is)
-            (push_follows ex b.body end base below (scopes_of p f) l.entry (m.Link (q + 1) ∷ stack) (fr ∷ fs)
-            (Leave ∷ todo) (r.placed fr frame_is) (z.stands.body (is_in_no_function stack) hu) (
-              after_statement p l.entry b.body,
-              q + 1,
-              stack,
-              fr,
-              fs,
-              slides ex _ _,
-              refl,
-              z.stands.end
-                  ∙ ap Some (return_at f r.parent.0 b h.1 r.parent.1),
-              refl,
-              fo,
-              mine,
-            )),
+        record {
+          pc = l.entry;
+          stack = m.Link (q + 1) ∷ stack;
+          memory = n1;
+          frames = fr ∷ fs;
+          ticks = e ∙ ap (λ y. if y then Goes (m.At l.entry (m.Reply (q + 1) ∷ stack) n1) else
+              pause_step ops code l.entry (m.Link (q + 1) ∷ stack) n1) no_answer;
+          stand = stands;
+          follows = subst (λ (y : Block). After ex end base below (push y.body (Leave ∷ todo)) (fr ∷ fs) l.entry
+              (m.Link (q + 1) ∷ stack)) (sym block_is)
+              (push_follows ex b.body end base below (scopes_of p f) l.entry (m.Link (q + 1) ∷ stack) (fr ∷ fs)
+              (Leave ∷ todo) (r.placed fr frame_is) (z.stands.body (is_in_no_function stack) hu) (
+                after_statement p l.entry b.body,
+                slides ex _ _,
+                record {
+                  back = q + 1;
+                  under = stack;
+                  frame = fr;
+                  outer = fs;
+                  stack_is = refl;
+                  returns = z.stands.end ∙ ap Some (return_at f r.parent.0 b h.1 r.parent.1);
+                  frames_are = refl;
+                  rest = fo;
+                  mine = mine;
+                },
+              ));
+        },
       )
       go (Computed b1 o1, s1) (Failed x) al e = absurd al
       go (EndsInFault x, s1) (Done n1) al e = absurd al

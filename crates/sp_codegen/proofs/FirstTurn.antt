@@ -123,55 +123,34 @@ module _ (g : RunInput) (code : Code) (formed : IsFormed g.program) (types : Has
 
   by_outcome : (r : WorkOutcome source.Stop × Store) → Turned execution (At layout.layout.entry [] n0) end [] js r
       → EndsAlike (code_run g code pause) (At layout.layout.entry [] n0) r
-  by_outcome (Computed (source.Paused todo) o, s) (to, st, n, _, before, comes, pauses, _, _) = (
-    At to st n,
-    turn_by (At layout.layout.entry [] n0) (Stopped Pauses (At to st n)) fits_first
-        (before, comes, pauses),
+  by_outcome (Computed (source.Paused todo) o, s) (last, comes, k) = (
+    At k.pc k.stack k.memory,
+    turn_by (At layout.layout.entry [] n0) (Stopped Pauses (At k.pc k.stack k.memory)) fits_first
+        (last, comes, k.stops),
   )
   by_outcome (Computed (source.Stops (Stepped todo)) o, s) q = tt
   by_outcome (Computed (source.Stops (Ticked todo)) o, s) q = tt
-  by_outcome (Computed (source.Stops (Opened todo)) o, s) (
-    to,
-    st,
-    n,
-    _,
-    before,
-    _,
-    cell,
-    _,
-    comes,
-    stops,
-    _,
-    _,
-    _,
-    _,
-    _,
-    _,
-    _,
-  ) = (
-    cell,
-    At to st n,
-    turn_by (At layout.layout.entry [] n0) (Stopped (Opens cell) (At to st n)) fits_first
-        (before, comes, stops),
+  by_outcome (Computed (source.Stops (Opened todo)) o, s) (last, comes, k) = (
+    k.target,
+    At k.pc k.stack k.memory,
+    turn_by (At layout.layout.entry [] n0) (Stopped (Opens k.target) (At k.pc k.stack k.memory)) fits_first
+        (last, comes, k.stops),
   )
-  by_outcome (Computed (source.Stops (Forked bs todo)) o, s)
-      (to, st, n, _, before, stop, comes, stops, _, _, _, _, _) = (
-        stop,
-        At to st n,
-        turn_by (At layout.layout.entry [] n0) (Stopped stop (At to st n)) fits_first
-            (before, comes, stops),
-      )
-  by_outcome (Computed (source.Stops (Offered c x cg todo)) o, s)
-      (to, st, n, _, before, stop, comes, stops, _, _, _, _, _) = (
-        stop,
-        At to st n,
-        turn_by (At layout.layout.entry [] n0) (Stopped stop (At to st n)) fits_first
-            (before, comes, stops),
-      )
-  by_outcome (Computed (source.Stops actions.Ended) o, s) (to, st, n, _, comes, stops, _, _, _) = (
-    At to st n,
-    turn_by (At layout.layout.entry [] n0) (Stopped Ended (At to st n)) fits_first
-        (At to st n, comes, stops),
+  by_outcome (Computed (source.Stops (Forked bs todo)) o, s) (last, comes, k) = (
+    k.stop,
+    At k.pc k.stack k.memory,
+    turn_by (At layout.layout.entry [] n0) (Stopped k.stop (At k.pc k.stack k.memory)) fits_first
+        (last, comes, k.stops),
+  )
+  by_outcome (Computed (source.Stops (Offered c x payload todo)) o, s) (last, comes, k) = (
+    k.stop,
+    At k.pc k.stack k.memory,
+    turn_by (At layout.layout.entry [] n0) (Stopped k.stop (At k.pc k.stack k.memory)) fits_first
+        (last, comes, k.stops),
+  )
+  by_outcome (Computed (source.Stops actions.Ended) o, s) (At pc st n, comes, k) = (
+    At pc st n,
+    turn_by (At layout.layout.entry [] n0) (Stopped Ended (At pc st n)) fits_first (At pc st n, comes, k.stops),
   )
   by_outcome (EndsInFault f, s) q = (
     q.configuration,

@@ -2,15 +2,14 @@
 use Rattle.std.proofs.Common.{◌≡◌, inl, inr, ℕ, ◌+◌, List, [], ◌∷◌, Some, Bool, sym, ap, ◌∙◌, subst}
 use Rattle.std.specs.Prelude.{slice_get}
 use Rattle.sp_base.specs.declared.fault.Fault.{Fault}
-use Rattle.sp_tree.specs.Plain.{Program, Stmt, Empty, Assign, Call, Sequence, If, IfElse, While, Repeat, For, Case}
-use Rattle.sp_tree.specs.Plain.{Parallel, Forall, Assume, ReadValue, ReadLine, WriteValue, WriteText, WriteLine, Open}
-use Rattle.sp_tree.specs.Plain.{Send, Receive, Stmts, No, And, Typed}
+use Rattle.sp_tree.specs.Plain.{Program, Stmt, Empty, Sequence, Repeat}
+use Rattle.sp_tree.specs.Plain.{Stmts, No, And}
 use Rattle.sp_tree.specs.Uses.{Use, In_stmt, In_stmts}
 use Rattle.sp_meaning.specs.Model.{Channel, Payload}
 use Rattle.sp_meaning.specs.LocalWork.{LocationContent, Address, LocalState, Item, Do, First, Again, Test, Leave, Break}
 use Rattle.sp_meaning.specs.LocalWork.{WorkOutcome, Computed, EndsInFault, IllFormed}
 use Rattle.sp_meaning.specs.LocalWork.{OutOfFuel, Work, bind, give, fail, tick}
-use Rattle.sp_meaning.specs.Actions.{Action, Stepped, Ticked, Opened, Forked, Offered, Ended, Birth, push, push_all}
+use Rattle.sp_meaning.specs.Actions.{Action, Stepped, Ticked, Birth, push, push_all}
 use Rattle.sp_meaning.specs.Run.{Store, run}
 use Rattle.sp_meaning.proofs.Run.{then_run, run_bind}
 use Rattle.sp_code.specs.declared.instr.Instr.TheVariants as i
@@ -70,19 +69,12 @@ module _ {M : Type 0} (ex : Execution M) where
       → CodeFollows end base below pc stack fs todo
   slide_follows end base below pc q stack fs [] h (slide, stack_is, frames_are) =
       (slides_on h slide, stack_is, frames_are)
-  slide_follows end base below pc q stack fs (Do s ∷ todo) h (at, scopes, slide, placed, stands, rest) =
-      (at, scopes, slides_on h slide, placed, stands, rest)
-  slide_follows end base below pc q stack fs (First x lo hi d s ∷ todo) h
-      (at, scopes, under, slide, stack_is, placed, turns, rest, in_range) =
-      (at, scopes, under, slides_on h slide, stack_is, placed, turns, rest, in_range)
-  slide_follows end base below pc q stack fs (Again x hi d s ∷ todo) h
-      (at, scopes, under, slide, stack_is, placed, turns, rest) =
-      (at, scopes, under, slides_on h slide, stack_is, placed, turns, rest)
-  slide_follows end base below pc q stack fs (Test s e ∷ todo) h (at, scopes, slide, placed, stands, rest) =
-      (at, scopes, slides_on h slide, placed, stands, rest)
-  slide_follows end base below pc q stack fs (Leave ∷ todo) h
-      (at, back, under, frame, outer, slide, stack_is, returns, frames_are, rest, mine) =
-      (at, back, under, frame, outer, slides_on h slide, stack_is, returns, frames_are, rest, mine)
+  slide_follows end base below pc q stack fs (Do s ∷ todo) h (at, slide, k) = (at, slides_on h slide, k)
+  slide_follows end base below pc q stack fs (First x lo hi d s ∷ todo) h (at, slide, k, in_range) =
+      (at, slides_on h slide, k, in_range)
+  slide_follows end base below pc q stack fs (Again x hi d s ∷ todo) h (at, slide, k) = (at, slides_on h slide, k)
+  slide_follows end base below pc q stack fs (Test s e ∷ todo) h (at, slide, k) = (at, slides_on h slide, k)
+  slide_follows end base below pc q stack fs (Leave ∷ todo) h (at, slide, k) = (at, slides_on h slide, k)
   slide_follows end base below pc q stack fs (Break f ∷ todo) h k = k
 
   mutual
@@ -93,27 +85,10 @@ module _ {M : Type 0} (ex : Execution M) where
         → CodeFollows end base below (after_statement p q s) stack fs todo
         → CodeFollows end base below q stack fs (push s todo)
     push_follows Empty end base below sc q stack fs todo ch h k = k
-    push_follows (Assign v (Typed x f)) end base below sc q stack fs todo ch h k = (q, sc, slides q stack, ch, h, k)
-    push_follows (Call f args) end base below sc q stack fs todo ch h k = (q, sc, slides q stack, ch, h, k)
     push_follows (Sequence ss) end base below sc q stack fs todo ch h k =
         push_all_follows ss end base below sc q stack fs todo ch h k
-    push_follows (If e a) end base below sc q stack fs todo ch h k = (q, sc, slides q stack, ch, h, k)
-    push_follows (IfElse e a b) end base below sc q stack fs todo ch h k = (q, sc, slides q stack, ch, h, k)
-    push_follows (While e s) end base below sc q stack fs todo ch h k = (q, sc, slides q stack, ch, h, k)
-    push_follows (Repeat s e) end base below sc q stack fs todo ch h k = (q, sc, slides q stack, ch, h, k)
-    push_follows (For x from down to s) end base below sc q stack fs todo ch h k = (q, sc, slides q stack, ch, h, k)
-    push_follows (Case e arms) end base below sc q stack fs todo ch h k = (q, sc, slides q stack, ch, h, k)
-    push_follows (Parallel ss) end base below sc q stack fs todo ch h k = (q, sc, slides q stack, ch, h, k)
-    push_follows (Forall x from to s) end base below sc q stack fs todo ch h k = (q, sc, slides q stack, ch, h, k)
-    push_follows (Assume e) end base below sc q stack fs todo ch h k = (q, sc, slides q stack, ch, h, k)
-    push_follows (ReadValue v) end base below sc q stack fs todo ch h k = (q, sc, slides q stack, ch, h, k)
-    push_follows ReadLine end base below sc q stack fs todo ch h k = (q, sc, slides q stack, ch, h, k)
-    push_follows (WriteValue e x) end base below sc q stack fs todo ch h k = (q, sc, slides q stack, ch, h, k)
-    push_follows (WriteText t x) end base below sc q stack fs todo ch h k = (q, sc, slides q stack, ch, h, k)
-    push_follows WriteLine end base below sc q stack fs todo ch h k = (q, sc, slides q stack, ch, h, k)
-    push_follows (Open v) end base below sc q stack fs todo ch h k = (q, sc, slides q stack, ch, h, k)
-    push_follows (Send c e) end base below sc q stack fs todo ch h k = (q, sc, slides q stack, ch, h, k)
-    push_follows (Receive c v) end base below sc q stack fs todo ch h k = (q, sc, slides q stack, ch, h, k)
+    push_follows s end base below sc q stack fs todo ch h k =
+        (q, slides q stack, record { scopes = sc; placed = ch; stands = h; rest = k })
 
     pub push_all_follows : (ss : Stmts) (end : ℕ) (base : List Entry) (below : List FramePair) (sc : List Scope) (q : ℕ)
         (stack : List Entry) (fs : List FramePair) (todo : List Item) → Pl sc fs (In_stmts ss)
@@ -130,26 +105,25 @@ module _ {M : Type 0} (ex : Execution M) where
       (fs : List FramePair) (todo : List Item) → CodeFollows end base below pc stack fs todo
       → is_in_no_function stack ≡ is_in_no_function base
   outside_follows end base below pc stack fs [] (_, stack_is, _) = ap is_in_no_function stack_is
-  outside_follows end base below pc stack fs (Do s ∷ todo) (at, _, _, _, _, rest) =
-      outside_follows end base below (after_statement p at s) stack fs todo rest
-  outside_follows end base below pc stack fs (First x lo hi d s ∷ todo) (at, _, under, _, stack_is, _, _, rest, _) =
-      ap is_in_no_function stack_is
-      ∙ outside_follows end base below (after_statement p (at + 1 + 1) s + 1) under fs todo rest
-  outside_follows end base below pc stack fs (Again x hi d s ∷ todo) (at, _, under, _, stack_is, _, _, rest) =
-      ap is_in_no_function stack_is
-      ∙ outside_follows end base below (after_statement p (at + 1 + 1) s + 1) under fs todo rest
-  outside_follows end base below pc stack fs (Test s e ∷ todo) (at, _, _, _, _, rest) =
-      outside_follows end base below (after_statement p at (Repeat s e)) stack fs todo rest
-  outside_follows end base below pc stack fs (Leave ∷ todo) (_, back, under, _, outer, _, stack_is, _, _, rest, _) =
-      ap is_in_no_function stack_is
-      ∙ outside_follows end base below back under outer todo rest
+  outside_follows end base below pc stack fs (Do s ∷ todo) (at, _, k) =
+      outside_follows end base below (after_statement p at s) stack fs todo k.rest
+  outside_follows end base below pc stack fs (First x lo hi d s ∷ todo) (at, _, k, _) =
+      ap is_in_no_function k.stack_is
+      ∙ outside_follows end base below (after_statement p (at + 1 + 1) s + 1) k.under fs todo k.rest
+  outside_follows end base below pc stack fs (Again x hi d s ∷ todo) (at, _, k) =
+      ap is_in_no_function k.stack_is
+      ∙ outside_follows end base below (after_statement p (at + 1 + 1) s + 1) k.under fs todo k.rest
+  outside_follows end base below pc stack fs (Test s e ∷ todo) (at, _, k) =
+      outside_follows end base below (after_statement p at (Repeat s e)) stack fs todo k.rest
+  outside_follows end base below pc stack fs (Leave ∷ todo) (_, _, k) =
+      ap is_in_no_function k.stack_is ∙ outside_follows end base below k.back k.under k.outer todo k.rest
   outside_follows end base below pc stack fs (Break f ∷ todo) h = absurd h
 
   abbrev pub PayloadIs : List FramePair → Channel → ℕ → Payload LocationContent Address → Stop → Type 0
   PayloadIs fs c k x z = following.PayloadIs ex fs c k x z
 
-  abbrev pub ForkIs : Bool → List FramePair → List Birth → Stop → Type 0
-  ForkIs free fs bs z = following.ForkIs ex free fs bs z
+  abbrev pub ForkStop : Bool → List FramePair → List Birth → Stop → Type 0
+  ForkStop free fs bs z = following.ForkStop ex free fs bs z
 
   abbrev pub Made : Config M → (List Item → List FramePair → ℕ → List Entry → Type 0) → WorkOutcome Action × Store
       → Type 0
@@ -163,81 +137,7 @@ module _ {M : Type 0} (ex : Execution M) where
   pub made_after : (c d : Config M) (Q : List Item → List FramePair → ℕ → List Entry → Type 0) (r : WorkOutcome Action
       × Store)
       → RunsTo ops code c d → Made d Q r → Made c Q r
-  made_after c d Q (Computed (Stepped todo) o, s) h (to, st, n1, frames, comes, stands, rest) =
-      (to, st, n1, frames, comes_on ops rel w code h comes, stands, rest)
-  made_after c d Q (Computed (Ticked todo) o, s) h (to, st, n1, frames, before, comes, pauses, stands, rest) =
-      (to, st, n1, frames, before, comes_on ops rel w code h comes, pauses, stands, rest)
-  made_after c d Q (Computed (Opened todo) o, s) h (
-    to,
-    st,
-    n1,
-    frames,
-    before,
-    place,
-    cell,
-    store,
-    comes,
-    stops,
-    stands,
-    points,
-    may,
-    store_is,
-    rest,
-    outside,
-    sort_is,
-  ) = (
-    to,
-    st,
-    n1,
-    frames,
-    before,
-    place,
-    cell,
-    store,
-    comes_on ops rel w code h comes,
-    stops,
-    stands,
-    points,
-    may,
-    store_is,
-    rest,
-    outside,
-    sort_is,
-  )
-  made_after c d Q (Computed (Forked bs todo) o, s) h (
-    to,
-    st,
-    n1,
-    frames,
-    before,
-    stop,
-    comes,
-    stops,
-    stands,
-    rest,
-    outside,
-    fork,
-    shallow,
-  ) =
-      (to, st, n1, frames, before, stop, comes_on ops rel w code h comes, stops, stands, rest, outside, fork, shallow)
-  made_after c d Q (Computed (Offered ch x g todo) o, s) h (
-    to,
-    st,
-    n1,
-    frames,
-    before,
-    stop,
-    comes,
-    stops,
-    stands,
-    payload,
-    rest,
-    outside,
-    owned,
-  ) =
-      (to, st, n1, frames, before, stop, comes_on ops rel w code h comes, stops, stands, payload, rest, outside, owned)
-  made_after c d Q (Computed Ended o, s) h (to, st, n1, frames, comes, stops, stands, rest, outside) =
-      (to, st, n1, frames, comes_on ops rel w code h comes, stops, stands, rest, outside)
+  made_after c d Q (Computed a o, s) h (last, comes, at) = (last, comes_on ops rel w code h comes, at)
   made_after c d Q (EndsInFault f, s) h k = breaks_after ops rel w code h k
   made_after c d Q (IllFormed, s) h k = k
   made_after c d Q (OutOfFuel, s) h k = k
@@ -279,7 +179,9 @@ module _ {M : Type 0} (ex : Execution M) where
       → Type 0}
       (todo : List Item) (fs : List FramePair) (pc : ℕ) (st : List Entry) (n : M) → RunsTo ops code c (At pc st n)
       → rel.Agrees fs o s n → Q todo fs pc st → Makes c o s Q (give (Stepped todo))
-  makes_went todo fs pc st n e t q = record { proof = (pc, st, n, fs, e, t, q) }
+  makes_went todo fs pc st n e t q = record {
+    proof = (At pc st n, e, record { frames = fs; stand = t; follows = q });
+  }
 
   pub makes_fail : {c : Config M} {o : LocalState} {s : Store} {Q : List Item → List FramePair → ℕ → List Entry
       → Type 0}
@@ -302,7 +204,19 @@ module _ {M : Type 0} (ex : Execution M) where
       go : (r : WorkOutcome (Unit {0}) × Store) (d : MemoryResult M) → Alike rel fs s r d
           → next_step ops code c ≡ then_go d (λ n1. pause_step ops code pc st n1)
           → Made c Q (then_run (λ u. give (Ticked todo)) w r)
-      go (Computed a o1, s1) (Done n1) al e = (pc, st, n1, fs, c, stays ops rel w code c, e, al, q)
+      go (Computed a o1, s1) (Done n1) al e = (
+        c,
+        stays ops rel w code c,
+        record {
+          pc = pc;
+          stack = st;
+          memory = n1;
+          frames = fs;
+          ticks = e;
+          stand = al;
+          follows = q;
+        },
+      )
       go (Computed a o1, s1) (Failed f) al e = absurd al
       go (EndsInFault f, s1) (Done n1) al e = absurd al
       go (EndsInFault f, s1) (Failed g1) (same_fault, same_store) e =

@@ -103,23 +103,23 @@ module _ {M : Type 0} (ex : Execution M) where
       by_action : (r : WorkOutcome Action × Store) → Made ex c (After ex end base below) r
           → RealizesResult ops rel w code below c end (BaseTop base) No_more
           (then_run (λ d. bind (items_after g d) go) w r)
-      by_action (Computed (Stepped todo) o1, s1) (to, st, n1, fs1, comes, stands, left) =
-          ends_after ops rel w code below c (m.At to st n1) end (BaseTop base) No_more (run (go todo) w o1 s1) comes
-          (ih.proof end base below ob todo to st fs1 o1 s1 n1 stands left).proof
-      by_action (Computed (Ticked todo) o1, s1) (to, st, n1, fs1, _, comes, pauses, stands, left) =
-          ends_after ops rel w code below c (m.At to st n1) end (BaseTop base) No_more (run (go todo) w o1 s1)
+      by_action (Computed (Stepped todo) o1, s1) (m.At pc st n1, comes, k) =
+          ends_after ops rel w code below c (m.At pc st n1) end (BaseTop base) No_more (run (go todo) w o1 s1) comes
+          (ih.proof end base below ob todo pc st k.frames o1 s1 n1 k.stand k.follows).proof
+      by_action (Computed (Ticked todo) o1, s1) (_, comes, k) =
+          ends_after ops rel w code below c (m.At k.pc k.stack k.memory) end (BaseTop base) No_more
+          (run (go todo) w o1 s1)
           (comes_on ops rel w code comes (goes ops rel w code
-          (pauses ∙ ap (λ b. if b then (if ops.due n1 then Stops m.Pauses (m.At to st n1) else
-          Goes (m.At to st n1)) else Goes (m.At to st n1))
-          (outside_follows ex end base below to st fs1 todo left ∙ ob))))
-          (ih.proof end base below ob todo to st fs1 o1 s1 n1 stands left).proof
-      by_action (Computed (Opened todo) o1, s1) (to, st, _, fs1, _, _, _, _, _, _, _, _, _, _, left, outside, _) =
-          absurd (no st to fs1 todo left outside)
-      by_action (Computed (Forked bs todo) o1, s1) (to, st, _, fs1, _, _, _, _, _, left, outside, _, _) =
-          absurd (no st to fs1 todo left outside)
-      by_action (Computed (Offered ch x cg todo) o1, s1) (to, st, _, fs1, _, _, _, _, _, _, left, outside, _) =
-          absurd (no st to fs1 todo left outside)
-      by_action (Computed Ended o1, s1) (to, st, _, fs1, _, _, _, left, outside) = absurd (no st to fs1 [] left outside)
+          (k.ticks ∙ ap (λ b. if b then (if ops.due k.memory then Stops m.Pauses (m.At k.pc k.stack k.memory) else
+          Goes (m.At k.pc k.stack k.memory)) else Goes (m.At k.pc k.stack k.memory))
+          (outside_follows ex end base below k.pc k.stack k.frames todo k.follows ∙ ob))))
+          (ih.proof end base below ob todo k.pc k.stack k.frames o1 s1 k.memory k.stand k.follows).proof
+      by_action (Computed (Opened todo) o1, s1) (_, _, k) = absurd (no k.stack k.pc k.frames todo k.follows k.outside)
+      by_action (Computed (Forked bs todo) o1, s1) (_, _, k) =
+          absurd (no k.stack k.pc k.frames todo k.follows k.outside)
+      by_action (Computed (Offered ch x payload todo) o1, s1) (_, _, k) =
+          absurd (no k.stack k.pc k.frames todo k.follows k.outside)
+      by_action (Computed Ended o1, s1) (m.At pc st _, _, k) = absurd (no st pc k.frames [] k.follows k.outside)
       by_action (EndsInFault f, s1) q = q
       by_action (IllFormed, s1) q = q
       by_action (OutOfFuel, s1) q = q

@@ -114,7 +114,11 @@ module _ {M : Type 0} (ex : Execution M) where
       makes_tick ex (push d (Again x limit down d ∷ todo)) fs (q + 1 + 1) (m.Number limit ∷ st) (ops.tick n2) (_, _, t2)
       (law.tick t2) (at_one ex (q + 1) (m.Number limit ∷ st) n2 ticks)
       (push_follows ex d end base below sc (q + 1 + 1) (m.Number limit ∷ st) fs (Again x limit down d ∷ todo)
-      (within (λ u. inr) pl) body (q, sc, st, slides ex _ _, refl, pl, h, fo)))))
+      (within (λ u. inr) pl) body (
+        q,
+        slides ex _ _,
+        record { scopes = sc; under = st; stack_is = refl; placed = pl; turns = h; rest = fo },
+      )))))
 
   pub first_one : (down : Bool) (q to x : ℕ) (stack : List Entry) (n : M) (lo hi : ℤ)
       → slice_get code.instrs q ≡ Some (if down then i.Fordown (slot p x) to else i.Forup (slot p x) to) → (u : Ptr)
@@ -159,7 +163,12 @@ module _ {M : Type 0} (ex : Execution M) where
           → K ex (m.At q (m.Number hi ∷ m.Number lo ∷ stack) n) o s (After ex end base below)
           (give (Stepped (if b then First x lo hi down d ∷ todo else todo)))
       go true e = makes_went ex (First x lo hi down d ∷ todo) fs q (m.Number hi ∷ m.Number lo ∷ stack) n
-          (stays ops rel w code _) t (q, sc, stack, slides ex _ _, refl, pl, h, k, e)
+          (stays ops rel w code _) t (
+            q,
+            slides ex _ _,
+            record { scopes = sc; under = stack; stack_is = refl; placed = pl; turns = h; rest = k },
+            e,
+          )
       go false e = makes_went ex todo fs (after_statement p (q + 1 + 1) d + 1) stack n
           (goes ops rel w code (step ∙ ap (λ b. if b then
           Goes (m.At (q + 1) (m.Number hi ∷ stack) (ops.put z.cell (cell.Ordinal lo) n)) else

@@ -181,37 +181,36 @@ module _ {M : Type 0} (ex : Execution M) (values : DoFunctionsTakeValues ex.run_
       (fs : List FramePair)
       (todo : List Item) → CodeFollows ex end base below pc stack fs todo → PureItems g.program todo
   follows_pure end base below pc stack fs [] h = tt
-  follows_pure end base below pc stack fs (Do s ∷ todo) (at, scopes, _, _, stands, rest) = (
+  follows_pure end base below pc stack fs (Do s ∷ todo) (at, _, k) = (
     stmt_pure g.program values moves shares (CodeAt code) (HasFork code) (HasWords code) callable s
-        (is_in_no_function stack) scopes
-        at stands,
-    follows_pure end base below (after_statement g.program at s) stack fs todo rest,
+        (is_in_no_function stack) k.scopes at k.stands,
+    follows_pure end base below (after_statement g.program at s) stack fs todo k.rest,
   )
-  follows_pure end base below pc stack fs (First x lo hi d s ∷ todo)
-      (at, scopes, under, _, _, _, (local, _, _, body, _), rest, _) = (
+  follows_pure end base below pc stack fs (First x lo hi d s ∷ todo) (at, _, k, _) =
+      let (local, _, _, body, _) = k.turns in (
         (
-          for_local g.program values moves shares (CodeAt code) (HasFork code) (HasWords code) callable scopes x local,
+          for_local g.program values moves shares (CodeAt code) (HasFork code) (HasWords code) callable k.scopes x
+              local,
           stmt_pure g.program values moves shares (CodeAt code) (HasFork code) (HasWords code) callable s
-              (is_in_no_function under) scopes
-              (at + 1 + 1) body,
+              (is_in_no_function k.under) k.scopes (at + 1 + 1) body,
         ),
-        follows_pure end base below (after_statement g.program (at + 1 + 1) s + 1) under fs todo rest,
+        follows_pure end base below (after_statement g.program (at + 1 + 1) s + 1) k.under fs todo k.rest,
       )
-  follows_pure end base below pc stack fs (Again x hi d s ∷ todo)
-      (at, scopes, under, _, _, _, (local, _, _, body, _), rest) = (
+  follows_pure end base below pc stack fs (Again x hi d s ∷ todo) (at, _, k) =
+      let (local, _, _, body, _) = k.turns in (
         (
-          for_local g.program values moves shares (CodeAt code) (HasFork code) (HasWords code) callable scopes x local,
+          for_local g.program values moves shares (CodeAt code) (HasFork code) (HasWords code) callable k.scopes x
+              local,
           stmt_pure g.program values moves shares (CodeAt code) (HasFork code) (HasWords code) callable s
-              (is_in_no_function under) scopes
-              (at + 1 + 1) body,
+              (is_in_no_function k.under) k.scopes (at + 1 + 1) body,
         ),
-        follows_pure end base below (after_statement g.program (at + 1 + 1) s + 1) under fs todo rest,
+        follows_pure end base below (after_statement g.program (at + 1 + 1) s + 1) k.under fs todo k.rest,
       )
-  follows_pure end base below pc stack fs (Test s e ∷ todo) (at, scopes, _, _, stands, rest) = (
+  follows_pure end base below pc stack fs (Test s e ∷ todo) (at, _, k) = (
     stmt_pure g.program values moves shares (CodeAt code) (HasFork code) (HasWords code) callable (Repeat s e)
-        (is_in_no_function stack) scopes at stands,
-    follows_pure end base below (after_statement g.program at (Repeat s e)) stack fs todo rest,
+        (is_in_no_function stack) k.scopes at k.stands,
+    follows_pure end base below (after_statement g.program at (Repeat s e)) stack fs todo k.rest,
   )
-  follows_pure end base below pc stack fs (Leave ∷ todo) (_, back, under, _, outer, _, _, _, _, rest, _) =
-      follows_pure end base below back under outer todo rest
+  follows_pure end base below pc stack fs (Leave ∷ todo) (_, _, k) =
+      follows_pure end base below k.back k.under k.outer todo k.rest
   follows_pure end base below pc stack fs (Break f ∷ todo) h = absurd h

@@ -53,19 +53,18 @@ module _ {M : Type 0} (ex : Execution M) where
   pub turn_finishes : (c : Config M) (end : ℕ) (base : List Entry) (below : List FramePair) (r : WorkOutcome source.Stop
       × Store)
       → Turned ex c end base below r → AtEnd r → Finishes ops code c
-  turn_finishes c end base below (Computed (source.Paused todo) o, s) (_, _, _, _, before, comes, pauses, _, _) h =
-      (before, comes, last_by _ _ pauses tt)
+  turn_finishes c end base below (Computed (source.Paused todo) o, s) (last, comes, k) h =
+      (last, comes, last_by _ _ k.stops tt)
   turn_finishes c end base below (Computed (source.Stops (Stepped todo)) o, s) q h = absurd h
   turn_finishes c end base below (Computed (source.Stops (Ticked todo)) o, s) q h = absurd h
-  turn_finishes c end base below (Computed (source.Stops (Opened todo)) o, s)
-      (_, _, _, _, before, _, _, _, comes, stops, _, _, _, _, _, _, _) h = (before, comes, last_by _ _ stops tt)
-  turn_finishes c end base below (Computed (source.Stops (Forked bs todo)) o, s)
-      (_, _, _, _, before, _, comes, stops, _, _, _, _, _) h = (before, comes, last_by _ _ stops tt)
-  turn_finishes c end base below (Computed (source.Stops (Offered ch k cg todo)) o, s)
-      (_, _, _, _, before, _, comes, stops, _, _, _, _, _) h =
-      (before, comes, last_by _ _ stops tt)
-  turn_finishes c end base below (Computed (source.Stops Ended) o, s) (to, st, n, _, comes, stops, _, _, _) h =
-      (At to st n, comes, last_by (At to st n) _ stops tt)
+  turn_finishes c end base below (Computed (source.Stops (Opened todo)) o, s) (last, comes, k) h =
+      (last, comes, last_by _ _ k.stops tt)
+  turn_finishes c end base below (Computed (source.Stops (Forked bs todo)) o, s) (last, comes, k) h =
+      (last, comes, last_by _ _ k.stops tt)
+  turn_finishes c end base below (Computed (source.Stops (Offered ch x payload todo)) o, s) (last, comes, k) h =
+      (last, comes, last_by _ _ k.stops tt)
+  turn_finishes c end base below (Computed (source.Stops Ended) o, s) (At pc st n, comes, k) h =
+      (At pc st n, comes, last_by (At pc st n) _ k.stops tt)
   turn_finishes c end base below (EndsInFault f, s) q h = (q.configuration, q.comes, last_by _ _ q.fails tt)
   turn_finishes c end base below (IllFormed, s) q h = absurd h
   turn_finishes c end base below (OutOfFuel, s) q h = absurd h

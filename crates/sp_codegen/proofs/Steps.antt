@@ -41,7 +41,7 @@ use Rattle.sp_codegen.specs.Relation.{StackHolds, OneCell}
 use Rattle.sp_codegen.proofs.Runs.{stays, goes, comes_on, gives_fail, holds_when}
 use Rattle.sp_codegen.proofs.Values.{at_console, value_gives, form_gives, address_gives, ordinal_gives, actuals_gives}
 use Rattle.sp_codegen.proofs.Follows.{slides, jumps, slide_follows, push_follows, push_all_follows, cells_in, PayloadIs}
-use Rattle.sp_codegen.proofs.Follows.{ForkIs, makes_after, makes_bind, makes_known, makes_by, makes_went, makes_fail}
+use Rattle.sp_codegen.proofs.Follows.{ForkStop, makes_after, makes_bind, makes_known, makes_by, makes_went, makes_fail}
 use Rattle.sp_codegen.proofs.Follows.{makes_tick}
 use Rattle.sp_codegen.proofs.StepForms.{C, G, K, After, S, Pl, Oks, went_if, branch, mine_known}
 use Rattle.sp_codegen.proofs.AssignSteps.{assign_makes}
@@ -131,7 +131,7 @@ module _ {M : Type 0} (ex : Execution M) where
       → rel.Agrees fs o s n → StandsFor rel c s
       → next_step ops code c ≡ m.fork_step ops code table first count q stack n
       → Q todo fs q stack → is_in_no_function stack ≡ true
-      → ForkIs ex (is_in_no_function stack) fs bs (Forks table first count)
+      → ForkStop ex (is_in_no_function stack) fs bs (Forks table first count)
       → K ex c o s Q (fork g bs todo)
   fork_makes Q fs q table first count stack bs todo c o s n t f ge k fr fi =
       makes_known ex (λ y. if nat_lt y.depth g.limits.depth then give (Forked bs todo) else fail fault.F11) o
@@ -145,19 +145,21 @@ module _ {M : Type 0} (ex : Execution M) where
           → K ex c o s Q (if b then give (Forked bs todo) else fail fault.F11)
       go true room e = record {
         proof = (
-          q,
-          stack,
-          n,
-          fs,
           c,
-          Forks table first count,
           stays ops rel w code c,
-          e,
-          t,
-          k,
-          fr,
-          fi,
-          room,
+          record {
+            pc = q;
+            stack = stack;
+            memory = n;
+            frames = fs;
+            stop = Forks table first count;
+            stops = e;
+            stand = t;
+            follows = k;
+            outside = fr;
+            forks = fi;
+            may_nest = room;
+          },
         );
       }
       go false room e = makes_fail ex fault.F11 f e
@@ -186,7 +188,7 @@ module _ {M : Type 0} (ex : Execution M) where
       (lo hi : ℤ) (stack : List Entry) (todo : List Item) (o : LocalState) (s : Store) (n : M) → rel.Agrees fs o s n
       → slice_get code.instrs q ≡ Some (i.Forall tb) → Q todo fs (q + 1) stack → is_in_no_function stack ≡ true
       → (int_lt hi lo ≡ false
-      → ForkIs ex (is_in_no_function stack) fs (indexed_children x d lo (nat_abs ((hi -ℤ lo) +ℤ pos 1)))
+      → ForkStop ex (is_in_no_function stack) fs (indexed_children x d lo (nat_abs ((hi -ℤ lo) +ℤ pos 1)))
       (Forks tb lo (values_in lo hi)))
       → K ex (m.At q (m.Number hi ∷ m.Number lo ∷ stack) n) o s Q
       (if int_lt hi lo then give (Stepped todo) else
@@ -342,13 +344,13 @@ module _ {M : Type 0} (ex : Execution M) where
       (makes_tick ex (push d (Do (While e d) ∷ todo)) fs (after_value q e + 1 + 1) stack (ops.tick n1) (_, _, t1)
       (law.tick t1) (at_one ex (after_value q e + 1) stack n1 ticks)
       (push_follows ex d end base below sc _ stack fs (Do (While e d) ∷ todo) (within (λ u. inr) pl) body
-      (q, sc, jumps ex _ q stack again, pl, h, k))))
+      (q, jumps ex _ q stack again, record { scopes = sc; placed = pl; stands = h; rest = k }))))
   start_makes call ok bl end base below (Repeat d e) sc q stack todo fs o s n t pl h k =
       let (ticks, body, _, _) = h in
       makes_tick ex (push d (Test d e ∷ todo)) fs (q + 1) stack (ops.tick n) (_, _, t) (law.tick t)
       (at_one ex q stack n ticks)
       (push_follows ex d end base below sc (q + 1) stack fs (Test d e ∷ todo) (within (λ u. inr) pl) body
-      (q, sc, slides ex _ _, pl, h, k))
+      (q, slides ex _ _, record { scopes = sc; placed = pl; stands = h; rest = k }))
   start_makes call ok bl end base below (For x pairs_from down to d) sc q stack todo fs o s n t pl
       (first, last, turns) k =
       makes_bind ex _ (ordinal_gives ex call ok pairs_from sc q stack fs o s n t (within (λ u i. inr (inl i)) pl) first)
@@ -376,7 +378,17 @@ module _ {M : Type 0} (ex : Execution M) where
       ∙ ap (λ y. on_some y (λ table. m.fork_step ops code number (pos 0) (length table.children) (q + 1) stack n))
       table_is)
       (slide_follows ex end base below (q + 1) _ stack fs todo (jumps ex (q + 1) _ stack jump) k) outside
-      (inl (ss, number, q + 1 + 1, sc, refl, table_is, refl, bodies, pl))
+      (inl (record {
+        statements = ss;
+        table = number;
+        start = q + 1 + 1;
+        scopes = sc;
+        stop_is = refl;
+        table_is = table_is;
+        births_are = refl;
+        children_stand = bodies;
+        placed = pl;
+      }))
   start_makes call ok bl end base below (Forall x pairs_from to d) sc q stack todo fs o s n t pl
       (number, table_is, first, last, fork, jump, body, ends, outside) k =
       makes_bind ex _ (ordinal_gives ex call ok pairs_from sc q stack fs o s n t (within (λ u i. inr (inl i)) pl) first)
@@ -387,24 +399,24 @@ module _ {M : Type 0} (ex : Execution M) where
       (after_value (after_value q pairs_from) to) number x d lo hi stack todo o2 s2 n2 t2
       fork
       (slide_follows ex end base below _ _ stack fs todo (jumps ex _ _ stack jump) k) outside
-      (λ b. inr (
-        x,
-        pairs_from,
-        to,
-        d,
-        lo,
-        hi,
-        number,
-        after_value (after_value q pairs_from) to + 1 + 1,
-        sc,
-        refl,
-        table_is,
-        refl,
-        b,
-        body,
-        ends,
-        pl,
-      ))))
+      (λ b. inr (record {
+        index = x;
+        from = pairs_from;
+        to = to;
+        body = d;
+        low = lo;
+        high = hi;
+        table = number;
+        start = after_value (after_value q pairs_from) to + 1 + 1;
+        scopes = sc;
+        stop_is = refl;
+        table_is = table_is;
+        births_are = refl;
+        not_empty = b;
+        body_stands = body;
+        ends = ends;
+        placed = pl;
+      }))))
   start_makes call ok bl end base below (Assume e) sc q stack todo fs o s n t pl (value, instr) k =
       makes_bind ex _ (ordinal_gives ex call ok e sc q stack fs o s n t pl value) (λ v u o1 s1 n1 t1 x1.
       assume_makes (After ex end base below) fs v (after_value q e) stack todo o1 s1 n1 t1 instr k)
@@ -425,14 +437,10 @@ module _ {M : Type 0} (ex : Execution M) where
       makes_known ex (λ bs. bind (advance g (line_length bs)) (λ u. give (Stepped todo))) bs (left_known ex)
       (record {
         proof = (
-          q + 1,
-          stack,
-          ops.advance (line_length bs) n,
-          fs,
+          m.At (q + 1) stack (ops.advance (line_length bs) n),
           goes ops rel w code (at_one ex q stack n h
               ∙ ap (λ z. on_some z (λ bs. Goes (m.At (q + 1) stack (ops.advance (line_length bs) n)))) (law.left t ri)),
-          law.advance t ri (line_length bs),
-          k,
+          record { frames = fs; stand = law.advance t ri (line_length bs); follows = k },
         );
       })
   start_makes call ok bl end base below (WriteValue (Typed x form) wd) sc q stack todo fs o s n t pl
@@ -459,24 +467,26 @@ module _ {M : Type 0} (ex : Execution M) where
       target) (λ a u o1 s1 n1 t1 x1.
       record {
         proof = (
-          after_var q v + 1,
-          stack,
-          ops.make_own u n1,
-          fs,
           m.At (after_var q v) (m.Pointer u ∷ stack) n1,
-          a,
-          u,
-          s1,
           stays ops rel w code _,
-          at_one ex (after_var q v) _ n1 instr
-              ∙ holds_when (ops.has u 1 n1) _ (law.has_one t1 a u x1.1 x1.2),
-          law.make_own t1 a u x1.1 x1.2,
-          x1.1,
-          x1.2,
-          refl,
-          k,
-          outside,
-          ap (λ y. sort p y) x1.0 ∙ sort_is,
+          record {
+            pc = after_var q v + 1;
+            stack = stack;
+            memory = ops.make_own u n1;
+            frames = fs;
+            variable = a;
+            target = u;
+            store = s1;
+            stops = at_one ex (after_var q v) _ n1 instr
+                ∙ holds_when (ops.has u 1 n1) _ (law.has_one t1 a u x1.1 x1.2);
+            stand = law.make_own t1 a u x1.1 x1.2;
+            points = x1.1;
+            readable = x1.2;
+            store_is = refl;
+            follows = k;
+            outside = outside;
+            sort_is = ap (λ y. sort p y) x1.0 ∙ sort_is;
+          },
         );
       })
   start_makes call ok bl end base below (Send c (Typed x form)) sc q stack todo fs o s n t pl
@@ -491,19 +501,21 @@ module _ {M : Type 0} (ex : Execution M) where
       (within (λ u i. inr (inl i)) pl) sent) (λ v2 e2 o2 s2 n2 t2 x2.
       record {
         proof = (
-          after_form (after_value q c) form + 1,
-          stack,
-          n2,
-          fs,
           m.At (after_form (after_value q c) form) (e2 ∷ m.Chan j ∷ stack) n2,
-          Sends j x (cells_in e2),
           stays ops rel w code _,
-          send_one (after_form (after_value q c) form) x (sort p x) v2 e2 j stack n2 x2 instr,
-          t2,
-          (j, e2, refl, nm, x2),
-          k,
-          outside,
-          tt,
+          record {
+            pc = after_form (after_value q c) form + 1;
+            stack = stack;
+            memory = n2;
+            frames = fs;
+            stop = Sends j x (cells_in e2);
+            stops = send_one (after_form (after_value q c) form) x (sort p x) v2 e2 j stack n2 x2 instr;
+            stand = t2;
+            carries = (j, e2, refl, nm, x2);
+            follows = k;
+            outside = outside;
+            owned = tt;
+          },
         );
       })))
   start_makes call ok bl end base below (Receive c v) sc q stack todo fs o s n t pl
@@ -519,19 +531,21 @@ module _ {M : Type 0} (ex : Execution M) where
       (within (λ u i. inr (inl i)) pl) place target) (λ a u o2 s2 n2 t2 x2.
       record {
         proof = (
-          after_var (after_value q c) v + 1,
-          stack,
-          ops.make_own u n2,
-          fs,
           m.At (after_var (after_value q c) v) (m.Pointer u ∷ m.Chan j ∷ stack) n2,
-          Receives j x u,
           stays ops rel w code _,
-          at_one ex (after_var (after_value q c) v) _ n2 instr
-              ∙ holds_when (ops.has u 0 n2) _ (law.has_none t2 a u x2.1 x2.2),
-          law.make_own t2 a u x2.1 x2.2,
-          receive_is fs ch1 x a u j x2.0 nm x2.1 x2.2,
-          k,
-          outside,
-          (n2, refl),
+          record {
+            pc = after_var (after_value q c) v + 1;
+            stack = stack;
+            memory = ops.make_own u n2;
+            frames = fs;
+            stop = Receives j x u;
+            stops = at_one ex (after_var (after_value q c) v) _ n2 instr
+                ∙ holds_when (ops.has u 0 n2) _ (law.has_none t2 a u x2.1 x2.2);
+            stand = law.make_own t2 a u x2.1 x2.2;
+            carries = receive_is fs ch1 x a u j x2.0 nm x2.1 x2.2;
+            follows = k;
+            outside = outside;
+            owned = (n2, refl);
+          },
         );
       })))

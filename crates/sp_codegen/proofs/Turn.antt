@@ -38,9 +38,8 @@ module _ {M : Type 0} (ex : Execution M) where
   turned_after : (c d : Config M) (end : ℕ) (base : List Entry) (below : List FramePair) (r : WorkOutcome source.Stop
       × Store)
       → C ex c d → Turned d end base below r → Turned c end base below r
-  turned_after c d end base below (Computed (source.Paused todo) o, s) h
-      (to, st, n1, frames, before, comes, pauses, stands, rest) =
-      (to, st, n1, frames, before, comes_on ops rel w code h comes, pauses, stands, rest)
+  turned_after c d end base below (Computed (source.Paused todo) o, s) h (last, comes, k) =
+      (last, comes_on ops rel w code h comes, k)
   turned_after c d end base below (Computed (source.Stops e) o, s) h k =
       made_after ex c d (After ex end base below) (Computed e o, s) h k
   turned_after c d end base below (EndsInFault f, s) h k = breaks_after ops rel w code h k
@@ -76,16 +75,17 @@ module _ {M : Type 0} (ex : Execution M) where
           → (b : Bool) → b ≡ ops.due n1 → Turned c end base below
           (run (if b then give (source.Paused todo) else source.turn g due k todo) w o1 s1)
       by_due todo o1 s1 pc1 st1 n1 fs1 d cd ge t1 h1 ih true eb = (
-        pc1,
-        st1,
-        n1,
-        fs1,
         d,
         cd,
-        ge ∙ ap
-            (λ b. if b then Stops m.Pauses (m.At pc1 st1 n1) else Goes (m.At pc1 st1 n1)) (sym eb),
-        t1,
-        h1,
+        record {
+          pc = pc1;
+          stack = st1;
+          memory = n1;
+          frames = fs1;
+          stops = ge ∙ ap (λ b. if b then Stops m.Pauses (m.At pc1 st1 n1) else Goes (m.At pc1 st1 n1)) (sym eb);
+          stand = t1;
+          follows = h1;
+        },
       )
       by_due todo o1 s1 pc1 st1 n1 fs1 d cd ge t1 h1 ih false eb =
           turned_after c (m.At pc1 st1 n1) end base below (run (source.turn g due k todo) w o1 s1)
@@ -97,15 +97,15 @@ module _ {M : Type 0} (ex : Execution M) where
           → rel.Agrees fs o s n → F ex end base below pc st fs todo
           → Turned (m.At pc st n) end base below (run (source.turn g due k todo) w o s))
           → Turned c end base below (then_run (source.rest_of_turn g due (source.turn g due k)) w r)
-      go (Computed (Stepped todo) o1, s1) (to, st1, n1, fs1, comes, stands, left) ih =
+      go (Computed (Stepped todo) o1, s1) (m.At to st1 n1, comes, q) ih =
           turned_after c (m.At to st1 n1) end base below
-          (run (source.turn g due k todo) w o1 s1) comes (ih todo to st1 fs1 o1 s1 n1 stands left)
-      go (Computed (Ticked todo) o1, s1) (to, st1, n1, fs1, before, comes, pauses, stands, left) ih =
-          by_due todo o1 s1 to st1 n1 fs1 before comes
-          (pauses ∙ ap (λ b. if b then (if ops.due n1 then Stops m.Pauses (m.At to st1 n1) else
-          Goes (m.At to st1 n1)) else Goes (m.At to st1 n1))
-          (outside_follows ex end base below to st1 fs1 todo left ∙ ob)) stands left
-          (ih todo to st1 fs1 o1 s1 n1 stands left) (due o1) (law.due_same stands)
+          (run (source.turn g due k todo) w o1 s1) comes (ih todo to st1 q.frames o1 s1 n1 q.stand q.follows)
+      go (Computed (Ticked todo) o1, s1) (last, comes, q) ih =
+          by_due todo o1 s1 q.pc q.stack q.memory q.frames last comes
+          (q.ticks ∙ ap (λ b. if b then (if ops.due q.memory then Stops m.Pauses (m.At q.pc q.stack q.memory) else
+          Goes (m.At q.pc q.stack q.memory)) else Goes (m.At q.pc q.stack q.memory))
+          (outside_follows ex end base below q.pc q.stack q.frames todo q.follows ∙ ob)) q.stand q.follows
+          (ih todo q.pc q.stack q.frames o1 s1 q.memory q.stand q.follows) (due o1) (law.due_same q.stand)
       go (Computed (Opened todo) o1, s1) q ih = q
       go (Computed (Forked bs todo) o1, s1) q ih = q
       go (Computed (Offered ch x cg todo) o1, s1) q ih = q

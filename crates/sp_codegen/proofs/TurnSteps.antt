@@ -159,10 +159,10 @@ module _ {M : Type 0} (ex : Execution M) where
       settled end base below fs o s n pc stack (Leave ∷ todo) refl h tt
   settle_follows end base below fs o s n t pc stack (Break f ∷ todo) h =
       settled end base below fs o s n pc stack (Break f ∷ todo) refl h tt
-  settle_follows end base below fs o s n t pc stack (Again x hi down d ∷ todo)
-      (at, sc, under, slide, stack_is, placed, (local, test, tick, body, next), rest) =
+  settle_follows end base below fs o s n t pc stack (Again x hi down d ∷ todo) (at, slide, loop) =
       go (held z) refl (ops.read z.cell n) (law.load t z.address z.cell z.points z.may
-      (subst OneCell (sym z.sorted) tt)) at_end (settle_follows end base below fs o s n t (j + 1) under todo rest)
+      (subst OneCell (sym z.sorted) tt)) at_end
+      (settle_follows end base below fs o s n t (j + 1) loop.under todo loop.rest)
     where
       q : ℕ
       q = at
@@ -171,13 +171,13 @@ module _ {M : Type 0} (ex : Execution M) where
       j = after_statement p (at + 1 + 1) d
 
       z : FP fs x n o s
-      z = for_place ex sc x t placed (inl refl) local
+      z = let (local, _, _, _, _) = loop.turns in for_place ex loop.scopes x t loop.placed (inl refl) local
 
-      at_end : next_step ops code (m.At j (m.Number hi ∷ under) n)
+      at_end : next_step ops code (m.At j (m.Number hi ∷ loop.under) n)
           ≡ ordinal_in (ops.read z.cell n) (λ v. if is_before down v hi then
-          Goes (m.At (q + 1) (m.Number hi ∷ under) (ops.put z.cell (cell.Ordinal (next_value down v)) n)) else
-          Goes (m.At (j + 1) under n))
-      at_end = next_one down j (q + 1) x under n hi next z.cell z.cell_at
+          Goes (m.At (q + 1) (m.Number hi ∷ loop.under) (ops.put z.cell (cell.Ordinal (next_value down v)) n)) else
+          Goes (m.At (j + 1) loop.under n))
+      at_end = let (_, _, _, _, next) = loop.turns in next_one down j (q + 1) x loop.under n hi next z.cell z.cell_at
           (law.has_one t z.address z.cell z.points z.may)
 
       peeked : HasKnownValue ops rel w code o s (peek g x) (held z)
@@ -193,13 +193,13 @@ module _ {M : Type 0} (ex : Execution M) where
         place = pc;
         st = stack;
         comes = stays ops rel w code _;
-        follows = (at, sc, under, slide, stack_is, placed, (local, test, tick, body, next), rest);
+        follows = (at, slide, loop);
         ready = (z, e);
       }
 
-      off : goes_on down hi (held z) ≡ false → next_step ops code (m.At j (m.Number hi ∷ under) n)
-          ≡ Goes (m.At (j + 1) under n)
-          → Settled end base below fs o s n (j + 1) under todo
+      off : goes_on down hi (held z) ≡ false → next_step ops code (m.At j (m.Number hi ∷ loop.under) n)
+          ≡ Goes (m.At (j + 1) loop.under n)
+          → Settled end base below fs o s n (j + 1) loop.under todo
           → Settled end base below fs o s n pc stack (Again x hi down d ∷ todo)
       off e ge k = record {
         left = k.left;
@@ -212,28 +212,28 @@ module _ {M : Type 0} (ex : Execution M) where
         place = k.place;
         st = k.st;
         comes = comes_on ops rel w code (slide.proof n)
-            (comes_on ops rel w code (goes ops rel w code (ap (λ y. next_step ops code (m.At j y n)) stack_is ∙ ge))
-            k.comes);
+            (comes_on ops rel w code (goes ops rel w code
+            (ap (λ y. next_step ops code (m.At j y n)) loop.stack_is ∙ ge)) k.comes);
         follows = k.follows;
         ready = k.ready;
       }
 
       by_test : (a : ℤ) → held z ≡ Ordinal a
-          → next_step ops code (m.At j (m.Number hi ∷ under) n)
+          → next_step ops code (m.At j (m.Number hi ∷ loop.under) n)
           ≡ (if is_before down a hi then Goes
-          (m.At (q + 1) (m.Number hi ∷ under) (ops.put z.cell (cell.Ordinal (next_value down a)) n)) else
-          Goes (m.At (j + 1) under n)) → Settled end base below fs o s n (j + 1) under todo → (b : Bool)
+          (m.At (q + 1) (m.Number hi ∷ loop.under) (ops.put z.cell (cell.Ordinal (next_value down a)) n)) else
+          Goes (m.At (j + 1) loop.under n)) → Settled end base below fs o s n (j + 1) loop.under todo → (b : Bool)
           → is_before down a hi ≡ b → Settled end base below fs o s n pc stack (Again x hi down d ∷ todo)
       by_test a e ge k true eb = on (ap (goes_on down hi) e ∙ eb)
       by_test a e ge k false eb = off (ap (goes_on down hi) e ∙ eb)
-          (ge ∙ ap (λ b. if b then Goes (m.At (q + 1) (m.Number hi ∷ under)
-          (ops.put z.cell (cell.Ordinal (next_value down a)) n)) else Goes (m.At (j + 1) under n)) eb) k
+          (ge ∙ ap (λ b. if b then Goes (m.At (q + 1) (m.Number hi ∷ loop.under)
+          (ops.put z.cell (cell.Ordinal (next_value down a)) n)) else Goes (m.At (j + 1) loop.under n)) eb) k
 
       go : (v : Value) → held z ≡ v → (c : Cell) → CellIs rel.Named (held z) c
-          → next_step ops code (m.At j (m.Number hi ∷ under) n)
+          → next_step ops code (m.At j (m.Number hi ∷ loop.under) n)
           ≡ ordinal_in c (λ v. if is_before down v hi then
-          Goes (m.At (q + 1) (m.Number hi ∷ under) (ops.put z.cell (cell.Ordinal (next_value down v)) n)) else
-          Goes (m.At (j + 1) under n)) → Settled end base below fs o s n (j + 1) under todo
+          Goes (m.At (q + 1) (m.Number hi ∷ loop.under) (ops.put z.cell (cell.Ordinal (next_value down v)) n)) else
+          Goes (m.At (j + 1) loop.under n)) → Settled end base below fs o s n (j + 1) loop.under todo
           → Settled end base below fs o s n pc stack (Again x hi down d ∷ todo)
       go Undefined e c oi ge k = on (ap (goes_on down hi) e)
       go (Chan y) e c oi ge k = on (ap (goes_on down hi) e)
@@ -241,8 +241,8 @@ module _ {M : Type 0} (ex : Execution M) where
       go (Ordinal a) e c oi ge k = by_test a e
           (ge ∙ cell_is a c (subst (λ y. CellIs rel.Named y c) e oi)
           (λ v. if is_before down v hi then Goes
-          (m.At (q + 1) (m.Number hi ∷ under) (ops.put z.cell (cell.Ordinal (next_value down v)) n)) else
-          Goes (m.At (j + 1) under n))) k (is_before down a hi) refl
+          (m.At (q + 1) (m.Number hi ∷ loop.under) (ops.put z.cell (cell.Ordinal (next_value down v)) n)) else
+          Goes (m.At (j + 1) loop.under n))) k (is_before down a hi) refl
 
   -- the next value of a for loop
   again_makes : (end : ℕ) (base : List Entry) (below : List FramePair) (x : ℕ) (hi : ℤ) (down : Bool) (d : Stmt)
@@ -311,52 +311,49 @@ module _ {M : Type 0} (ex : Execution M) where
       → F end base below pc stack fs (item ∷ todo) → LoopMayGoOn fs o s n (item ∷ todo)
       → Ka end base below (m.At pc stack n) o s (item_action g call item todo)
   act_makes call ok bl end base below (Do d) pc stack todo fs o s n t h r =
-      let (at, sc, slide, placed, stands, rest) = h in
+      let (at, slide, k) = h in
       makes_after ex (slide.proof n)
-      (start_makes ex call ok bl end base below d sc at stack todo fs o s n t placed stands rest)
+      (start_makes ex call ok bl end base below d k.scopes at stack todo fs o s n t k.placed k.stands k.rest)
   act_makes call ok bl end base below (First x lo hi down d) pc stack todo fs o s n t h r =
-      let (at, sc, under, slide, stack_is, placed, turns, rest, in_range) = h in
-      let (local, test, _, _, _) = turns in
-      let z = for_place ex sc x t placed (inl refl) local in
+      let (at, slide, k, in_range) = h in
+      let (local, test, _, _, _) = k.turns in
+      let z = for_place ex k.scopes x t k.placed (inl refl) local in
       makes_after ex (slide.proof n) (subst (λ y. Ka end base below (m.At at y n) o s (turn_of g x lo hi down d todo))
-      (sym stack_is)
-      (turn_makes ex end base below x lo hi down d sc at under todo fs (m.At at (m.Number hi ∷ m.Number lo ∷ under) n) o
-      s n t placed turns rest z
-      (first_one ex down at (after_statement p (at + 1 + 1) d + 1) x under n lo hi test z.cell z.cell_at
+      (sym k.stack_is)
+      (turn_makes ex end base below x lo hi down d k.scopes at k.under todo fs
+      (m.At at (m.Number hi ∷ m.Number lo ∷ k.under) n) o s n t k.placed k.turns k.rest z
+      (first_one ex down at (after_statement p (at + 1 + 1) d + 1) x k.under n lo hi test z.cell z.cell_at
       (law.has_one t z.address z.cell z.points z.may)
-      ∙ ap (λ b. if b then Goes (m.At (at + 1) (m.Number hi ∷ under) (ops.put z.cell (cell.Ordinal lo) n)) else
-      Goes (m.At (after_statement p (at + 1 + 1) d + 1) under n)) in_range)))
+      ∙ ap (λ b. if b then Goes (m.At (at + 1) (m.Number hi ∷ k.under) (ops.put z.cell (cell.Ordinal lo) n)) else
+      Goes (m.At (after_statement p (at + 1 + 1) d + 1) k.under n)) in_range)))
   act_makes call ok bl end base below (Again x hi down d) pc stack todo fs o s n t h (place, goes_on_so) =
-      let (at, scopes, under, slide, stack_is, placed, turns, rest) = h in
+      let (at, slide, k) = h in
       makes_after ex (slide.proof n) (subst (λ y. Ka end base below (m.At (after_statement p (at + 1 + 1) d) y n) o s
-      (item_action g call (Again x hi down d) todo)) (sym stack_is)
-      (again_makes end base below x hi down d scopes at under todo fs o s n t placed turns rest place goes_on_so))
+      (item_action g call (Again x hi down d) todo)) (sym k.stack_is)
+      (again_makes end base below x hi down d k.scopes at k.under todo fs o s n t k.placed k.turns k.rest place
+      goes_on_so))
   act_makes call ok bl end base below (Test d e) pc stack todo fs o s n t h r =
-      let (at, sc, slide, placed, stands, rest) = h in
-      let (_, _, value, jump) = stands in
+      let (at, slide, k) = h in
+      let (_, _, value, jump) = k.stands in
       makes_after ex (slide.proof n)
-      (makes_bind ex _ (ordinal_gives ex call ok e sc (after_statement p (at + 1) d) stack fs o s n t
-      (within (λ u. inl) placed) value) (λ v u o1 s1 n1 t1 x1.
+      (makes_bind ex _ (ordinal_gives ex call ok e k.scopes (after_statement p (at + 1) d) stack fs o s n t
+      (within (λ u. inl) k.placed) value) (λ v u o1 s1 n1 t1 x1.
       makes_by ex (went_if ex (int_le v (pos 0)) (Do (Repeat d e) ∷ todo) todo)
       (branch ex (After ex end base below) v (after_value (after_statement p (at + 1) d) e) at stack o1 s1 n1 _
       _ jump
       (makes_went ex (Do (Repeat d e) ∷ todo) fs _ stack n1 (stays ops rel w code _) t1
-      (at, sc, slides ex _ _, placed, stands, rest))
-      (makes_went ex todo fs _ stack n1 (stays ops rel w code _) t1 rest))))
+      (at, slides ex _ _, k))
+      (makes_went ex todo fs _ stack n1 (stays ops rel w code _) t1 k.rest))))
   act_makes call ok bl end base below Leave pc stack todo fs o s n t h r =
-      let (at, back, under, _, outer, slide, stack_is, returns, frames_are, rest, mine) = h in
-      let c = law.close_frame (subst (λ y. rel.Agrees y o s n) frames_are t) mine in
+      let (at, slide, k) = h in
+      let c = law.close_frame (subst (λ y. rel.Agrees y o s n) k.frames_are t) k.mine in
       record {
         proof = (
-          back,
-          under,
-          ops.close_frame n,
-          outer,
+          m.At k.back k.under (ops.close_frame n),
           comes_on ops rel w code (slide.proof n)
-              (goes ops rel w code (at_one ex at stack n returns ∙ ap (λ y. m.return_step ops code y n) stack_is
+              (goes ops rel w code (at_one ex at stack n k.returns ∙ ap (λ y. m.return_step ops code y n) k.stack_is
               ∙ holds_when (ops.may_close n) _ c.0)),
-          c.1,
-          rest,
+          record { frames = k.outer; stand = c.1; follows = k.rest },
         );
       }
   act_makes call ok bl end base below (Break f) pc stack todo fs o s n t h r = absurd h
@@ -370,15 +367,15 @@ module _ {M : Type 0} (ex : Execution M) where
   action_makes go ok bl end base below e ob [] pc stack fs o s n t (slide, stack_is, frames_are) r =
       record {
         proof = (
-          end,
-          stack,
-          n,
-          fs,
+          m.At end stack n,
           slide.proof n,
-          at_one ex end stack n e,
-          t,
-          (slides ex end stack, stack_is, frames_are),
-          ap is_in_no_function stack_is ∙ ob,
+          record {
+            frames = fs;
+            stops = at_one ex end stack n e;
+            stand = t;
+            follows = (slides ex end stack, stack_is, frames_are);
+            outside = ap is_in_no_function stack_is ∙ ob;
+          },
         );
       }
   action_makes go ok bl end base below e ob (item ∷ todo) pc stack fs o s n t h r =

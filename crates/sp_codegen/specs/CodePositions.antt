@@ -2,7 +2,7 @@
 -- Where a process stands in its code: the code from its place on is that of what it has left to do; and how a turn of
 -- it ends as the meaning's turn does. The laws of turns promise it, for any execution.
 use Rattle.std.specs.Prelude.{◌≡◌, ◌⊎◌, ℕ, ◌+◌, ℤ, pos, ◌+ℤ◌, ◌-ℤ◌, nat_abs, int_lt, nat_lt, List, [], ◌∷◌, Some, Bool}
-use Rattle.std.specs.Prelude.{true, false, slice_get, length}
+use Rattle.std.specs.Prelude.{true, false, slice_get, length, ◌++◌}
 use Rattle.sp_base.specs.declared.fault.Fault.{Fault}
 use Rattle.sp_tree.specs.Plain.{Expr, Program, Stmt, Repeat, Parallel, Forall, Stmts}
 use Rattle.sp_tree.specs.Uses.{Use, In_stmt, In_loop}
@@ -96,32 +96,55 @@ module _ {M : Type 0} (ex : Execution M) where
       free sc
       (q + 1 + 1) s)
 
+  -- the code of one item stands at q. Rest says that the code of the items after it stands at a place
+  module _ (Rest : ℕ → List Entry → List FramePair → Type 0) where
+    -- a statement
+    pub record StatementFollows (s : Stmt) (q : ℕ) (stack : List Entry) (fs : List FramePair) : Type 0 where
+      pub scopes : List Scope
+      pub placed : Pl scopes fs (In_stmt s)
+      pub stands : StatementAt p moves shares (CodeAt code) (HasFork code) (HasWords code) callable
+          (is_in_no_function stack) scopes q s
+      pub rest : Rest (after_statement p q s) stack fs
+
+    -- a for loop whose limits are on the stack, or, with the later of them there, at the end of a turn
+    pub record LoopFollows (x : ℕ) (down : Bool) (s : Stmt) (limits : List Entry) (q : ℕ) (stack : List Entry)
+        (fs : List FramePair) : Type 0 where
+      pub scopes : List Scope
+      pub under : List Entry
+      pub stack_is : stack ≡ limits ++ under
+      pub placed : Pl scopes fs (In_loop x s)
+      pub turns : Turns (is_in_no_function under) scopes q x down s
+      pub rest : Rest (after_statement p (q + 1 + 1) s + 1) under fs
+
+    -- the end of a call
+    pub record LeaveFollows (q : ℕ) (stack : List Entry) (fs : List FramePair) : Type 0 where
+      pub back : ℕ
+      pub under : List Entry
+      pub frame : FramePair
+      pub outer : List FramePair
+      pub stack_is : stack ≡ m.Link back ∷ under
+      pub returns : slice_get code.instrs q ≡ Some i.Return
+      pub frames_are : fs ≡ frame ∷ outer
+      pub rest : Rest back under outer
+      pub mine : rel.Mine frame outer
+
   -- from this place, with this stack and these frames, the code is that of what is left, and then comes to the end,
   -- with the stack base and the frames below
   abbrev pub CodeFollows : ℕ → List Entry → List FramePair → ℕ → List Entry → List FramePair → List Item → Type 0
   CodeFollows end base below pc stack fs [] = Slides pc end stack × (stack ≡ base) × (fs ≡ below)
-  CodeFollows end base below pc stack fs (Do s ∷ todo) =
-      (q : ℕ) × (sc : List Scope) × Slides pc q stack × Pl sc fs (In_stmt s)
-      × (StatementAt p moves shares (CodeAt code) (HasFork code) (HasWords code) callable
-      (is_in_no_function stack) sc q s)
-      × CodeFollows end base below (after_statement p q s) stack fs todo
-  CodeFollows end base below pc stack fs (First x low high down s ∷ todo) =
-      (q : ℕ) × (sc : List Scope) × (st : List Entry) × Slides pc q stack × (stack ≡ m.Number high ∷ m.Number low ∷ st)
-      × Pl sc fs (In_loop x s) × (Turns (is_in_no_function st) sc q x down s)
-      × CodeFollows end base below (after_statement p (q + 1 + 1) s + 1) st fs todo × (is_range down low high ≡ true)
+  CodeFollows end base below pc stack fs (Do s ∷ todo) = (q : ℕ) × Slides pc q stack
+      × StatementFollows (λ to st js. CodeFollows end base below to st js todo) s q stack fs
+  CodeFollows end base below pc stack fs (First x low high down s ∷ todo) = (q : ℕ) × Slides pc q stack
+      × LoopFollows (λ to st js. CodeFollows end base below to st js todo) x down s
+      (m.Number high ∷ m.Number low ∷ []) q stack fs × (is_range down low high ≡ true)
   CodeFollows end base below pc stack fs (Again x limit down s ∷ todo) =
-      (q : ℕ) × (sc : List Scope) × (st : List Entry) × Slides pc (after_statement p (q + 1 + 1) s) stack
-      × (stack ≡ m.Number limit ∷ st) × Pl sc fs (In_loop x s) × (Turns (is_in_no_function st) sc q x down s)
-      × CodeFollows end base below (after_statement p (q + 1 + 1) s + 1) st fs todo
+      (q : ℕ) × Slides pc (after_statement p (q + 1 + 1) s) stack
+      × LoopFollows (λ to st js. CodeFollows end base below to st js todo) x down s (m.Number limit ∷ []) q stack fs
   CodeFollows end base below pc stack fs (Test s e ∷ todo) =
-      (q : ℕ) × (sc : List Scope) × Slides pc (after_statement p (q + 1) s) stack × Pl sc fs (In_stmt (Repeat s e))
-      × (StatementAt p moves shares (CodeAt code) (HasFork code) (HasWords code) callable (is_in_no_function stack) sc q
-      (Repeat s e)) × CodeFollows end base below (after_statement p q (Repeat s e)) stack fs todo
-  CodeFollows end base below pc stack fs (Leave ∷ todo) =
-      (q r : ℕ) × (st : List Entry) × (f : FramePair) × (rest : List FramePair) × Slides pc q stack
-      × (stack ≡ m.Link r ∷ st)
-      × (slice_get code.instrs q ≡ Some i.Return) × (fs ≡ f ∷ rest) × CodeFollows end base below r st rest todo
-      × rel.Mine f rest
+      (q : ℕ) × Slides pc (after_statement p (q + 1) s) stack
+      × StatementFollows (λ to st js. CodeFollows end base below to st js todo) (Repeat s e) q stack fs
+  CodeFollows end base below pc stack fs (Leave ∷ todo) = (q : ℕ) × Slides pc q stack
+      × LeaveFollows (λ to st js. CodeFollows end base below to st js todo) q stack fs
   CodeFollows end base below pc stack fs (Break f ∷ todo) = ⊥
 
   -- what is sent or received, at the stop
@@ -133,57 +156,140 @@ module _ {M : Type 0} (ex : Execution M) where
   PayloadIs fs c k (Takes a) z = (j : ℕ) × (t : Ptr) × (z ≡ Receives j k t) × rel.Named c j × (a.kind ≡ k)
       × rel.Points fs a t × R a.spot
 
-  -- the children of a parallel statement with their code, which begins at q
-  abbrev pub ParallelIs : Bool → List FramePair → List Birth → Stop → Type 0
-  ParallelIs free fs bs z =
-      (ss : Stmts) × (table q : ℕ) × (sc : List Scope)
-      × (z ≡ Forks table (pos 0) (length (children_tables p moves shares q ss)))
-      × HasFork code table (record { children = children_tables p moves shares q ss }) × (bs ≡ children ss)
-      × ChildrenAt p moves shares (CodeAt code) (HasFork code) (HasWords code) callable free sc q ss
-      × Pl sc fs (In_stmt (Parallel ss))
+  -- at a parallel statement, whose code begins at `start`, with the frames that its children share
+  pub record ParallelStop (free : Bool) (frames : List FramePair) (bs : List Birth) (stop : Stop) : Type 0 where
+    pub statements : Stmts
+    pub table : ℕ
+    pub start : ℕ
+    pub scopes : List Scope
+    pub stop_is : stop ≡ Forks table (pos 0) (length (children_tables p moves shares start statements))
+    pub table_is : HasFork code table (record { children = children_tables p moves shares start statements })
+    pub births_are : bs ≡ children statements
+    pub children_stand : ChildrenAt p moves shares (CodeAt code) (HasFork code) (HasWords code) callable free scopes
+        start statements
+    pub placed : Pl scopes frames (In_stmt (Parallel statements))
 
-  -- those of a forall, of which there is one for each value
-  abbrev pub ForallIs : Bool → List FramePair → List Birth → Stop → Type 0
-  ForallIs free fs bs z =
-      (x : ℕ) × (from to : Expr) × (s : Stmt) × (lo hi : ℤ) × (table q : ℕ) × (sc : List Scope)
-      × (z ≡ Forks table lo (values_in lo hi))
-      × HasFork code table (record { children = child_table p moves shares q (Some x) s ∷ [] })
-      × (bs ≡ indexed_children x s lo (nat_abs ((hi -ℤ lo) +ℤ pos 1))) × (int_lt hi lo ≡ false)
-      × StatementAt p moves shares (CodeAt code) (HasFork code) (HasWords code) callable free (OfIndex x ∷ sc) q s
-      × (slice_get code.instrs (after_statement p q s) ≡ Some i.End) × Pl sc fs (In_stmt (Forall x from to s))
+  -- at a forall, with a child for each value
+  pub record ForallStop (free : Bool) (frames : List FramePair) (bs : List Birth) (stop : Stop) : Type 0 where
+    pub index : ℕ
+    pub from : Expr
+    pub to : Expr
+    pub body : Stmt
+    pub low : ℤ
+    pub high : ℤ
+    pub table : ℕ
+    pub start : ℕ
+    pub scopes : List Scope
+    pub stop_is : stop ≡ Forks table low (values_in low high)
+    pub table_is : HasFork code table (record { children = child_table p moves shares start (Some index) body ∷ [] })
+    pub births_are : bs ≡ indexed_children index body low (nat_abs ((high -ℤ low) +ℤ pos 1))
+    pub not_empty : int_lt high low ≡ false
+    pub body_stands : StatementAt p moves shares (CodeAt code) (HasFork code) (HasWords code) callable free
+        (OfIndex index ∷ scopes) start body
+    pub ends : slice_get code.instrs (after_statement p start body) ≡ Some i.End
+    pub placed : Pl scopes frames (In_stmt (Forall index from to body))
 
-  abbrev pub ForkIs : Bool → List FramePair → List Birth → Stop → Type 0
-  ForkIs free fs bs z = ParallelIs free fs bs z ⊎ ForallIs free fs bs z
+  abbrev pub ForkStop : Bool → List FramePair → List Birth → Stop → Type 0
+  ForkStop free frames bs stop = ParallelStop free frames bs stop ⊎ ForallStop free frames bs stop
 
-  -- one step of a process: where the machine stands after it, or at which stop
+  -- what shows where the instruction stands that ends a step of a process. Q says that the code of what is left stands
+  -- at a place
+  module _ (Q : List Item → List FramePair → ℕ → List Entry → Type 0) where
+    -- the process goes on here
+    pub record AfterStep (todo : List Item) (o : LocalState) (s : Store) (pc : ℕ) (stack : List Entry)
+        (memory : M) : Type 0 where
+      pub frames : List FramePair
+      pub stand : rel.Agrees frames o s memory
+      pub follows : Q todo frames pc stack
+
+    -- a tick
+    pub record AfterTick (todo : List Item) (o : LocalState) (s : Store) (last : Config M) : Type 0 where
+      pub pc : ℕ
+      pub stack : List Entry
+      pub memory : M
+      pub frames : List FramePair
+      pub ticks : next_step ops code last ≡ pause_step ops code pc stack memory
+      pub stand : rel.Agrees frames o s memory
+      pub follows : Q todo frames pc stack
+
+    -- the process is due
+    pub record AtPause (todo : List Item) (o : LocalState) (s : Store) (last : Config M) : Type 0 where
+      pub pc : ℕ
+      pub stack : List Entry
+      pub memory : M
+      pub frames : List FramePair
+      pub stops : next_step ops code last ≡ Stops Pauses (At pc stack memory)
+      pub stand : rel.Agrees frames o s memory
+      pub follows : Q todo frames pc stack
+
+    -- a channel is opened: the store before it, and the variable that takes the channel
+    pub record AtOpen (todo : List Item) (o : LocalState) (s : Store) (last : Config M) : Type 0 where
+      pub pc : ℕ
+      pub stack : List Entry
+      pub memory : M
+      pub frames : List FramePair
+      pub variable : Address
+      pub target : Ptr
+      pub store : Store
+      pub stops : next_step ops code last ≡ Stops (Opens target) (At pc stack memory)
+      pub stand : rel.Agrees frames o store memory
+      pub points : rel.Points frames variable target
+      pub readable : R variable.spot
+      pub store_is : s ≡ at_key same_loc variable.spot
+          (content_with variable (store variable.spot) (Tree (Chan (record { owner = w.name; nth = w.opens })))) store
+      pub follows : Q todo frames pc stack
+      pub outside : is_in_no_function stack ≡ true
+      pub sort_is : sort p variable.kind ≡ Channels
+
+    -- children begin
+    pub record AtFork (bs : List Birth) (todo : List Item) (o : LocalState) (s : Store) (last : Config M) : Type 0 where
+      pub pc : ℕ
+      pub stack : List Entry
+      pub memory : M
+      pub frames : List FramePair
+      pub stop : Stop
+      pub stops : next_step ops code last ≡ Stops stop (At pc stack memory)
+      pub stand : rel.Agrees frames o s memory
+      pub follows : Q todo frames pc stack
+      pub outside : is_in_no_function stack ≡ true
+      pub forks : ForkStop (is_in_no_function stack) frames bs stop
+      pub may_nest : nat_lt o.depth g.limits.depth ≡ true
+
+    -- a value is sent or received
+    pub record AtOffer (ch : Channel) (k : ℕ) (payload : Payload LocationContent Address) (todo : List Item)
+        (o : LocalState) (s : Store) (last : Config M) : Type 0 where
+      pub pc : ℕ
+      pub stack : List Entry
+      pub memory : M
+      pub frames : List FramePair
+      pub stop : Stop
+      pub stops : next_step ops code last ≡ Stops stop (At pc stack memory)
+      pub stand : rel.Agrees frames o s memory
+      pub carries : PayloadIs frames ch k payload stop
+      pub follows : Q todo frames pc stack
+      pub outside : is_in_no_function stack ≡ true
+      pub owned : IsOwned ops stop memory
+
+    -- the process ends
+    pub record AtFinish (o : LocalState) (s : Store) (pc : ℕ) (stack : List Entry) (memory : M) : Type 0 where
+      pub frames : List FramePair
+      pub stops : next_step ops code (At pc stack memory) ≡ Stops Ended (At pc stack memory)
+      pub stand : rel.Agrees frames o s memory
+      pub follows : Q [] frames pc stack
+      pub outside : is_in_no_function stack ≡ true
+
+    abbrev pub MadeAt : Action → LocalState → Store → Config M → Type 0
+    MadeAt (Stepped todo) o s (At pc stack memory) = AfterStep todo o s pc stack memory
+    MadeAt (Ticked todo) o s last = AfterTick todo o s last
+    MadeAt (Opened todo) o s last = AtOpen todo o s last
+    MadeAt (Forked bs todo) o s last = AtFork bs todo o s last
+    MadeAt (Offered ch k payload todo) o s last = AtOffer ch k payload todo o s last
+    MadeAt actions.Ended o s (At pc stack memory) = AtFinish o s pc stack memory
+
+  -- one step of a process from the configuration c: the machine comes to the instruction that ends it
   abbrev pub Made : Config M → (List Item → List FramePair → ℕ → List Entry → Type 0) → WorkOutcome Action × Store
       → Type 0
-  Made c Q (Computed (Stepped todo) o, s) = (pc : ℕ) × (st : List Entry) × (n : M) × (fs : List FramePair)
-      × RunsTo ops code c (At pc st n) × rel.Agrees fs o s n × Q todo fs pc st
-  Made c Q (Computed (Ticked todo) o, s) =
-      (pc : ℕ) × (st : List Entry) × (n : M) × (fs : List FramePair) × (d : Config M) × RunsTo ops code c d
-      × (next_step ops code d ≡ pause_step ops code pc st n) × rel.Agrees fs o s n × Q todo fs pc st
-  Made c Q (Computed (Opened todo) o, s) =
-      (pc : ℕ) × (st : List Entry) × (n : M) × (fs : List FramePair) × (d : Config M) × (a : Address) × (t : Ptr)
-      × (s0 : Store) × RunsTo ops code c d × (next_step ops code d ≡ Stops (Opens t) (At pc st n))
-      × rel.Agrees fs o s0 n
-      × rel.Points fs a t × R a.spot
-      × (s ≡ at_key same_loc a.spot
-      (content_with a (s0 a.spot) (Tree (Chan (record { owner = w.name; nth = w.opens }))))
-      s0) × Q todo fs pc st × (is_in_no_function st ≡ true) × (sort p a.kind ≡ Channels)
-  Made c Q (Computed (Forked bs todo) o, s) =
-      (pc : ℕ) × (st : List Entry) × (n : M) × (fs : List FramePair) × (d : Config M) × (z : Stop) × RunsTo ops code c d
-      × (next_step ops code d ≡ Stops z (At pc st n)) × rel.Agrees fs o s n × Q todo fs pc st
-      × (is_in_no_function st ≡ true)
-      × ForkIs (is_in_no_function st) fs bs z × (nat_lt o.depth g.limits.depth ≡ true)
-  Made c Q (Computed (Offered ch k g todo) o, s) =
-      (pc : ℕ) × (st : List Entry) × (n : M) × (fs : List FramePair) × (d : Config M) × (z : Stop) × RunsTo ops code c d
-      × (next_step ops code d ≡ Stops z (At pc st n)) × rel.Agrees fs o s n × PayloadIs fs ch k g z × Q todo fs pc st
-      × (is_in_no_function st ≡ true) × IsOwned ops z n
-  Made c Q (Computed actions.Ended o, s) = (pc : ℕ) × (st : List Entry) × (n : M) × (fs : List FramePair)
-      × RunsTo ops code c (At pc st n) × (next_step ops code (At pc st n) ≡ Stops Ended (At pc st n))
-      × rel.Agrees fs o s n
-      × Q [] fs pc st × (is_in_no_function st ≡ true)
+  Made c Q (Computed d o, s) = (last : Config M) × RunsTo ops code c last × MadeAt Q d o s last
   Made c Q (EndsInFault f, s) = RunsToFault ops rel code c f s
   Made c Q (IllFormed, s) = ⊥
   Made c Q (OutOfFuel, s) = Unit {0}
@@ -192,9 +298,8 @@ module _ {M : Type 0} (ex : Execution M) where
   -- next step is one of the kernel
   abbrev pub Turned : Config M → ℕ → List Entry → List FramePair → WorkOutcome source.Stop × Store → Type 0
   Turned c end base below (Computed (source.Paused todo) o, s) =
-      (pc : ℕ) × (st : List Entry) × (n : M) × (fs : List FramePair) × (d : Config M) × RunsTo ops code c d
-      × (next_step ops code d ≡ Stops Pauses (At pc st n)) × rel.Agrees fs o s n
-      × CodeFollows end base below pc st fs todo
+      (last : Config M) × RunsTo ops code c last
+      × AtPause (λ todo fs pc st. CodeFollows end base below pc st fs todo) todo o s last
   Turned c end base below (Computed (source.Stops d) o, s) =
       Made c (λ todo fs pc st. CodeFollows end base below pc st fs todo) (Computed d o, s)
   Turned c end base below (EndsInFault f, s) = RunsToFault ops rel code c f s

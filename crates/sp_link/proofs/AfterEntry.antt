@@ -88,57 +88,65 @@ module _ {M : Type 0} (g : RunInput) (code : Code) (moves shares : Stmt → List
       (todo : List Item) → CodeFollows before end base below pc stack js todo
       → CodeFollows now end base below pc stack js todo
   again end base below pc stack js [] (slides, empty, frames) = (slides_again slides, empty, frames)
-  again end base below pc stack js (Do s ∷ todo) (q, sc, slides, placed, stands, rest) = (
+  again end base below pc stack js (Do s ∷ todo) (q, slides, k) = (
     q,
-    sc,
     slides_again slides,
-    placed,
-    stands,
-    again end base below (after_statement g.program q s) stack js todo
-        rest,
+    record {
+      scopes = k.scopes;
+      placed = k.placed;
+      stands = k.stands;
+      rest = again end base below (after_statement g.program q s) stack js todo k.rest;
+    },
   )
-  again end base below pc stack js (First x lo hi d s ∷ todo) (q, sc, st, slides, top, placed, turns, rest, some) = (
+  again end base below pc stack js (First x lo hi d s ∷ todo) (q, slides, k, in_range) = (
     q,
-    sc,
-    st,
     slides_again slides,
-    top,
-    placed,
-    turns,
-    again end base below (after_statement g.program (q + 1 + 1) s + 1) st js todo rest,
-    some,
+    record {
+      scopes = k.scopes;
+      under = k.under;
+      stack_is = k.stack_is;
+      placed = k.placed;
+      turns = k.turns;
+      rest = again end base below (after_statement g.program (q + 1 + 1) s + 1) k.under js todo k.rest;
+    },
+    in_range,
   )
-  again end base below pc stack js (Again x hi d s ∷ todo) (q, sc, st, slides, top, placed, turns, rest) = (
+  again end base below pc stack js (Again x hi d s ∷ todo) (q, slides, k) = (
     q,
-    sc,
-    st,
     slides_again slides,
-    top,
-    placed,
-    turns,
-    again end base below (after_statement g.program (q + 1 + 1) s + 1) st js todo rest,
+    record {
+      scopes = k.scopes;
+      under = k.under;
+      stack_is = k.stack_is;
+      placed = k.placed;
+      turns = k.turns;
+      rest = again end base below (after_statement g.program (q + 1 + 1) s + 1) k.under js todo k.rest;
+    },
   )
-  again end base below pc stack js (Test s e ∷ todo) (q, sc, slides, placed, stands, rest) = (
+  again end base below pc stack js (Test s e ∷ todo) (q, slides, k) = (
     q,
-    sc,
     slides_again slides,
-    placed,
-    stands,
-    again end base below (after_statement g.program q (Repeat s e)) stack js
-        todo rest,
+    record {
+      scopes = k.scopes;
+      placed = k.placed;
+      stands = k.stands;
+      rest = again end base below (after_statement g.program q (Repeat s e)) stack js todo k.rest;
+    },
   )
-  again end base below pc stack js (Leave ∷ todo) (q, r, st, f, fs, slides, top, returns, split, rest, own) = (
+  again end base below pc stack js (Leave ∷ todo) (q, slides, k) = (
     q,
-    r,
-    st,
-    f,
-    fs,
     slides_again slides,
-    top,
-    returns,
-    split,
-    again end base below r st fs todo rest,
-    mine f fs own,
+    record {
+      back = k.back;
+      under = k.under;
+      frame = k.frame;
+      outer = k.outer;
+      stack_is = k.stack_is;
+      returns = k.returns;
+      frames_are = k.frames_are;
+      rest = again end base below k.back k.under k.outer todo k.rest;
+      mine = mine k.frame k.outer k.mine;
+    },
   )
   again end base below pc stack js (Break x ∷ todo) h = h
 
