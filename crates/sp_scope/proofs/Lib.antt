@@ -1,4 +1,5 @@
 mod ScopeTables
+mod Carrying
 mod NameOrders
 mod Tables
 mod NameRows

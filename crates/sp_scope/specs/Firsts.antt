@@ -67,6 +67,9 @@ statement_first = w.statement_sites none_more then_rest at_site
 abbrev pub statement_form_first : List Scope → Local → p.Form → Onward
 statement_form_first = w.form_sites none_more then_rest at_site
 
+abbrev pub other_first : List Scope → Local → p.ElsePart → Onward
+other_first = w.other_sites none_more then_rest at_site
+
 abbrev pub statements_first : List Scope → Local → p.Statements → Onward
 statements_first = w.statements_sites none_more then_rest at_site
 

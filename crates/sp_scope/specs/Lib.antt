@@ -1,5 +1,6 @@
 pub mod Firsts
 pub mod Walks
+pub mod Carried
 pub mod Fields
 pub mod Standard
 pub mod Files

@@ -1,6 +1,6 @@
 //! What the walk gives of a block and of a heading.
 
-use sp_base::{Boxed, List};
+use sp_base::List;
 pub use sp_tree::PassResult;
 use sp_tree::{Named, NamedStmt, Variable};
 
@@ -17,12 +17,11 @@ macro_rules! have {
 }
 
 /// What stands in a block: the number of its result's variable, its statement part, the indices of the foralls there,
-/// and what its parts declare. The statement part is boxed, since to let a box go is one call, and a statement a case
-/// for each of its forms, wherever memory may be refused while it is held.
+/// and what its parts declare.
 #[derive(Drop)]
 pub struct BlockParts {
     pub answer: u32,
-    pub body: Boxed<NamedStmt>,
+    pub body: NamedStmt,
     pub indices: List<Variable>,
     pub parts: Named,
 }

@@ -1,30 +1,27 @@
 //! The walk through blocks: what their parts declare, and their statement parts.
 
-ghost use Rattle.std.specs.Prelude.{◌≡◌, ◌++◌, ◌∷◌, map, Ok, OnOk};
-ghost use Rattle.sp_tree.specs.PhaseResults.{Answers, AnswersAs};
+ghost use Rattle.std.specs.Prelude.{◌≡◌, ◌∷◌, false, map};
 ghost use Rattle.sp_tree.specs.Scopes.{inner_env};
 ghost use Rattle.sp_tree.specs.NameWalk.{part_local, parts_local, title_local};
 ghost use Rattle.sp_tree.specs.NamedTree.{parts_named, part_named, inside_named, nothing_named, appended_tables};
 ghost use Rattle.sp_tree.specs.NamedOf as named;
 ghost use Rattle.sp_tree.specs.PlainSyntax.{Proc};
 ghost use Rattle.sp_tree.specs.SyntaxOf.{block_of, part_of, parts};
-ghost use Rattle.sp_scope.specs.Walks.{PassesTo, seen_block, declared_by};
+ghost use Rattle.sp_scope.specs.Walks.{seen_block, declared_by};
+ghost use Rattle.sp_scope.specs.Carried.{Keeps};
 ghost use Rattle.sp_scope.specs.Firsts.{parts_first, part_first, block_first, block_local, inner_first, inner_local};
 ghost use Rattle.sp_scope.specs.Firsts.{opened_first, opened_local, opened_named, inner_named};
 
-use crate::block_parts::{BlockParts, Heading, PassResult};
-use crate::have;
+use crate::block_parts::{BlockParts, Heading};
 use crate::headings::{declare_title, name_heading, procedure_part};
 use crate::indices::indices;
 use crate::parts::{name_constant, name_type, name_variables};
 use crate::scopes::Scopes;
-use crate::statements::name_boxed_statement;
+use crate::statements::name_statement;
 use crate::variables::declare_formals;
-use sp_base::{Boxed, Halt, List};
-use sp_tree::{
-    FirstRefusal, Name, Named, NamedAnswer, NamedBlock, NamedConstant, NamedKind, NamedStmt,
-    SynBlock, SynFormal, SynPart, Variable,
-};
+use crate::walk::Walk;
+use sp_base::{Boxed, List};
+use sp_tree::{Name, Named, NamedAnswer, NamedBlock, NamedStmt, SynBlock, SynFormal, SynPart};
 use std::alloc::Global;
 
 fn nothing(alloc: Global) -> Named
@@ -38,176 +35,112 @@ fn nothing(alloc: Global) -> Named
     }
 }
 
-/// The constants and the types of one part behind those of another.
-fn beside_types(
-    constants: List<NamedConstant>,
-    kinds: List<NamedKind>,
-    more_constants: List<NamedConstant>,
-    more_kinds: List<NamedKind>,
-) -> Result<(List<NamedConstant>, List<NamedKind>), Halt>
-    ensures { Answers result (Ok (constants ++ more_constants, kinds ++ more_kinds)) }
-{
-    let constants = constants.join(more_constants)?;
-    let kinds = kinds.join(more_kinds)?;
-    Ok((constants, kinds))
-}
-
-/// The variables and the blocks of one part behind those of another.
-fn beside_blocks(
-    variables: List<Variable>,
-    blocks: List<NamedBlock>,
-    more_variables: List<Variable>,
-    more_blocks: List<NamedBlock>,
-) -> Result<(List<Variable>, List<NamedBlock>), Halt>
-    ensures { Answers result (Ok (variables ++ more_variables, blocks ++ more_blocks)) }
-{
-    let variables = variables.join(more_variables)?;
-    let blocks = blocks.join(more_blocks)?;
-    Ok((variables, blocks))
-}
-
 /// What is declared in one part behind what is declared in another.
-pub fn beside(a: Named, b: Named) -> Result<Named, Halt>
-    ensures { AnswersAs named.program_of result (Ok (appended_tables (named.program_of a) (named.program_of b))) }
+pub fn beside(alloc: Global, walk: &mut Walk, a: Named, b: Named) -> Named
+    ensures { Keeps walk.old walk.new walk.old.first
+        (named.program_of result ≡ appended_tables (named.program_of a) (named.program_of b)) }
 {
-    let (constants, kinds) = have!(beside_types(a.constants, a.kinds, b.constants, b.kinds));
-    let (variables, blocks) = have!(beside_blocks(a.variables, a.blocks, b.variables, b.blocks));
-    Ok(Named {
-        constants,
-        kinds,
-        variables,
-        blocks,
-    })
-}
-
-fn in_front(
-    alloc: Global,
-    b: NamedBlock,
-    blocks: List<NamedBlock>,
-) -> Result<List<NamedBlock>, Halt>
-    ensures { Answers result (Ok (b ∷ blocks)) }
-{
-    let mut out = Vec::new(alloc);
-    out.push(b)?;
-    Ok(List::of(out).join(blocks)?)
+    Named {
+        constants: walk.join(alloc, a.constants, b.constants),
+        kinds: walk.join(alloc, a.kinds, b.kinds),
+        variables: walk.join(alloc, a.variables, b.variables),
+        blocks: walk.join(alloc, a.blocks, b.blocks),
+    }
 }
 
 /// A block of this name in front of others.
 pub fn block_in_front(
     alloc: Global,
+    walk: &mut Walk,
     x: &Name,
     parent: Option<u32>,
     formals: List<u32>,
     answer: Option<NamedAnswer>,
-    body: Boxed<NamedStmt>,
+    body: NamedStmt,
     blocks: List<NamedBlock>,
-) -> Result<List<NamedBlock>, Halt>
-    ensures { Answers result
-        (Ok (record {
+) -> List<NamedBlock>
+    ensures { Keeps walk.old walk.new walk.old.first
+        (result ≡ record {
           name = x.now.text;
           parent = parent;
           formals = formals;
           answer = answer;
           body = body;
           at = x.now.at;
-        } ∷ blocks)) }
+        } ∷ blocks) }
 {
-    let name = have!(x.text.duplicate(alloc));
-    let own = NamedBlock {
-        name,
-        parent,
-        formals,
-        answer,
-        body: body.into_inner(),
-        at: x.at,
-    };
-    in_front(alloc, own, blocks)
+    let name = walk.text(alloc, &x.text);
+    let mut out = Vec::new(alloc);
+    walk.push(
+        &mut out,
+        NamedBlock {
+            name,
+            parent,
+            formals,
+            answer,
+            body,
+            at: x.at,
+        },
+    );
+    walk.join(alloc, List::of(out), blocks)
 }
 
 /// A block's parts and statement part.
 #[cycle(block)]
-pub fn name_block(
-    b: SynBlock,
-    alloc: Global,
-    scopes: &mut Scopes,
-    first: FirstRefusal,
-) -> Result<PassResult<BlockParts>, Halt>
-    ensures found { PassesTo seen_block result (inside_named scopes.old.around scopes.old.local (block_of b).parts
-        (block_of b).body)
-        (block_first scopes.old.around scopes.old.local (block_of b).parts (block_of b).body first) }
-    ensures after { OnOk result (scopes.new ≡ inner_env scopes.old.around
-        (block_local scopes.old.local (block_of b).parts (block_of b).body)) }
+pub fn name_block(b: SynBlock, alloc: Global, scopes: &mut Scopes, walk: &mut Walk) -> BlockParts
+    ensures found { Keeps walk.old walk.new
+        (block_first scopes.old.around scopes.old.local (block_of b).parts (block_of b).body walk.old.first)
+        (seen_block result ≡ inside_named scopes.old.around scopes.old.local (block_of b).parts (block_of b).body) }
+    ensures after { walk.new.is_lost ≡ false → scopes.new ≡ inner_env scopes.old.around
+        (block_local scopes.old.local (block_of b).parts (block_of b).body) }
 {
     let SynBlock { parts, body } = b;
-    let body = have!(Boxed::new(alloc, body));
     let answer = scopes.answer();
-    let indices = have!(indices(alloc, body.get(), scopes.block()));
-    let parts = have!(name_parts(parts, alloc, scopes, first));
-    let body = have!(name_boxed_statement(alloc, scopes, body, parts.first));
-    Ok(PassResult {
-        tree: BlockParts {
-            answer,
-            body: body.tree,
-            indices,
-            parts: parts.tree,
-        },
-        first: body.first,
-    })
+    let indices = walk.list(alloc, indices(alloc, &body, scopes.block()));
+    let parts = name_parts(parts, alloc, scopes, walk);
+    let body = name_statement(alloc, scopes, walk, body);
+    BlockParts {
+        answer,
+        body,
+        indices,
+        parts,
+    }
 }
 
 #[cycle(block)]
 #[tactic(auto, using(crate::proofs::Tables::beside_beside, crate::proofs::Tables::beside_nothing))]
-fn name_parts(
-    ps: List<SynPart>,
-    alloc: Global,
-    scopes: &mut Scopes,
-    first: FirstRefusal,
-) -> Result<PassResult<Named>, Halt>
-    ensures found { PassesTo named.program_of result
-        (parts_named scopes.old.around scopes.old.local (parts (map part_of ps)))
-        (parts_first scopes.old.around scopes.old.local (parts (map part_of ps)) first) }
-    ensures after { OnOk result (scopes.new ≡ inner_env scopes.old.around
-        (parts_local scopes.old.local (parts (map part_of ps)))) }
+fn name_parts(ps: List<SynPart>, alloc: Global, scopes: &mut Scopes, walk: &mut Walk) -> Named
+    ensures found { Keeps walk.old walk.new
+        (parts_first scopes.old.around scopes.old.local (parts (map part_of ps)) walk.old.first)
+        (named.program_of result ≡ parts_named scopes.old.around scopes.old.local (parts (map part_of ps))) }
+    ensures after { walk.new.is_lost ≡ false → scopes.new ≡ inner_env scopes.old.around
+        (parts_local scopes.old.local (parts (map part_of ps))) }
 {
     let mut out = nothing(alloc);
-    let mut first = first;
     for p in ps.into_vec() {
-        let t = have!(name_part(p, alloc, scopes, first));
-        first = t.first;
-        out = have!(beside(out, t.tree));
+        let part = name_part(p, alloc, scopes, walk);
+        out = beside(alloc, walk, out, part);
     }
-    Ok(PassResult { tree: out, first })
+    out
 }
 
 #[cycle(block)]
-fn name_part(
-    p: SynPart,
-    alloc: Global,
-    scopes: &mut Scopes,
-    first: FirstRefusal,
-) -> Result<PassResult<Named>, Halt>
-    ensures found { PassesTo named.program_of result (part_named scopes.old.around scopes.old.local (part_of p))
-        (part_first scopes.old.around scopes.old.local (part_of p) first) }
-    ensures after { OnOk result (scopes.new ≡ inner_env scopes.old.around (part_local scopes.old.local (part_of p))) }
+fn name_part(p: SynPart, alloc: Global, scopes: &mut Scopes, walk: &mut Walk) -> Named
+    ensures found { Keeps walk.old walk.new (part_first scopes.old.around scopes.old.local (part_of p) walk.old.first)
+        (named.program_of result ≡ part_named scopes.old.around scopes.old.local (part_of p)) }
+    ensures after { walk.new.is_lost ≡ false → scopes.new ≡ inner_env scopes.old.around
+        (part_local scopes.old.local (part_of p)) }
 {
     match p {
-        SynPart::Const(x, c) => {
-            let t = name_constant(alloc, scopes, &x, &c, first);
-            drop(c);
-            t
-        }
-        SynPart::Kind(x, k) => {
-            let t = name_type(alloc, scopes, &x, &k, first);
-            drop(k);
-            t
-        }
-        SynPart::Var(xs, t) => name_variables(alloc, scopes, xs.items(), &t, first),
+        SynPart::Const(x, c) => name_constant(alloc, scopes, walk, &x, &c),
+        SynPart::Kind(x, k) => name_type(alloc, scopes, walk, &x, &k),
+        SynPart::Var(xs, t) => name_variables(alloc, scopes, walk, xs.items(), &t),
         SynPart::Proc {
             name,
             formals,
             answer,
             block,
-        } => name_procedure(block, alloc, scopes, &name, formals.items(), &answer, first),
+        } => name_procedure(block, alloc, scopes, walk, &name, formals.items(), &answer),
     }
 }
 
@@ -216,22 +149,21 @@ fn name_procedure(
     b: Boxed<SynBlock>,
     alloc: Global,
     scopes: &mut Scopes,
+    walk: &mut Walk,
     x: &Name,
     fs: &[SynFormal],
     answer: &Option<Name>,
-    first: FirstRefusal,
-) -> Result<PassResult<Named>, Halt>
-    ensures found { PassesTo named.program_of result
-        (part_named scopes.old.around scopes.old.local
-        (Proc x.now fs.now answer.now (block_of b).parts (block_of b).body))
+) -> Named
+    ensures found { Keeps walk.old walk.new
         (part_first scopes.old.around scopes.old.local
-        (Proc x.now fs.now answer.now (block_of b).parts (block_of b).body) first) }
-    ensures after { OnOk result (scopes.new
-        ≡ inner_env scopes.old.around (part_local scopes.old.local
-        (Proc x.now fs.now answer.now (block_of b).parts (block_of b).body))) }
+        (Proc x.now fs.now answer.now (block_of b).parts (block_of b).body) walk.old.first)
+        (named.program_of result ≡ part_named scopes.old.around scopes.old.local
+        (Proc x.now fs.now answer.now (block_of b).parts (block_of b).body)) }
+    ensures after { walk.new.is_lost ≡ false → scopes.new ≡ inner_env scopes.old.around
+        (part_local scopes.old.local (Proc x.now fs.now answer.now (block_of b).parts (block_of b).body)) }
 {
-    let heading = have!(name_heading(alloc, scopes, x, fs, answer, first));
-    name_titled(b, alloc, scopes, heading.tree, x, fs, answer, heading.first)
+    let heading = name_heading(alloc, scopes, walk, x, fs, answer);
+    name_titled(b, alloc, scopes, walk, heading, x, fs, answer)
 }
 
 /// A procedure behind its heading.
@@ -240,31 +172,25 @@ fn name_titled(
     b: Boxed<SynBlock>,
     alloc: Global,
     scopes: &mut Scopes,
+    walk: &mut Walk,
     h: Heading,
     x: &Name,
     fs: &[SynFormal],
     answer: &Option<Name>,
-    first: FirstRefusal,
-) -> Result<PassResult<Named>, Halt>
-    ensures found { PassesTo named.program_of result
-        (declared_by h x.now answer.now
-        (opened_named h.block scopes.old.around (title_local scopes.old.local x.now fs.now answer.now) fs.now answer.now
-        (block_of b).parts (block_of b).body))
+) -> Named
+    ensures found { Keeps walk.old walk.new
         (opened_first h.block scopes.old.around (title_local scopes.old.local x.now fs.now answer.now) fs.now answer.now
-        (block_of b).parts (block_of b).body first) }
-    ensures after { OnOk result (scopes.new
-        ≡ inner_env scopes.old.around
-        (opened_local h.block (title_local scopes.old.local x.now fs.now answer.now) fs.now
-        answer.now
+        (block_of b).parts (block_of b).body walk.old.first)
+        (named.program_of result ≡ declared_by h x.now answer.now
+        (opened_named h.block scopes.old.around (title_local scopes.old.local x.now fs.now answer.now) fs.now answer.now
         (block_of b).parts (block_of b).body)) }
+    ensures after { walk.new.is_lost ≡ false → scopes.new ≡ inner_env scopes.old.around
+        (opened_local h.block (title_local scopes.old.local x.now fs.now answer.now) fs.now answer.now
+        (block_of b).parts (block_of b).body) }
 {
-    have!(declare_title(alloc, scopes, x, fs, answer));
-    let inner = have!(name_opened(b, alloc, scopes, h.block, fs, answer, first));
-    let tree = have!(procedure_part(alloc, h, x, answer, inner.tree));
-    Ok(PassResult {
-        tree,
-        first: inner.first,
-    })
+    walk.after(declare_title(alloc, scopes, x, fs, answer));
+    let inner = name_opened(b, alloc, scopes, walk, h.block, fs, answer);
+    procedure_part(alloc, walk, h, x, answer, inner)
 }
 
 /// The block of a procedure, from the block around it.
@@ -273,25 +199,25 @@ fn name_opened(
     b: Boxed<SynBlock>,
     alloc: Global,
     scopes: &mut Scopes,
+    walk: &mut Walk,
     block: u32,
     fs: &[SynFormal],
     answer: &Option<Name>,
-    first: FirstRefusal,
-) -> Result<PassResult<BlockParts>, Halt>
-    ensures found { PassesTo seen_block result
-        (opened_named block scopes.old.around scopes.old.local fs.now answer.now (block_of b).parts (block_of b).body)
+) -> BlockParts
+    ensures found { Keeps walk.old walk.new
         (opened_first block scopes.old.around scopes.old.local fs.now answer.now (block_of b).parts (block_of b).body
-        first) }
-    ensures after { OnOk result (scopes.new
-        ≡ inner_env scopes.old.around (opened_local block scopes.old.local fs.now answer.now (block_of b).parts
-        (block_of b).body)) }
+        walk.old.first)
+        (seen_block result ≡ opened_named block scopes.old.around scopes.old.local fs.now answer.now
+        (block_of b).parts (block_of b).body) }
+    ensures after { walk.new.is_lost ≡ false → scopes.new ≡ inner_env scopes.old.around
+        (opened_local block scopes.old.local fs.now answer.now (block_of b).parts (block_of b).body) }
 {
     let outer = scopes.block();
     let outer_answer = scopes.answer();
-    have!(scopes.open(alloc, block, 0));
-    let inner = have!(name_inner(b, alloc, scopes, fs, answer, first));
+    walk.after(scopes.open(alloc, block, 0));
+    let inner = name_inner(b, alloc, scopes, walk, fs, answer);
     scopes.leave(outer, outer_answer);
-    Ok(inner)
+    inner
 }
 
 /// The block of a procedure with its parameters, in a scope of its own.
@@ -300,17 +226,19 @@ fn name_inner(
     b: Boxed<SynBlock>,
     alloc: Global,
     scopes: &mut Scopes,
+    walk: &mut Walk,
     fs: &[SynFormal],
     answer: &Option<Name>,
-    first: FirstRefusal,
-) -> Result<PassResult<BlockParts>, Halt>
-    ensures found { PassesTo seen_block result
-        (inner_named scopes.old.around scopes.old.local fs.now answer.now (block_of b).parts (block_of b).body)
-        (inner_first scopes.old.around scopes.old.local fs.now answer.now (block_of b).parts (block_of b).body first) }
-    ensures after { OnOk result (scopes.new ≡ inner_env scopes.old.around
-        (inner_local scopes.old.local fs.now answer.now (block_of b).parts (block_of b).body)) }
+) -> BlockParts
+    ensures found { Keeps walk.old walk.new
+        (inner_first scopes.old.around scopes.old.local fs.now answer.now (block_of b).parts (block_of b).body
+        walk.old.first)
+        (seen_block result ≡ inner_named scopes.old.around scopes.old.local fs.now answer.now
+        (block_of b).parts (block_of b).body) }
+    ensures after { walk.new.is_lost ≡ false → scopes.new ≡ inner_env scopes.old.around
+        (inner_local scopes.old.local fs.now answer.now (block_of b).parts (block_of b).body) }
 {
-    let first = have!(declare_formals(alloc, scopes, fs, first));
-    have!(scopes.number_answer(answer));
-    name_block(b.into_inner(), alloc, scopes, first)
+    declare_formals(alloc, scopes, walk, fs);
+    walk.after(scopes.number_answer(answer));
+    name_block(b.into_inner(), alloc, scopes, walk)
 }

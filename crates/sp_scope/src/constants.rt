@@ -2,13 +2,13 @@
 
 ghost use Rattle.std.specs.Prelude.{◌≡◌};
 ghost use Rattle.sp_tree.specs.NamedTree.{named_value, named_const, named_constants};
-ghost use Rattle.sp_scope.specs.Walks.{PassesTo, itself};
+ghost use Rattle.sp_scope.specs.Carried.{Keeps};
 ghost use Rattle.sp_scope.specs.Firsts.{value_first, constants_first, bound_first};
 
-use crate::block_parts::PassResult;
 use crate::declarations::{check_constant, check_own_constant, constant_number};
 use crate::scopes::Scopes;
-use sp_base::{Halt, List};
+use crate::walk::Walk;
+use sp_base::List;
 use sp_tree::{FirstRefusal, Name, NamedConst, NamedValue, SynConst, SynValue, earlier_refusal};
 use std::alloc::Global;
 
@@ -59,19 +59,16 @@ pub fn name_const(scopes: &Scopes, c: SynConst) -> NamedConst
 pub fn name_constants(
     alloc: Global,
     scopes: &Scopes,
+    walk: &mut Walk,
     cs: List<SynConst>,
-    first: FirstRefusal,
-) -> Result<PassResult<List<NamedConst>>, Halt>
-    ensures { PassesTo itself result (named_constants scopes.now cs) (constants_first scopes.now cs first) }
+) -> List<NamedConst>
+    ensures { Keeps walk.old walk.new (constants_first scopes.now cs walk.old.first)
+        (result ≡ named_constants scopes.now cs) }
 {
     let mut out = Vec::new(alloc);
-    let mut first = first;
     for c in cs.into_vec() {
-        first = check_value(scopes, &c.value, first);
-        out.push(name_const(scopes, c))?;
+        walk.first = check_value(scopes, &c.value, walk.first);
+        walk.push(&mut out, name_const(scopes, c));
     }
-    Ok(PassResult {
-        tree: List::of(out),
-        first,
-    })
+    List::of(out)
 }

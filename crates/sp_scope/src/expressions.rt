@@ -1,11 +1,12 @@
 //! The walk through expressions, with numbers for names.
 
-ghost use Rattle.std.specs.Prelude.{◌≡◌, map, None, Ok};
+ghost use Rattle.std.specs.Prelude.{◌≡◌, map};
 ghost use Rattle.std.specs.Option.{option_copied};
-ghost use Rattle.sp_scope.specs.Walks.{PassesTo, width_of};
+ghost use Rattle.sp_scope.specs.Walks.{width_of};
+ghost use Rattle.sp_scope.specs.Carried.{Keeps};
 ghost use Rattle.sp_tree.specs.PhaseResults.{earlier_refusal};
 ghost use Rattle.sp_tree.specs.NameRules.{broken_rule, Operand};
-ghost use Rattle.sp_tree.specs.Scopes.{find};
+ghost use Rattle.sp_tree.specs.Scopes.{find, Env};
 ghost use Rattle.sp_tree.specs.NameWalk.{is_whole};
 ghost use Rattle.sp_tree.specs.NamedTree.{named_expression, named_form, named_operand, named_selectors, named_selector};
 ghost use Rattle.sp_tree.specs.NamedTree.{named_arguments, named_argument, named_width, operand_named, function_named};
@@ -17,17 +18,16 @@ ghost use Rattle.sp_tree.specs.SyntaxOf.{argument_of, arguments, width};
 ghost use Rattle.sp_scope.specs.Firsts.{expression_first, form_first, operand_first, selector_first, selectors_first};
 ghost use Rattle.sp_scope.specs.Firsts.{arguments_first, argument_first, passed_first, passed_name_first, width_first};
 ghost use Rattle.std.specs.Prelude.{option_map, Some};
-ghost use Rattle.sp_tree.specs.PlainSyntax.{ExpressionAt, Read, Apply, Unary};
+ghost use Rattle.sp_tree.specs.PlainSyntax.{ExpressionAt, Read, Apply};
 ghost use Rattle.sp_tree.specs.declared.syntax.Name.{Name};
 
-use crate::block_parts::PassResult;
 use crate::calls::{count, is_whole, next_passing, others, references_of, rest_of};
-use crate::have;
 use crate::rules::{
     bare_rule, function_rule, needs_variable, operand_rule, target_rule, width_rule,
 };
 use crate::scopes::Scopes;
-use sp_base::{Boxed, Halt, List, Place};
+use crate::walk::Walk;
+use sp_base::{Boxed, List, Place};
 use sp_tree::{
     BinaryOp, FirstRefusal, Meaning, Name, NamedArg, NamedExpr, NamedExprForm, NamedSelector,
     NamedVar, Passing, SynArg, SynExpr, SynExprForm, SynSelector, SynVar, UnaryOp, earlier_refusal,
@@ -36,156 +36,99 @@ use std::alloc::Global;
 
 /// An expression.
 #[cycle(expression)]
-pub fn name_expression(
-    alloc: Global,
-    scopes: &Scopes,
-    e: SynExpr,
-    first: FirstRefusal,
-) -> Result<PassResult<NamedExpr>, Halt>
-    ensures { PassesTo named.expression_of result (named_expression scopes.now (expression_of e))
-        (expression_first scopes.now (expression_of e) first) }
+pub fn name_expression(alloc: Global, scopes: &Scopes, walk: &mut Walk, e: SynExpr) -> NamedExpr
+    ensures { Keeps walk.old walk.new (expression_first scopes.now (expression_of e) walk.old.first)
+        (named.expression_of result ≡ named_expression scopes.now (expression_of e)) }
 {
     let (at, form) = e.parts();
-    let PassResult { tree, first } = have!(name_form(alloc, scopes, form, first));
-    Ok(PassResult {
-        tree: NamedExpr { at, form: tree },
-        first,
-    })
+    let form = name_form(alloc, scopes, walk, form);
+    NamedExpr { at, form }
 }
 
 #[cycle(expression)]
 fn name_boxed(
     alloc: Global,
     scopes: &Scopes,
+    walk: &mut Walk,
     e: Boxed<SynExpr>,
-    first: FirstRefusal,
-) -> Result<PassResult<Boxed<NamedExpr>>, Halt>
-    ensures { PassesTo named.expression_of result (named_expression scopes.now (expression_of e))
-        (expression_first scopes.now (expression_of e) first) }
+) -> Option<Boxed<NamedExpr>>
+    ensures { Keeps walk.old walk.new (expression_first scopes.now (expression_of e) walk.old.first)
+        (option_map named.expression_of result ≡ Some (named_expression scopes.now (expression_of e))) }
 {
-    let PassResult { tree, first } = have!(name_expression(alloc, scopes, e.into_inner(), first));
-    let tree = have!(Boxed::new(alloc, tree));
-    Ok(PassResult { tree, first })
+    let e = name_expression(alloc, scopes, walk, e.into_inner());
+    walk.boxed(alloc, e)
 }
 
 #[cycle(expression)]
-fn name_form(
-    alloc: Global,
-    scopes: &Scopes,
-    form: SynExprForm,
-    first: FirstRefusal,
-) -> Result<PassResult<NamedExprForm>, Halt>
-    ensures { PassesTo named.expression_form_of result (named_form scopes.now (expression_form_of form))
-        (form_first scopes.now (expression_form_of form) first) }
+fn name_form(alloc: Global, scopes: &Scopes, walk: &mut Walk, form: SynExprForm) -> NamedExprForm
+    ensures { Keeps walk.old walk.new (form_first scopes.now (expression_form_of form) walk.old.first)
+        (named.expression_form_of result ≡ named_form scopes.now (expression_form_of form)) }
 {
     match form {
-        SynExprForm::Number(n) => Ok(PassResult {
-            tree: NamedExprForm::Number(n),
-            first,
-        }),
-        SynExprForm::Quoted(t) => Ok(PassResult {
-            tree: NamedExprForm::Quoted(t),
-            first,
-        }),
-        SynExprForm::Read(v) => name_operand(alloc, scopes, v, first),
-        SynExprForm::Call(f, args) => name_function(alloc, scopes, args, f, first),
-        SynExprForm::Unary(op, a) => name_unary(alloc, scopes, a, op, first),
+        SynExprForm::Number(n) => NamedExprForm::Number(n),
+        SynExprForm::Quoted(t) => NamedExprForm::Quoted(t),
+        SynExprForm::Read(v) => name_operand(alloc, scopes, walk, v),
+        SynExprForm::Call(f, args) => name_function(alloc, scopes, walk, f, args),
+        SynExprForm::Unary(op, a) => {
+            let a = name_boxed(alloc, scopes, walk, a);
+            unary_form(op, a)
+        }
         SynExprForm::Binary(op, a, b) => {
-            let a = have!(name_boxed(alloc, scopes, a, first));
-            name_right(alloc, scopes, b, a.tree, op, a.first)
+            let a = name_boxed(alloc, scopes, walk, a);
+            let b = name_boxed(alloc, scopes, walk, b);
+            binary_form(op, a, b)
         }
     }
 }
 
-#[cycle(expression)]
-fn name_unary(
-    alloc: Global,
-    scopes: &Scopes,
-    a: Boxed<SynExpr>,
-    op: UnaryOp,
-    first: FirstRefusal,
-) -> Result<PassResult<NamedExprForm>, Halt>
-    ensures { PassesTo named.expression_form_of result (named_form scopes.now (Unary op (expression_of a)))
-        (form_first scopes.now (Unary op (expression_of a)) first) }
+/// An operand under its operator. If it is missing, the walk is lost, and this is no answer.
+fn unary_form(op: UnaryOp, a: Option<Boxed<NamedExpr>>) -> NamedExprForm
+    ensures { (x : n.Expression) → option_map named.expression_of a ≡ Some x
+        → named.expression_form_of result ≡ n.Unary op x }
 {
-    let PassResult { tree, first } = have!(name_boxed(alloc, scopes, a, first));
-    Ok(PassResult {
-        tree: NamedExprForm::Unary(op, tree),
-        first,
-    })
+    match a {
+        Some(a) => NamedExprForm::Unary(op, a),
+        None => NamedExprForm::Number(0),
+    }
 }
 
-/// The right operand, behind the left.
-#[cycle(expression)]
-fn name_right(
-    alloc: Global,
-    scopes: &Scopes,
-    b: Boxed<SynExpr>,
-    a: Boxed<NamedExpr>,
+/// Both operands, in the same way.
+fn binary_form(
     op: BinaryOp,
-    first: FirstRefusal,
-) -> Result<PassResult<NamedExprForm>, Halt>
-    ensures { PassesTo named.expression_form_of result
-        (n.Binary op (named.expression_of a) (named_expression scopes.now (expression_of b)))
-        (expression_first scopes.now (expression_of b) first) }
+    a: Option<Boxed<NamedExpr>>,
+    b: Option<Boxed<NamedExpr>>,
+) -> NamedExprForm
+    ensures { (x y : n.Expression) → option_map named.expression_of a ≡ Some x
+        → option_map named.expression_of b ≡ Some y → named.expression_form_of result ≡ n.Binary op x y }
 {
-    let PassResult { tree, first } = have!(name_boxed(alloc, scopes, b, first));
-    Ok(PassResult {
-        tree: NamedExprForm::Binary(op, a, tree),
-        first,
-    })
+    match a {
+        Some(a) => match b {
+            Some(b) => NamedExprForm::Binary(op, a, b),
+            None => NamedExprForm::Unary(UnaryOp::Plus, a),
+        },
+        None => unary_form(UnaryOp::Plus, b),
+    }
 }
 
 #[cycle(expression)]
-fn name_operand(
-    alloc: Global,
-    scopes: &Scopes,
-    v: SynVar,
-    first: FirstRefusal,
-) -> Result<PassResult<NamedExprForm>, Halt>
-    ensures { PassesTo named.expression_form_of result (named_operand scopes.now (variable_of v))
-        (operand_first scopes.now (variable_of v) first) }
+fn name_operand(alloc: Global, scopes: &Scopes, walk: &mut Walk, v: SynVar) -> NamedExprForm
+    ensures { Keeps walk.old walk.new (operand_first scopes.now (variable_of v) walk.old.first)
+        (named.expression_form_of result ≡ named_operand scopes.now (variable_of v)) }
 {
     let SynVar { name, selectors } = v;
+    let m = scopes.find(&name.text);
     let whole = is_whole(selectors.items());
-    let (m, first) = operand_name(scopes, &name, whole, first);
-    name_read(alloc, scopes, selectors, &name, m, first)
+    walk.first = operand_name(name.at, whole, m, walk.first);
+    let selectors = name_selectors(alloc, scopes, walk, selectors);
+    operand_form(alloc, m, &name, selectors)
 }
 
-/// What a name in an expression stands for, and the first broken rule up to its end.
-fn operand_name<'s>(
-    scopes: &'s Scopes,
-    x: &Name,
-    whole: bool,
-    first: FirstRefusal,
-) -> (Option<&'s Meaning>, FirstRefusal)
-    ensures found { option_copied result.0 ≡ find scopes.now x.now.text }
-    ensures first { result.1 ≡ earlier_refusal first (broken_rule scopes.now (Operand x.now whole)) }
+/// The first broken rule up to the end of the name of an operand, which stands for `m`.
+fn operand_name(at: Place, whole: bool, m: Option<&Meaning>, first: FirstRefusal) -> FirstRefusal
+    ensures { (env : Env) (x : Name) → x.at ≡ at → option_copied m.entry ≡ find env x.text
+        → result ≡ earlier_refusal first (broken_rule env (Operand x whole)) }
 {
-    let m = scopes.find(&x.text);
-    (m, earlier_refusal(first, operand_rule(x.at, whole, m)))
-}
-
-#[cycle(expression)]
-fn name_read(
-    alloc: Global,
-    scopes: &Scopes,
-    xs: List<SynSelector>,
-    x: &Name,
-    m: Option<&Meaning>,
-    first: FirstRefusal,
-) -> Result<PassResult<NamedExprForm>, Halt>
-    requires found { option_copied m ≡ find scopes.now x.now.text }
-    ensures { PassesTo named.expression_form_of result
-        (operand_named (find scopes.now x.now.text) x.now
-        (named.selectors (named_selectors scopes.now (selectors (map selector_of xs)))))
-        (selectors_first scopes.now (selectors (map selector_of xs)) first) }
-{
-    let PassResult { tree, first } = have!(name_selectors(alloc, scopes, xs, first));
-    Ok(PassResult {
-        tree: operand_form(alloc, m, x, tree),
-        first,
-    })
+    earlier_refusal(first, operand_rule(at, whole, m))
 }
 
 fn operand_form(
@@ -232,22 +175,18 @@ pub fn variable_number(m: Option<&Meaning>) -> u32
 fn name_function(
     alloc: Global,
     scopes: &Scopes,
-    args: List<SynArg>,
+    walk: &mut Walk,
     f: Name,
-    first: FirstRefusal,
-) -> Result<PassResult<NamedExprForm>, Halt>
-    ensures { PassesTo named.expression_form_of result
-        (named_form scopes.now (Apply f (arguments (map argument_of args))))
-        (form_first scopes.now (Apply f (arguments (map argument_of args))) first) }
+    args: List<SynArg>,
+) -> NamedExprForm
+    ensures { Keeps walk.old walk.new
+        (form_first scopes.now (Apply f (arguments (map argument_of args))) walk.old.first)
+        (named.expression_form_of result ≡ named_form scopes.now (Apply f (arguments (map argument_of args)))) }
 {
     let m = scopes.find(&f.text);
-    let broken = function_rule(f.at, count(args.items()), m);
-    let first = earlier_refusal(first, broken);
-    let args = have!(name_arguments(alloc, scopes, args, references_of(m), rest_of(m), first));
-    Ok(PassResult {
-        tree: function_form(m, f.at, args.tree),
-        first: args.first,
-    })
+    walk.note(function_rule(f.at, count(args.items()), m));
+    let args = name_arguments(alloc, scopes, walk, args, references_of(m), rest_of(m));
+    function_form(m, f.at, args)
 }
 
 fn function_form(m: Option<&Meaning>, at: Place, args: List<NamedArg>) -> NamedExprForm
@@ -266,126 +205,86 @@ fn function_form(m: Option<&Meaning>, at: Place, args: List<NamedArg>) -> NamedE
 pub fn name_arguments(
     alloc: Global,
     scopes: &Scopes,
+    walk: &mut Walk,
     xs: List<SynArg>,
     flags: &[bool],
     rest: Passing,
-    first: FirstRefusal,
-) -> Result<PassResult<List<NamedArg>>, Halt>
-    ensures { PassesTo (map named.argument_of) result (named_arguments scopes.now (arguments (map argument_of xs)))
-        (arguments_first scopes.now flags.now rest (arguments (map argument_of xs)) first) }
+) -> List<NamedArg>
+    ensures { Keeps walk.old walk.new
+        (arguments_first scopes.now flags.now rest (arguments (map argument_of xs)) walk.old.first)
+        (map named.argument_of result ≡ named_arguments scopes.now (arguments (map argument_of xs))) }
 {
     let mut out = Vec::new(alloc);
-    let mut first = first;
     let mut flags = flags;
     for x in xs.into_vec() {
-        let y = have!(name_argument(alloc, scopes, x, next_passing(flags, rest), first));
-        first = y.first;
+        let y = name_argument(alloc, scopes, walk, x, next_passing(flags, rest));
+        walk.push(&mut out, y);
         flags = others(flags);
-        out.push(y.tree)?;
     }
-    Ok(PassResult {
-        tree: List::of(out),
-        first,
-    })
+    List::of(out)
 }
 
 #[cycle(expression)]
-fn name_argument(
-    alloc: Global,
-    scopes: &Scopes,
-    a: SynArg,
-    p: Passing,
-    first: FirstRefusal,
-) -> Result<PassResult<NamedArg>, Halt>
-    ensures { PassesTo named.argument_of result (named_argument scopes.now (argument_of a))
-        (argument_first scopes.now p (argument_of a) first) }
+fn name_argument(alloc: Global, scopes: &Scopes, walk: &mut Walk, a: SynArg, p: Passing) -> NamedArg
+    ensures { Keeps walk.old walk.new (argument_first scopes.now p (argument_of a) walk.old.first)
+        (named.argument_of result ≡ named_argument scopes.now (argument_of a)) }
 {
     let SynArg { value, width } = a;
-    let at = value.at;
-    let width = have!(name_width(alloc, scopes, width, at, p, first));
-    let value = have!(name_passed(alloc, scopes, value, p, width.first));
-    Ok(PassResult {
-        tree: NamedArg {
-            value: value.tree,
-            width: width.tree,
-        },
-        first: value.first,
-    })
+    let width = name_width(alloc, scopes, walk, width, value.at, p);
+    let value = name_passed(alloc, scopes, walk, value, p);
+    NamedArg { value, width }
 }
 
 #[cycle(expression)]
 fn name_width(
     alloc: Global,
     scopes: &Scopes,
+    walk: &mut Walk,
     w: Option<SynExpr>,
     at: Place,
     p: Passing,
-    first: FirstRefusal,
-) -> Result<PassResult<Option<NamedExpr>>, Halt>
-    ensures { PassesTo width_of result
-        (named_width scopes.now (width (option_map expression_of w)))
-        (width_first scopes.now p at (width (option_map expression_of w)) first) }
+) -> Option<NamedExpr>
+    ensures { Keeps walk.old walk.new
+        (width_first scopes.now p at (width (option_map expression_of w)) walk.old.first)
+        (width_of result ≡ named_width scopes.now (width (option_map expression_of w))) }
 {
     match w {
-        None => Ok(PassResult { tree: None, first }),
+        None => None,
         Some(e) => {
-            let first = earlier_refusal(first, width_rule(at, p));
-            let PassResult { tree, first } = have!(name_expression(alloc, scopes, e, first));
-            Ok(PassResult {
-                tree: Some(tree),
-                first,
-            })
+            walk.note(width_rule(at, p));
+            Some(name_expression(alloc, scopes, walk, e))
         }
     }
 }
 
 #[cycle(expression)]
-fn name_passed(
-    alloc: Global,
-    scopes: &Scopes,
-    e: SynExpr,
-    p: Passing,
-    first: FirstRefusal,
-) -> Result<PassResult<NamedExpr>, Halt>
-    ensures { PassesTo named.expression_of result (named_expression scopes.now (expression_of e))
-        (passed_first scopes.now p (expression_of e) first) }
+fn name_passed(alloc: Global, scopes: &Scopes, walk: &mut Walk, e: SynExpr, p: Passing) -> NamedExpr
+    ensures { Keeps walk.old walk.new (passed_first scopes.now p (expression_of e) walk.old.first)
+        (named.expression_of result ≡ named_expression scopes.now (expression_of e)) }
 {
     let (at, form) = e.parts();
-    let PassResult { tree, first } = have!(name_passed_form(alloc, scopes, form, at, p, first));
-    Ok(PassResult {
-        tree: NamedExpr { at, form: tree },
-        first,
-    })
+    let form = name_passed_form(alloc, scopes, walk, form, at, p);
+    NamedExpr { at, form }
 }
 
 #[cycle(expression)]
 fn name_passed_form(
     alloc: Global,
     scopes: &Scopes,
+    walk: &mut Walk,
     form: SynExprForm,
     at: Place,
     p: Passing,
-    first: FirstRefusal,
-) -> Result<PassResult<NamedExprForm>, Halt>
-    ensures { PassesTo named.expression_form_of result (named_form scopes.now (expression_form_of form))
-        (passed_first scopes.now p (ExpressionAt at (expression_form_of form)) first) }
+) -> NamedExprForm
+    ensures { Keeps walk.old walk.new
+        (passed_first scopes.now p (ExpressionAt at (expression_form_of form)) walk.old.first)
+        (named.expression_form_of result ≡ named_form scopes.now (expression_form_of form)) }
 {
-    let bare = earlier_refusal(first, bare_rule(at, p));
     match form {
-        SynExprForm::Read(v) => name_passed_variable(alloc, scopes, v, at, p, first),
-        SynExprForm::Number(n) => Ok(PassResult {
-            tree: NamedExprForm::Number(n),
-            first: bare,
-        }),
-        SynExprForm::Quoted(t) => Ok(PassResult {
-            tree: NamedExprForm::Quoted(t),
-            first: bare,
-        }),
-        SynExprForm::Call(f, args) => name_function(alloc, scopes, args, f, bare),
-        SynExprForm::Unary(op, a) => name_unary(alloc, scopes, a, op, bare),
-        SynExprForm::Binary(op, a, b) => {
-            let a = have!(name_boxed(alloc, scopes, a, bare));
-            name_right(alloc, scopes, b, a.tree, op, a.first)
+        SynExprForm::Read(v) => name_passed_variable(alloc, scopes, walk, v, at, p),
+        form => {
+            walk.note(bare_rule(at, p));
+            name_form(alloc, scopes, walk, form)
         }
     }
 }
@@ -394,63 +293,51 @@ fn name_passed_form(
 fn name_passed_variable(
     alloc: Global,
     scopes: &Scopes,
+    walk: &mut Walk,
     v: SynVar,
     at: Place,
     p: Passing,
-    first: FirstRefusal,
-) -> Result<PassResult<NamedExprForm>, Halt>
-    ensures { PassesTo named.expression_form_of result (named_operand scopes.now (variable_of v))
-        (passed_first scopes.now p (ExpressionAt at (Read (variable_of v))) first) }
+) -> NamedExprForm
+    ensures { Keeps walk.old walk.new
+        (passed_first scopes.now p (ExpressionAt at (Read (variable_of v))) walk.old.first)
+        (named.expression_form_of result ≡ named_operand scopes.now (variable_of v)) }
 {
     let SynVar { name, selectors } = v;
+    let m = scopes.find(&name.text);
     let whole = is_whole(selectors.items());
-    let (m, first) = passed_name(scopes, p, at, &name, whole, first);
-    name_read(alloc, scopes, selectors, &name, m, first)
+    walk.first = passed_name(p, at, name.at, whole, m, walk.first);
+    let selectors = name_selectors(alloc, scopes, walk, selectors);
+    operand_form(alloc, m, &name, selectors)
 }
 
-/// What the name of an argument stands for, and the first broken rule up to its end.
-fn passed_name<'s>(
-    scopes: &'s Scopes,
+/// The first broken rule up to the end of the name of an argument, which stands for `m`.
+fn passed_name(
     p: Passing,
     at: Place,
-    x: &Name,
+    name_at: Place,
     whole: bool,
+    m: Option<&Meaning>,
     first: FirstRefusal,
-) -> (Option<&'s Meaning>, FirstRefusal)
-    ensures found { option_copied result.0 ≡ find scopes.now x.now.text }
-    ensures first { result.1 ≡ passed_name_first scopes.now p at x.now whole first }
+) -> FirstRefusal
+    ensures { (env : Env) (x : Name) → x.at ≡ name_at → option_copied m.entry ≡ find env x.text
+        → result ≡ passed_name_first env p at x whole first }
 {
-    let m = scopes.find(&x.text);
-    if needs_variable(p) && at == x.at {
-        (m, earlier_refusal(first, target_rule(x.at, m)))
+    if needs_variable(p) && at == name_at {
+        earlier_refusal(first, target_rule(name_at, m))
     } else {
         let first = earlier_refusal(first, bare_rule(at, p));
-        (m, earlier_refusal(first, operand_rule(x.at, whole, m)))
+        earlier_refusal(first, operand_rule(name_at, whole, m))
     }
 }
 
 #[cycle(expression)]
-fn name_selector(
-    alloc: Global,
-    scopes: &Scopes,
-    s: SynSelector,
-    first: FirstRefusal,
-) -> Result<PassResult<NamedSelector>, Halt>
-    ensures { PassesTo named.selector_of result (named_selector scopes.now (selector_of s))
-        (selector_first scopes.now (selector_of s) first) }
+fn name_selector(alloc: Global, scopes: &Scopes, walk: &mut Walk, s: SynSelector) -> NamedSelector
+    ensures { Keeps walk.old walk.new (selector_first scopes.now (selector_of s) walk.old.first)
+        (named.selector_of result ≡ named_selector scopes.now (selector_of s)) }
 {
     match s {
-        SynSelector::Index(e) => {
-            let PassResult { tree, first } = have!(name_expression(alloc, scopes, e, first));
-            Ok(PassResult {
-                tree: NamedSelector::Index(tree),
-                first,
-            })
-        }
-        SynSelector::Field(name) => Ok(PassResult {
-            tree: NamedSelector::Field(name.text),
-            first,
-        }),
+        SynSelector::Index(e) => { NamedSelector::Index(name_expression(alloc, scopes, walk, e)) }
+        SynSelector::Field(name) => NamedSelector::Field(name.text),
     }
 }
 
@@ -459,21 +346,16 @@ fn name_selector(
 pub fn name_selectors(
     alloc: Global,
     scopes: &Scopes,
+    walk: &mut Walk,
     xs: List<SynSelector>,
-    first: FirstRefusal,
-) -> Result<PassResult<List<NamedSelector>>, Halt>
-    ensures { PassesTo (map named.selector_of) result (named_selectors scopes.now (selectors (map selector_of xs)))
-        (selectors_first scopes.now (selectors (map selector_of xs)) first) }
+) -> List<NamedSelector>
+    ensures { Keeps walk.old walk.new (selectors_first scopes.now (selectors (map selector_of xs)) walk.old.first)
+        (map named.selector_of result ≡ named_selectors scopes.now (selectors (map selector_of xs))) }
 {
     let mut out = Vec::new(alloc);
-    let mut first = first;
     for x in xs.into_vec() {
-        let y = have!(name_selector(alloc, scopes, x, first));
-        first = y.first;
-        out.push(y.tree)?;
+        let y = name_selector(alloc, scopes, walk, x);
+        walk.push(&mut out, y);
     }
-    Ok(PassResult {
-        tree: List::of(out),
-        first,
-    })
+    List::of(out)
 }

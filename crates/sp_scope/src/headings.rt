@@ -1,22 +1,24 @@
 //! The walk through headings of procedures and functions.
 
 ghost use Rattle.std.specs.Prelude.{◌≡◌, ◌++◌, Ok, OnOk};
-ghost use Rattle.sp_tree.specs.PhaseResults.{Answers, AnswersAs};
+ghost use Rattle.sp_tree.specs.PhaseResults.{Answers};
 ghost use Rattle.sp_tree.specs.Scopes.{inner_env};
 ghost use Rattle.sp_tree.specs.NameWalk.{references, block_meaning, title_local};
 ghost use Rattle.sp_tree.specs.NamedTree.{answer_named, answer_of};
 ghost use Rattle.sp_tree.specs.NamedOf as named;
-ghost use Rattle.sp_scope.specs.Walks.{PassesTo, itself, seen_block, heading_named, declared_by};
+ghost use Rattle.sp_scope.specs.Walks.{seen_block, heading_named, declared_by};
+ghost use Rattle.sp_scope.specs.Carried.{Keeps};
 ghost use Rattle.sp_scope.specs.Flags.{flags, all_flags};
 ghost use Rattle.sp_scope.specs.Firsts.{answer_first, title_first};
 
-use crate::block_parts::{BlockParts, Heading, PassResult};
+use crate::block_parts::{BlockParts, Heading};
 use crate::blocks::block_in_front;
 use crate::declarations::{check_declares, check_kind, kind_number};
 use crate::have;
 use crate::numbers::{next_block, next_variable};
 use crate::scopes::Scopes;
 use crate::variables::{name_formals, numbers};
+use crate::walk::Walk;
 use sp_base::{Halt, List};
 use sp_tree::{
     FirstRefusal, Meaning, Name, Named, NamedAnswer, Role, Sort, SynFormal, Variable,
@@ -64,31 +66,28 @@ fn name_answer(
 pub fn name_heading(
     alloc: Global,
     scopes: &Scopes,
+    walk: &mut Walk,
     x: &Name,
     fs: &[SynFormal],
     answer: &Option<Name>,
-    first: FirstRefusal,
-) -> Result<PassResult<Heading>, Halt>
-    ensures { PassesTo itself result (heading_named scopes.now x.now fs.now answer.now)
-        (title_first scopes.now x.now fs.now answer.now first) }
+) -> Heading
+    ensures { Keeps walk.old walk.new (title_first scopes.now x.now fs.now answer.now walk.old.first)
+        (result ≡ heading_named scopes.now x.now fs.now answer.now) }
 {
-    let first = earlier_refusal(first, check_declares(scopes, x, Sort::Block));
-    let block = have!(next_block(scopes.counts()));
-    let formals = have!(name_formals(alloc, scopes, fs, block, first));
-    let first = check_answer(scopes, answer, formals.first);
-    let results = have!(name_answer(alloc, scopes, block, x, answer));
-    let number = have!(next_variable(scopes.counts()));
-    let numbers = have!(numbers(alloc, number, formals.tree.items()));
-    Ok(PassResult {
-        tree: Heading {
-            block,
-            parent: scopes.block(),
-            formals: formals.tree,
-            numbers,
-            results,
-        },
-        first,
-    })
+    walk.note(check_declares(scopes, x, Sort::Block));
+    let block = walk.number(next_block(scopes.counts()));
+    let formals = name_formals(alloc, scopes, walk, fs, block);
+    walk.first = check_answer(scopes, answer, walk.first);
+    let results = walk.list(alloc, name_answer(alloc, scopes, block, x, answer));
+    let number = walk.number(next_variable(scopes.counts()));
+    let numbers = walk.list(alloc, numbers(alloc, number, formals.items()));
+    Heading {
+        block,
+        parent: scopes.block(),
+        formals,
+        numbers,
+        results,
+    }
 }
 
 fn push_flags(out: &mut Vec<bool>, xs: &[Name], by_reference: bool) -> Result<(), Halt>
@@ -160,29 +159,17 @@ fn answer_of(variable: u32, answer: &Option<Name>) -> Option<NamedAnswer>
     }
 }
 
-/// The parameters, the result, the declared variables and the indices of a block.
-fn all_variables(
-    formals: List<Variable>,
-    results: List<Variable>,
-    declared: List<Variable>,
-    indices: List<Variable>,
-) -> Result<List<Variable>, Halt>
-    ensures { Answers result (Ok (formals ++ (results ++ (declared ++ indices)))) }
-{
-    let declared = declared.join(indices)?;
-    let results = results.join(declared)?;
-    Ok(formals.join(results)?)
-}
-
 /// What a procedure or function declares, by its heading and its block.
 pub fn procedure_part(
     alloc: Global,
+    walk: &mut Walk,
     h: Heading,
     x: &Name,
     answer: &Option<Name>,
     b: BlockParts,
-) -> Result<Named, Halt>
-    ensures { AnswersAs named.program_of result (Ok (declared_by h x.now answer.now (seen_block b))) }
+) -> Named
+    ensures { Keeps walk.old walk.new walk.old.first
+        (named.program_of result ≡ declared_by h x.now answer.now (seen_block b)) }
 {
     let BlockParts {
         answer: variable,
@@ -190,20 +177,25 @@ pub fn procedure_part(
         indices,
         parts,
     } = b;
-    let variables = have!(all_variables(h.formals, h.results, parts.variables, indices));
-    let blocks = have!(block_in_front(
+    let declared = walk.join(alloc, parts.variables, indices);
+    let behind = walk.join(alloc, h.results, declared);
+    let variables = walk.join(alloc, h.formals, behind);
+    let answer = answer_of(variable, answer);
+    let parent = Some(h.parent);
+    let blocks = block_in_front(
         alloc,
+        walk,
         x,
-        Some(h.parent),
+        parent,
         h.numbers,
-        answer_of(variable, answer),
+        answer,
         body,
         parts.blocks,
-    ));
-    Ok(Named {
+    );
+    Named {
         constants: parts.constants,
         kinds: parts.kinds,
         variables,
         blocks,
-    })
+    }
 }

@@ -12,13 +12,15 @@ ghost use Rattle.sp_tree.specs.SyntaxOf as plain;
 ghost use Rattle.sp_tree.specs.declared.checked.Role.TheVariants as role;
 ghost use Rattle.sp_scope.specs.Files.{files_flagged};
 ghost use Rattle.sp_scope.specs.Firsts.{files_first, block_first};
+ghost use Rattle.sp_scope.specs.Carried.{Keeps};
 ghost use Rattle.sp_scope.specs.Walks.{PassesTo, seen_block, standard_tables, own_tables};
 
 use crate::block_parts::{BlockParts, PassResult};
 use crate::blocks::{beside, block_in_front, name_block};
 use crate::have;
 use crate::scopes::Scopes;
-use sp_base::{Boxed, Halt, List, MAXINT, Place, Rule, Text};
+use crate::walk::Walk;
+use sp_base::{Halt, List, MAXINT, Place, Rule, Text};
 use sp_tree::{
     FirstRefusal, Name, Named, NamedConst, NamedConstant, NamedKind, NamedKindForm, NamedValue,
     Role, SynBlock, Syntax, Variable, breaks, breaks_if, earlier_refusal,
@@ -116,23 +118,21 @@ fn consoles(alloc: Global, at: Place) -> Result<List<Variable>, Halt>
 }
 
 /// The standard declarations, as tables of their own.
-fn standard_tables(alloc: Global, at: Place) -> Result<Named, Halt>
-    ensures { AnswersAs named.program_of result (Ok (standard_tables at)) }
+fn standard_tables(alloc: Global, walk: &mut Walk, at: Place) -> Named
+    ensures { Keeps walk.old walk.new walk.old.first (named.program_of result ≡ standard_tables at) }
 {
-    let constants = have!(standard_constants(alloc, at));
-    let kinds = have!(standard_kinds(alloc, at));
-    let variables = have!(consoles(alloc, at));
-    Ok(Named {
-        constants,
-        kinds,
-        variables,
+    Named {
+        constants: walk.list(alloc, standard_constants(alloc, at)),
+        kinds: walk.list(alloc, standard_kinds(alloc, at)),
+        variables: walk.list(alloc, consoles(alloc, at)),
         blocks: List::new(alloc),
-    })
+    }
 }
 
 /// What a program declares itself, and its own block.
-fn own_tables(alloc: Global, x: &Name, b: BlockParts) -> Result<Named, Halt>
-    ensures { AnswersAs named.program_of result (Ok (own_tables x.now (seen_block b))) }
+fn own_tables(alloc: Global, walk: &mut Walk, x: &Name, b: BlockParts) -> Named
+    ensures { Keeps walk.old walk.new walk.old.first
+        (named.program_of result ≡ own_tables x.now (seen_block b)) }
 {
     let BlockParts {
         answer: _,
@@ -140,23 +140,33 @@ fn own_tables(alloc: Global, x: &Name, b: BlockParts) -> Result<Named, Halt>
         indices,
         parts,
     } = b;
-    let variables = parts.variables.join(indices)?;
-    let blocks = have!(block_in_front(alloc, x, None, List::new(alloc), None, body, parts.blocks));
-    Ok(Named {
+    let variables = walk.join(alloc, parts.variables, indices);
+    let formals = List::new(alloc);
+    let blocks = block_in_front(alloc, walk, x, None, formals, None, body, parts.blocks);
+    Named {
         constants: parts.constants,
         kinds: parts.kinds,
         variables,
         blocks,
-    })
+    }
 }
 
 /// The tables of a program, with the standard declarations in front.
 fn program_tables(alloc: Global, x: &Name, b: BlockParts) -> Result<Named, Halt>
     ensures { AnswersAs named.program_of result (Ok (program_tables x.now (seen_block b))) }
 {
-    let own = have!(own_tables(alloc, x, b));
-    let standard = have!(standard_tables(alloc, x.at));
-    beside(standard, own)
+    let mut walk = Walk {
+        first: None,
+        is_lost: false,
+    };
+    let own = own_tables(alloc, &mut walk, x, b);
+    let standard = standard_tables(alloc, &mut walk, x.at);
+    let tables = beside(alloc, &mut walk, standard, own);
+    if walk.is_lost {
+        Err(Halt::Memory)
+    } else {
+        Ok(tables)
+    }
 }
 
 /// The block of a program, with the standard names around it.
@@ -169,9 +179,24 @@ fn name_program(
         (block_of block).body)
         (block_first (standard_scope ∷ []) empty_local (block_of block).parts (block_of block).body first) }
 {
-    let block = have!(Boxed::new(alloc, block));
-    let mut scopes = have!(Scopes::new(alloc));
-    name_block(block.into_inner(), alloc, &mut scopes, first)
+    let Ok(scopes) = Scopes::new(alloc) else {
+        drop(block);
+        return Err(Halt::Memory);
+    };
+    let mut scopes = scopes;
+    let mut walk = Walk {
+        first,
+        is_lost: false,
+    };
+    let tree = name_block(block, alloc, &mut scopes, &mut walk);
+    if walk.is_lost {
+        Err(Halt::Memory)
+    } else {
+        Ok(PassResult {
+            tree,
+            first: walk.first,
+        })
+    }
 }
 
 /// The tree with numbers for names, or the first rule among N1 to N8 and L4 that is broken: of the earliest place, and

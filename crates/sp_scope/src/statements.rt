@@ -1,39 +1,38 @@
 //! The walk through statements, with numbers for names.
 
-ghost use Rattle.std.specs.Prelude.{◌≡◌, map, None, Ok, OnOk, Some};
+ghost use Rattle.std.specs.Prelude.{◌≡◌, map, false, option_map, Some};
 ghost use Rattle.std.specs.Option.{option_copied};
-ghost use Rattle.sp_scope.specs.Walks.{PassesTo};
-ghost use Rattle.sp_tree.specs.Scopes.{find, inner_env, local_of_outer, next_variable};
+ghost use Rattle.sp_scope.specs.Carried.{Keeps};
+ghost use Rattle.sp_tree.specs.Scopes.{find, inner_env, local_of_outer};
 ghost use Rattle.sp_tree.specs.NameWalk.{statement_local, form_local, statements_local, arms_local};
-ghost use Rattle.sp_tree.specs.NameWalk.{arm_local, branches_local, index_local, local_of_index, blocks_around};
-ghost use Rattle.sp_tree.specs.NamedTree.{named_expression, named_target, named_statement, named_statement_form};
-ghost use Rattle.sp_tree.specs.NamedTree.{named_statements, named_arms, named_arm, named_branches};
+ghost use Rattle.sp_tree.specs.NameWalk.{arm_local, branches_local, index_local};
+ghost use Rattle.sp_tree.specs.NameWalk.{local_of_index, blocks_around, other_local};
+ghost use Rattle.sp_tree.specs.NamedTree.{named_target, named_statement, named_statement_form};
+ghost use Rattle.sp_tree.specs.NamedTree.{named_statements, named_arms, named_arm, named_branches, named_other};
 ghost use Rattle.sp_tree.specs.NamedTree.{named_arguments, procedure_named, assigned_number};
 ghost use Rattle.sp_tree.specs.NamedOf as named;
-ghost use Rattle.sp_tree.specs.PlainSyntax.{For, Forall, Repeat};
+ghost use Rattle.sp_tree.specs.PlainSyntax.{Assign, Repeat, For, Forall};
 ghost use Rattle.sp_tree.specs.PlainNamed as n;
 ghost use Rattle.sp_tree.specs.SyntaxOf.{expression_of, variable_of, arguments_of, statement_of, statement_form_of};
 ghost use Rattle.sp_tree.specs.SyntaxOf.{statements, statements_of, arms, arm_of, branches, branch_of};
-ghost use Rattle.sp_tree.specs.SyntaxOf.{selectors};
-ghost use Rattle.sp_scope.specs.Firsts.{expression_first, assigned_first, call_first, statement_first};
+ghost use Rattle.sp_tree.specs.SyntaxOf.{else_part};
+ghost use Rattle.sp_scope.specs.Firsts.{assigned_first, call_first, statement_first, other_first};
 ghost use Rattle.sp_scope.specs.Firsts.{statement_form_first, statements_first, arms_first, arm_first};
 ghost use Rattle.sp_scope.specs.Firsts.{branches_first, indexed_first, element_first};
 
-use crate::block_parts::PassResult;
 use crate::calls::{count, is_whole, references_of, rest_of};
 use crate::constants::name_constants;
 use crate::declarations::check_declares;
 use crate::expressions::{name_arguments, name_expression, name_selectors, variable_number};
-use crate::have;
 use crate::numbers::next_variable;
 use crate::rules::{assign_rule, loop_rule, procedure_rule};
 use crate::scopes::Scopes;
 use crate::variables::declare_variable;
-use sp_base::{Boxed, Halt, List};
+use crate::walk::Walk;
+use sp_base::{Boxed, List, Place};
 use sp_tree::{
-    FirstRefusal, Meaning, Name, NamedArg, NamedArm, NamedBranch, NamedExpr, NamedForm, NamedStmt,
-    NamedVar, Role, Sort, SynArg, SynArm, SynBranch, SynExpr, SynForm, SynStmt, SynVar,
-    earlier_refusal,
+    Meaning, Name, NamedArg, NamedArm, NamedBranch, NamedExpr, NamedForm, NamedStmt, NamedVar,
+    Role, Sort, SynArg, SynArm, SynBranch, SynExpr, SynForm, SynStmt, SynVar,
 };
 use std::alloc::Global;
 
@@ -48,48 +47,39 @@ fn assigned_number(answer: u32, m: Option<&Meaning>) -> u32
 }
 
 /// The left side of an assignment.
-fn name_assigned(
-    alloc: Global,
-    scopes: &Scopes,
-    v: SynVar,
-    first: FirstRefusal,
-) -> Result<PassResult<NamedVar>, Halt>
-    ensures { PassesTo named.variable_of result (named_target scopes.now (variable_of v))
-        (assigned_first scopes.now (variable_of v) first) }
+fn name_assigned(alloc: Global, scopes: &Scopes, walk: &mut Walk, v: SynVar) -> NamedVar
+    ensures { Keeps walk.old walk.new (assigned_first scopes.now (variable_of v) walk.old.first)
+        (named.variable_of result ≡ named_target scopes.now (variable_of v)) }
 {
     let SynVar { name, selectors } = v;
     let m = scopes.find(&name.text);
     let whole = is_whole(selectors.items());
-    let broken = assign_rule(scopes.block(), name.at, whole, m);
+    walk.note(assign_rule(scopes.block(), name.at, whole, m));
     let variable = assigned_number(scopes.answer(), m);
-    let selectors = have!(name_selectors(alloc, scopes, selectors, earlier_refusal(first, broken)));
-    Ok(PassResult {
-        tree: NamedVar {
-            variable,
-            at: name.at,
-            selectors: selectors.tree,
-        },
-        first: selectors.first,
-    })
+    let selectors = name_selectors(alloc, scopes, walk, selectors);
+    NamedVar {
+        variable,
+        at: name.at,
+        selectors,
+    }
 }
 
 fn name_assignment(
     alloc: Global,
     scopes: &Scopes,
+    walk: &mut Walk,
     v: SynVar,
     e: SynExpr,
-    first: FirstRefusal,
-) -> Result<PassResult<NamedForm>, Halt>
-    ensures { PassesTo named.statement_form_of result
-        (n.Assign (named_target scopes.now (variable_of v)) (named_expression scopes.now (expression_of e)))
-        (expression_first scopes.now (expression_of e) (assigned_first scopes.now (variable_of v) first)) }
+) -> NamedForm
+    ensures { Keeps walk.old walk.new
+        (statement_form_first scopes.now.around scopes.now.local (Assign (variable_of v) (expression_of e))
+        walk.old.first)
+        (named.statement_form_of result
+        ≡ named_statement_form scopes.now.around scopes.now.local (Assign (variable_of v) (expression_of e))) }
 {
-    let v = have!(name_assigned(alloc, scopes, v, first));
-    let e = have!(name_expression(alloc, scopes, e, v.first));
-    Ok(PassResult {
-        tree: NamedForm::Assign(v.tree, e.tree),
-        first: e.first,
-    })
+    let v = name_assigned(alloc, scopes, walk, v);
+    let e = name_expression(alloc, scopes, walk, e);
+    NamedForm::Assign(v, e)
 }
 
 fn procedure_form(m: Option<&Meaning>, args: List<NamedArg>) -> NamedForm
@@ -106,118 +96,87 @@ fn procedure_form(m: Option<&Meaning>, args: List<NamedArg>) -> NamedForm
 fn name_call(
     alloc: Global,
     scopes: &Scopes,
+    walk: &mut Walk,
     f: Name,
     args: List<SynArg>,
-    first: FirstRefusal,
-) -> Result<PassResult<NamedForm>, Halt>
-    ensures { PassesTo named.statement_form_of result
-        (procedure_named (find scopes.now f.text) (named.arguments (named_arguments scopes.now (arguments_of args))))
-        (call_first scopes.now f (arguments_of args) first) }
+) -> NamedForm
+    ensures { Keeps walk.old walk.new (call_first scopes.now f (arguments_of args) walk.old.first)
+        (named.statement_form_of result ≡ procedure_named (find scopes.now f.text)
+        (named.arguments (named_arguments scopes.now (arguments_of args)))) }
 {
     let m = scopes.find(&f.text);
-    let broken = procedure_rule(f.at, count(args.items()), m);
-    let first = earlier_refusal(first, broken);
-    let args = have!(name_arguments(alloc, scopes, args, references_of(m), rest_of(m), first));
-    Ok(PassResult {
-        tree: procedure_form(m, args.tree),
-        first: args.first,
-    })
+    walk.note(procedure_rule(f.at, count(args.items()), m));
+    let args = name_arguments(alloc, scopes, walk, args, references_of(m), rest_of(m));
+    procedure_form(m, args)
 }
 
 /// A statement. The blocks of its foralls are left again, but their indices are counted.
 #[cycle(statement)]
-fn name_statement(
-    alloc: Global,
-    scopes: &mut Scopes,
-    s: SynStmt,
-    first: FirstRefusal,
-) -> Result<PassResult<NamedStmt>, Halt>
-    ensures found { PassesTo named.statement_of result
-        (named_statement scopes.old.around scopes.old.local (statement_of s))
-        (statement_first scopes.old.around scopes.old.local (statement_of s) first) }
-    ensures after { OnOk result (scopes.new ≡ inner_env scopes.old.around
-        (statement_local scopes.old.local (statement_of s))) }
+pub fn name_statement(alloc: Global, scopes: &mut Scopes, walk: &mut Walk, s: SynStmt) -> NamedStmt
+    ensures found { Keeps walk.old walk.new (statement_first scopes.old.around scopes.old.local
+        (statement_of s) walk.old.first)
+        (named.statement_of result ≡ named_statement scopes.old.around scopes.old.local (statement_of s)) }
+    ensures after { walk.new.is_lost ≡ false → scopes.new ≡ inner_env scopes.old.around
+        (statement_local scopes.old.local (statement_of s)) }
 {
     let SynStmt { at, form } = s;
-    let PassResult { tree, first } = have!(name_statement_form(alloc, scopes, form, first));
-    Ok(PassResult {
-        tree: NamedStmt { at, form: tree },
-        first,
-    })
+    let form = name_statement_form(alloc, scopes, walk, form);
+    NamedStmt { at, form }
 }
 
 #[cycle(statement)]
-pub fn name_boxed_statement(
+fn name_boxed_statement(
     alloc: Global,
     scopes: &mut Scopes,
+    walk: &mut Walk,
     s: Boxed<SynStmt>,
-    first: FirstRefusal,
-) -> Result<PassResult<Boxed<NamedStmt>>, Halt>
-    ensures found { PassesTo named.statement_of result
-        (named_statement scopes.old.around scopes.old.local (statement_of s))
-        (statement_first scopes.old.around scopes.old.local (statement_of s) first) }
-    ensures after { OnOk result (scopes.new ≡ inner_env scopes.old.around
-        (statement_local scopes.old.local (statement_of s))) }
+) -> Option<Boxed<NamedStmt>>
+    ensures found { Keeps walk.old walk.new (statement_first scopes.old.around scopes.old.local
+        (statement_of s) walk.old.first)
+        (option_map named.statement_of result ≡ Some (named_statement scopes.old.around scopes.old.local
+        (statement_of s))) }
+    ensures after { walk.new.is_lost ≡ false → scopes.new ≡ inner_env scopes.old.around
+        (statement_local scopes.old.local (statement_of s)) }
 {
-    let PassResult { tree, first } = have!(name_statement(alloc, scopes, s.into_inner(), first));
-    let tree = have!(Boxed::new(alloc, tree));
-    Ok(PassResult { tree, first })
+    let s = name_statement(alloc, scopes, walk, s.into_inner());
+    walk.boxed(alloc, s)
 }
 
 #[cycle(statement)]
 fn name_statement_form(
     alloc: Global,
     scopes: &mut Scopes,
+    walk: &mut Walk,
     form: SynForm,
-    first: FirstRefusal,
-) -> Result<PassResult<NamedForm>, Halt>
-    ensures found { PassesTo named.statement_form_of result
-        (named_statement_form scopes.old.around scopes.old.local (statement_form_of form))
-        (statement_form_first scopes.old.around scopes.old.local (statement_form_of form) first) }
-    ensures after { OnOk result (scopes.new ≡ inner_env scopes.old.around
-        (form_local scopes.old.local (statement_form_of form))) }
+) -> NamedForm
+    ensures found { Keeps walk.old walk.new (statement_form_first scopes.old.around scopes.old.local
+        (statement_form_of form) walk.old.first)
+        (named.statement_form_of result ≡ named_statement_form scopes.old.around scopes.old.local
+        (statement_form_of form)) }
+    ensures after { walk.new.is_lost ≡ false → scopes.new ≡ inner_env scopes.old.around
+        (form_local scopes.old.local (statement_form_of form)) }
 {
     match form {
-        SynForm::Empty => Ok(PassResult {
-            tree: NamedForm::Empty,
-            first,
-        }),
-        SynForm::Assign(v, e) => name_assignment(alloc, scopes, v, e, first),
-        SynForm::Call(f, args) => name_call(alloc, scopes, f, args, first),
-        SynForm::Sequence(ss) => {
-            let ss = have!(name_statements(alloc, scopes, ss, first));
-            Ok(PassResult {
-                tree: NamedForm::Sequence(ss.tree),
-                first: ss.first,
-            })
-        }
+        SynForm::Empty => NamedForm::Empty,
+        SynForm::Assign(v, e) => name_assignment(alloc, scopes, walk, v, e),
+        SynForm::Call(f, args) => name_call(alloc, scopes, walk, f, args),
+        SynForm::Sequence(ss) => NamedForm::Sequence(name_statements(alloc, scopes, walk, ss)),
         SynForm::If(e, a, b) => {
-            let e = have!(name_expression(alloc, scopes, e, first));
-            let a = have!(name_boxed_statement(alloc, scopes, a, e.first));
-            match b {
-                None => Ok(PassResult {
-                    tree: NamedForm::If(e.tree, a.tree, None),
-                    first: a.first,
-                }),
-                Some(b) => name_else(alloc, scopes, b, e.tree, a.tree, a.first),
-            }
+            let e = name_expression(alloc, scopes, walk, e);
+            let a = name_boxed_statement(alloc, scopes, walk, a);
+            let b = name_else(alloc, scopes, walk, b);
+            if_form(e, a, b)
         }
         SynForm::While(e, a) => {
-            let e = have!(name_expression(alloc, scopes, e, first));
-            let a = have!(name_boxed_statement(alloc, scopes, a, e.first));
-            Ok(PassResult {
-                tree: NamedForm::While(e.tree, a.tree),
-                first: a.first,
-            })
+            let e = name_expression(alloc, scopes, walk, e);
+            let a = name_boxed_statement(alloc, scopes, walk, a);
+            while_form(e, a)
         }
-        SynForm::Repeat(ss, e) => name_repeat(alloc, scopes, ss, e, first),
-        SynForm::Case(e, arms) => {
-            let e = have!(name_expression(alloc, scopes, e, first));
-            let arms = have!(name_arms(alloc, scopes, arms, e.first));
-            Ok(PassResult {
-                tree: NamedForm::Case(e.tree, arms.tree),
-                first: arms.first,
-            })
+        SynForm::Repeat(ss, e) => name_repeat(alloc, scopes, walk, ss, e),
+        SynForm::Case(e, choices) => {
+            let e = name_expression(alloc, scopes, walk, e);
+            let choices = name_arms(alloc, scopes, walk, choices);
+            NamedForm::Case(e, choices)
         }
         SynForm::For {
             name,
@@ -225,59 +184,62 @@ fn name_statement_form(
             down,
             to,
             body,
-        } => name_for(alloc, scopes, body, name, from, down, to, first),
-        SynForm::Parallel(bs) => {
-            let bs = have!(name_branches(alloc, scopes, bs, first));
-            Ok(PassResult {
-                tree: NamedForm::Parallel(bs.tree),
-                first: bs.first,
-            })
-        }
+        } => name_for(alloc, scopes, walk, body, name, from, down, to),
+        SynForm::Parallel(bs) => NamedForm::Parallel(name_branches(alloc, scopes, walk, bs)),
         SynForm::Forall {
             name,
             from,
             to,
             body,
-        } => name_forall(alloc, scopes, body, name, from, to, first),
-        SynForm::Assume(e) => {
-            let e = have!(name_expression(alloc, scopes, e, first));
-            Ok(PassResult {
-                tree: NamedForm::Assume(e.tree),
-                first: e.first,
-            })
-        }
+        } => name_forall(alloc, scopes, walk, body, name, from, to),
+        SynForm::Assume(e) => NamedForm::Assume(name_expression(alloc, scopes, walk, e)),
     }
 }
 
-/// The statement of an `else`.
+/// The statement of an `else`, if there is one.
 #[cycle(statement)]
 fn name_else(
     alloc: Global,
     scopes: &mut Scopes,
-    b: Boxed<SynStmt>,
-    e: NamedExpr,
-    a: Boxed<NamedStmt>,
-    first: FirstRefusal,
-) -> Result<PassResult<NamedForm>, Halt>
-    ensures found { PassesTo named.statement_form_of result
-        (n.If (named.expression_of e) (named.statement_of a)
-        (n.Else (named_statement scopes.old.around scopes.old.local (statement_of b))))
-        (statement_first scopes.old.around scopes.old.local (statement_of b) first) }
-    ensures after { OnOk result (scopes.new ≡ inner_env scopes.old.around
-        (statement_local scopes.old.local (statement_of b))) }
+    walk: &mut Walk,
+    b: Option<Boxed<SynStmt>>,
+) -> Option<Boxed<NamedStmt>>
+    ensures found { Keeps walk.old walk.new (other_first scopes.old.around scopes.old.local (else_part
+        (option_map statement_of b)) walk.old.first)
+        (named.else_part (option_map named.statement_of result)
+        ≡ named_other scopes.old.around scopes.old.local (else_part (option_map statement_of b))) }
+    ensures after { walk.new.is_lost ≡ false → scopes.new ≡ inner_env scopes.old.around
+        (other_local scopes.old.local (else_part (option_map statement_of b))) }
 {
-    let b = have!(name_boxed_statement(alloc, scopes, b, first));
-    Ok(PassResult {
-        tree: else_form(e, a, b.tree),
-        first: b.first,
-    })
+    match b {
+        None => None,
+        Some(b) => {
+            let s = name_statement(alloc, scopes, walk, b.into_inner());
+            walk.boxed(alloc, s)
+        }
+    }
 }
 
-fn else_form(e: NamedExpr, a: Boxed<NamedStmt>, b: Boxed<NamedStmt>) -> NamedForm
-    ensures { named.statement_form_of result
-        ≡ n.If (named.expression_of e) (named.statement_of a) (n.Else (named.statement_of b)) }
+/// An `if`. If its statement is missing, the walk is lost, and this is no answer.
+fn if_form(e: NamedExpr, a: Option<Boxed<NamedStmt>>, b: Option<Boxed<NamedStmt>>) -> NamedForm
+    ensures { (s : n.Statement) → option_map named.statement_of a ≡ Some s → named.statement_form_of result
+        ≡ n.If (named.expression_of e) s (named.else_part (option_map named.statement_of b)) }
 {
-    NamedForm::If(e, a, Some(b))
+    match a {
+        Some(a) => NamedForm::If(e, a, b),
+        None => while_form(e, b),
+    }
+}
+
+/// A `while`, in the same way.
+fn while_form(e: NamedExpr, a: Option<Boxed<NamedStmt>>) -> NamedForm
+    ensures { (s : n.Statement) → option_map named.statement_of a ≡ Some s
+        → named.statement_form_of result ≡ n.While (named.expression_of e) s }
+{
+    match a {
+        Some(a) => NamedForm::While(e, a),
+        None => NamedForm::Assume(e),
+    }
 }
 
 fn repeat_form(ss: List<NamedStmt>, e: NamedExpr) -> NamedForm
@@ -290,94 +252,123 @@ fn repeat_form(ss: List<NamedStmt>, e: NamedExpr) -> NamedForm
 fn name_repeat(
     alloc: Global,
     scopes: &mut Scopes,
+    walk: &mut Walk,
     ss: List<SynStmt>,
     e: SynExpr,
-    first: FirstRefusal,
-) -> Result<PassResult<NamedForm>, Halt>
-    ensures found { PassesTo named.statement_form_of result
-        (named_statement_form scopes.old.around scopes.old.local (Repeat (statements_of ss) (expression_of e)))
-        (statement_form_first scopes.old.around scopes.old.local (Repeat (statements_of ss) (expression_of e)) first) }
-    ensures after { OnOk result (scopes.new ≡ inner_env scopes.old.around
-        (statements_local scopes.old.local (statements_of ss))) }
+) -> NamedForm
+    ensures found { Keeps walk.old walk.new (statement_form_first scopes.old.around scopes.old.local (Repeat
+        (statements_of ss) (expression_of e)) walk.old.first)
+        (named.statement_form_of result ≡ named_statement_form scopes.old.around scopes.old.local (Repeat
+        (statements_of ss) (expression_of e))) }
+    ensures after { walk.new.is_lost ≡ false → scopes.new ≡ inner_env scopes.old.around
+        (form_local scopes.old.local (Repeat (statements_of ss) (expression_of e))) }
 {
-    let ss = have!(name_statements(alloc, scopes, ss, first));
-    let e = have!(name_expression(alloc, scopes, e, ss.first));
-    Ok(PassResult {
-        tree: repeat_form(ss.tree, e.tree),
-        first: e.first,
-    })
+    let ss = name_statements(alloc, scopes, walk, ss);
+    let e = name_expression(alloc, scopes, walk, e);
+    repeat_form(ss, e)
 }
 
 #[cycle(statement)]
 fn name_for(
     alloc: Global,
     scopes: &mut Scopes,
+    walk: &mut Walk,
     body: Boxed<SynStmt>,
     name: Name,
     from: SynExpr,
     down: bool,
     to: SynExpr,
-    first: FirstRefusal,
-) -> Result<PassResult<NamedForm>, Halt>
-    ensures found { PassesTo named.statement_form_of result
-        (named_statement_form scopes.old.around scopes.old.local
-        (For name (expression_of from) down (expression_of to) (statement_of body)))
-        (statement_form_first scopes.old.around scopes.old.local
-        (For name (expression_of from) down (expression_of to) (statement_of body)) first) }
-    ensures after { OnOk result (scopes.new ≡ inner_env scopes.old.around
-        (statement_local scopes.old.local (statement_of body))) }
+) -> NamedForm
+    ensures found { Keeps walk.old walk.new (statement_form_first scopes.old.around scopes.old.local
+        (For name (expression_of from) down (expression_of to) (statement_of body)) walk.old.first)
+        (named.statement_form_of result ≡ named_statement_form scopes.old.around scopes.old.local
+        (For name (expression_of from) down (expression_of to) (statement_of body))) }
+    ensures after { walk.new.is_lost ≡ false → scopes.new ≡ inner_env scopes.old.around
+        (form_local scopes.old.local (For name (expression_of from) down (expression_of to) (statement_of body))) }
 {
     let m = scopes.find(&name.text);
-    let broken = loop_rule(scopes.block(), name.at, m);
     let variable = variable_number(m);
-    let from = have!(name_expression(alloc, scopes, from, earlier_refusal(first, broken)));
-    let to = have!(name_expression(alloc, scopes, to, from.first));
-    let body = have!(name_boxed_statement(alloc, scopes, body, to.first));
-    Ok(PassResult {
-        tree: NamedForm::For {
+    walk.note(loop_rule(scopes.block(), name.at, m));
+    let from = name_expression(alloc, scopes, walk, from);
+    let to = name_expression(alloc, scopes, walk, to);
+    let body = name_boxed_statement(alloc, scopes, walk, body);
+    for_form(variable, name.at, from, down, to, body)
+}
+
+/// A `for`. If its statement is missing, the walk is lost, and this is no answer.
+fn for_form(
+    variable: u32,
+    at: Place,
+    from: NamedExpr,
+    down: bool,
+    to: NamedExpr,
+    body: Option<Boxed<NamedStmt>>,
+) -> NamedForm
+    ensures { (s : n.Statement) → option_map named.statement_of body ≡ Some s → named.statement_form_of result
+        ≡ n.For variable at (named.expression_of from) down (named.expression_of to) s }
+{
+    match body {
+        Some(body) => NamedForm::For {
             variable,
-            at: name.at,
-            from: from.tree,
+            at,
+            from,
             down,
-            to: to.tree,
-            body: body.tree,
+            to,
+            body,
         },
-        first: body.first,
-    })
+        None => {
+            drop(to);
+            NamedForm::Assume(from)
+        }
+    }
+}
+
+/// A forall, in the same way.
+fn forall_form(
+    index: u32,
+    from: NamedExpr,
+    to: NamedExpr,
+    body: Option<Boxed<NamedStmt>>,
+) -> NamedForm
+    ensures { (s : n.Statement) → option_map named.statement_of body ≡ Some s → named.statement_form_of result
+        ≡ n.Forall index (named.expression_of from) (named.expression_of to) s }
+{
+    match body {
+        Some(body) => NamedForm::Forall {
+            index,
+            from,
+            to,
+            body,
+        },
+        None => {
+            drop(to);
+            NamedForm::Assume(from)
+        }
+    }
 }
 
 #[cycle(statement)]
 fn name_forall(
     alloc: Global,
     scopes: &mut Scopes,
+    walk: &mut Walk,
     body: Boxed<SynStmt>,
     name: Name,
     from: SynExpr,
     to: SynExpr,
-    first: FirstRefusal,
-) -> Result<PassResult<NamedForm>, Halt>
-    ensures found { PassesTo named.statement_form_of result
-        (named_statement_form scopes.old.around scopes.old.local
-        (Forall name (expression_of from) (expression_of to) (statement_of body)))
-        (statement_form_first scopes.old.around scopes.old.local
-        (Forall name (expression_of from) (expression_of to) (statement_of body)) first) }
-    ensures after { OnOk result (scopes.new
-        ≡ inner_env scopes.old.around (local_of_outer scopes.old.local
-        (statement_local (local_of_index scopes.old.local name) (statement_of body)))) }
+) -> NamedForm
+    ensures found { Keeps walk.old walk.new (statement_form_first scopes.old.around scopes.old.local
+        (Forall name (expression_of from) (expression_of to) (statement_of body)) walk.old.first)
+        (named.statement_form_of result ≡ named_statement_form scopes.old.around scopes.old.local
+        (Forall name (expression_of from) (expression_of to) (statement_of body))) }
+    ensures after { walk.new.is_lost ≡ false → scopes.new ≡ inner_env scopes.old.around
+        (form_local scopes.old.local (Forall name (expression_of from) (expression_of to) (statement_of body))) }
 {
-    let index = have!(next_variable(scopes.counts()));
-    let from = have!(name_expression(alloc, scopes, from, first));
-    let to = have!(name_expression(alloc, scopes, to, from.first));
-    let body = have!(name_element(alloc, scopes, body, &name, to.first));
-    Ok(PassResult {
-        tree: NamedForm::Forall {
-            index,
-            from: from.tree,
-            to: to.tree,
-            body: body.tree,
-        },
-        first: body.first,
-    })
+    let index = walk.number(next_variable(scopes.counts()));
+    let from = name_expression(alloc, scopes, walk, from);
+    let to = name_expression(alloc, scopes, walk, to);
+    let body = name_element(alloc, scopes, walk, body, &name);
+    forall_form(index, from, to, body)
 }
 
 /// The element statement of a forall, in a block of its own with the index.
@@ -385,168 +376,134 @@ fn name_forall(
 fn name_element(
     alloc: Global,
     scopes: &mut Scopes,
+    walk: &mut Walk,
     body: Boxed<SynStmt>,
     x: &Name,
-    first: FirstRefusal,
-) -> Result<PassResult<Boxed<NamedStmt>>, Halt>
-    ensures found { PassesTo named.statement_of result
-        (named_statement (blocks_around scopes.old.around scopes.old.local) (local_of_index scopes.old.local x.now)
-        (statement_of body))
-        (element_first scopes.old.around scopes.old.local x.now (statement_of body) first) }
-    ensures after { OnOk result (scopes.new
-        ≡ inner_env scopes.old.around (local_of_outer scopes.old.local
-        (statement_local (local_of_index scopes.old.local x.now) (statement_of body)))) }
+) -> Option<Boxed<NamedStmt>>
+    ensures found { Keeps walk.old walk.new (element_first scopes.old.around scopes.old.local x.now
+        (statement_of body) walk.old.first)
+        (option_map named.statement_of result ≡ Some (named_statement (blocks_around scopes.old.around scopes.old.local)
+        (local_of_index scopes.old.local x.now) (statement_of body))) }
+    ensures after { walk.new.is_lost ≡ false → scopes.new ≡ inner_env scopes.old.around
+        (local_of_outer scopes.old.local (statement_local (local_of_index scopes.old.local x.now)
+        (statement_of body))) }
 {
     let block = scopes.block();
     let answer = scopes.answer();
-    have!(scopes.open(alloc, block, answer));
-    let body = have!(name_indexed(alloc, scopes, body, x, first));
+    walk.after(scopes.open(alloc, block, answer));
+    let body = name_indexed(alloc, scopes, walk, body, x);
     scopes.leave(block, answer);
-    Ok(body)
+    body
 }
 
 #[cycle(statement)]
 fn name_indexed(
     alloc: Global,
     scopes: &mut Scopes,
+    walk: &mut Walk,
     body: Boxed<SynStmt>,
     x: &Name,
-    first: FirstRefusal,
-) -> Result<PassResult<Boxed<NamedStmt>>, Halt>
-    ensures found { PassesTo named.statement_of result
-        (named_statement scopes.old.around (index_local scopes.old.local x.now) (statement_of body))
-        (indexed_first scopes.old.around scopes.old.local x.now (statement_of body) first) }
-    ensures after { OnOk result (scopes.new ≡ inner_env scopes.old.around
-        (statement_local (index_local scopes.old.local x.now) (statement_of body))) }
+) -> Option<Boxed<NamedStmt>>
+    ensures found { Keeps walk.old walk.new (indexed_first scopes.old.around scopes.old.local x.now
+        (statement_of body) walk.old.first)
+        (option_map named.statement_of result
+        ≡ Some (named_statement scopes.old.around (index_local scopes.old.local x.now) (statement_of body))) }
+    ensures after { walk.new.is_lost ≡ false → scopes.new ≡ inner_env scopes.old.around
+        (statement_local (index_local scopes.old.local x.now) (statement_of body)) }
 {
-    let first = earlier_refusal(first, check_declares(scopes, x, Sort::Variable));
-    have!(declare_variable(alloc, scopes, x, Role::Index));
-    name_boxed_statement(alloc, scopes, body, first)
+    walk.note(check_declares(scopes, x, Sort::Variable));
+    walk.after(declare_variable(alloc, scopes, x, Role::Index));
+    name_boxed_statement(alloc, scopes, walk, body)
 }
 
 #[cycle(statement)]
 fn name_statements(
     alloc: Global,
     scopes: &mut Scopes,
+    walk: &mut Walk,
     ss: List<SynStmt>,
-    first: FirstRefusal,
-) -> Result<PassResult<List<NamedStmt>>, Halt>
-    ensures found { PassesTo (map named.statement_of) result
-        (named_statements scopes.old.around scopes.old.local (statements (map statement_of ss)))
-        (statements_first scopes.old.around scopes.old.local (statements (map statement_of ss)) first) }
-    ensures after { OnOk result (scopes.new ≡ inner_env scopes.old.around
-        (statements_local scopes.old.local (statements (map statement_of ss)))) }
+) -> List<NamedStmt>
+    ensures found { Keeps walk.old walk.new (statements_first scopes.old.around scopes.old.local (statements
+        (map statement_of ss)) walk.old.first)
+        (map named.statement_of result ≡ named_statements scopes.old.around scopes.old.local (statements
+        (map statement_of ss))) }
+    ensures after { walk.new.is_lost ≡ false → scopes.new ≡ inner_env scopes.old.around
+        (statements_local scopes.old.local (statements (map statement_of ss))) }
 {
     let mut out = Vec::new(alloc);
-    let mut first = first;
     for s in ss.into_vec() {
-        let t = have!(name_statement(alloc, scopes, s, first));
-        first = t.first;
-        out.push(t.tree)?;
+        let t = name_statement(alloc, scopes, walk, s);
+        walk.push(&mut out, t);
     }
-    Ok(PassResult {
-        tree: List::of(out),
-        first,
-    })
+    List::of(out)
 }
 
 #[cycle(statement)]
-fn name_arm(
-    alloc: Global,
-    scopes: &mut Scopes,
-    a: SynArm,
-    first: FirstRefusal,
-) -> Result<PassResult<NamedArm>, Halt>
-    ensures found { PassesTo named.arm_of result (named_arm scopes.old.around scopes.old.local (arm_of a))
-        (arm_first scopes.old.around scopes.old.local (arm_of a) first) }
-    ensures after { OnOk result (scopes.new ≡ inner_env scopes.old.around (arm_local scopes.old.local (arm_of a))) }
+fn name_arm(alloc: Global, scopes: &mut Scopes, walk: &mut Walk, a: SynArm) -> NamedArm
+    ensures found { Keeps walk.old walk.new (arm_first scopes.old.around scopes.old.local (arm_of a) walk.old.first)
+        (named.arm_of result ≡ named_arm scopes.old.around scopes.old.local (arm_of a)) }
+    ensures after { walk.new.is_lost ≡ false → scopes.new ≡ inner_env scopes.old.around
+        (arm_local scopes.old.local (arm_of a)) }
 {
     let SynArm { constants, body } = a;
-    let Ok(constants) = name_constants(alloc, scopes, constants, first) else {
-        drop(body);
-        return Err(Halt::Memory);
-    };
-    let body = have!(name_statement(alloc, scopes, body, constants.first));
-    Ok(PassResult {
-        tree: NamedArm {
-            constants: constants.tree,
-            body: body.tree,
-        },
-        first: body.first,
-    })
+    let constants = name_constants(alloc, scopes, walk, constants);
+    let body = name_statement(alloc, scopes, walk, body);
+    NamedArm { constants, body }
 }
 
 #[cycle(statement)]
 fn name_arms(
     alloc: Global,
     scopes: &mut Scopes,
+    walk: &mut Walk,
     choices: List<SynArm>,
-    first: FirstRefusal,
-) -> Result<PassResult<List<NamedArm>>, Halt>
-    ensures found { PassesTo (map named.arm_of) result
-        (named_arms scopes.old.around scopes.old.local (arms (map arm_of choices)))
-        (arms_first scopes.old.around scopes.old.local (arms (map arm_of choices)) first) }
-    ensures after { OnOk result (scopes.new ≡ inner_env scopes.old.around
-        (arms_local scopes.old.local (arms (map arm_of choices)))) }
+) -> List<NamedArm>
+    ensures found { Keeps walk.old walk.new (arms_first scopes.old.around scopes.old.local (arms
+        (map arm_of choices)) walk.old.first)
+        (map named.arm_of result ≡ named_arms scopes.old.around scopes.old.local (arms (map arm_of choices))) }
+    ensures after { walk.new.is_lost ≡ false → scopes.new ≡ inner_env scopes.old.around
+        (arms_local scopes.old.local (arms (map arm_of choices))) }
 {
     let mut out = Vec::new(alloc);
-    let mut first = first;
     for a in choices.into_vec() {
-        let t = have!(name_arm(alloc, scopes, a, first));
-        first = t.first;
-        out.push(t.tree)?;
+        let t = name_arm(alloc, scopes, walk, a);
+        walk.push(&mut out, t);
     }
-    Ok(PassResult {
-        tree: List::of(out),
-        first,
-    })
+    List::of(out)
 }
 
 #[cycle(statement)]
-fn name_branch(
-    alloc: Global,
-    scopes: &mut Scopes,
-    b: SynBranch,
-    first: FirstRefusal,
-) -> Result<PassResult<NamedBranch>, Halt>
-    ensures found { PassesTo named.branch_of result
-        (named.statements (named_statements scopes.old.around scopes.old.local (branch_of b)))
-        (statements_first scopes.old.around scopes.old.local (branch_of b) first) }
-    ensures after { OnOk result (scopes.new ≡ inner_env scopes.old.around
-        (statements_local scopes.old.local (branch_of b))) }
+fn name_branch(alloc: Global, scopes: &mut Scopes, walk: &mut Walk, b: SynBranch) -> NamedBranch
+    ensures found { Keeps walk.old walk.new (statements_first scopes.old.around scopes.old.local
+        (branch_of b) walk.old.first)
+        (named.branch_of result ≡ named.statements (named_statements scopes.old.around scopes.old.local
+        (branch_of b))) }
+    ensures after { walk.new.is_lost ≡ false → scopes.new ≡ inner_env scopes.old.around
+        (statements_local scopes.old.local (branch_of b)) }
 {
     let SynBranch { statements } = b;
-    let ss = have!(name_statements(alloc, scopes, statements, first));
-    Ok(PassResult {
-        tree: NamedBranch {
-            statements: ss.tree,
-        },
-        first: ss.first,
-    })
+    NamedBranch {
+        statements: name_statements(alloc, scopes, walk, statements),
+    }
 }
 
 #[cycle(statement)]
 fn name_branches(
     alloc: Global,
     scopes: &mut Scopes,
+    walk: &mut Walk,
     bs: List<SynBranch>,
-    first: FirstRefusal,
-) -> Result<PassResult<List<NamedBranch>>, Halt>
-    ensures found { PassesTo (map named.branch_of) result
-        (named_branches scopes.old.around scopes.old.local (branches (map branch_of bs)))
-        (branches_first scopes.old.around scopes.old.local (branches (map branch_of bs)) first) }
-    ensures after { OnOk result (scopes.new ≡ inner_env scopes.old.around
-        (branches_local scopes.old.local (branches (map branch_of bs)))) }
+) -> List<NamedBranch>
+    ensures found { Keeps walk.old walk.new (branches_first scopes.old.around scopes.old.local (branches
+        (map branch_of bs)) walk.old.first)
+        (map named.branch_of result ≡ named_branches scopes.old.around scopes.old.local (branches (map branch_of bs))) }
+    ensures after { walk.new.is_lost ≡ false → scopes.new ≡ inner_env scopes.old.around
+        (branches_local scopes.old.local (branches (map branch_of bs))) }
 {
     let mut out = Vec::new(alloc);
-    let mut first = first;
     for b in bs.into_vec() {
-        let t = have!(name_branch(alloc, scopes, b, first));
-        first = t.first;
-        out.push(t.tree)?;
+        let t = name_branch(alloc, scopes, walk, b);
+        walk.push(&mut out, t);
     }
-    Ok(PassResult {
-        tree: List::of(out),
-        first,
-    })
+    List::of(out)
 }

@@ -6,16 +6,16 @@ ghost use Rattle.sp_tree.specs.Scopes.{inner_env, with_declaration, variable};
 ghost use Rattle.sp_tree.specs.declared.meaning.Sort.TheVariants as sort;
 ghost use Rattle.sp_tree.specs.NameWalk.{names_local, formals_local, role_of};
 ghost use Rattle.sp_tree.specs.NamedTree.{variables_named, formals_named, numbers};
-ghost use Rattle.sp_scope.specs.Walks.{PassesTo, itself};
+ghost use Rattle.sp_scope.specs.Carried.{Keeps};
 ghost use Rattle.sp_scope.specs.Firsts.{names_first, formals_first, heading_first};
 
-use crate::block_parts::PassResult;
 use crate::declarations::{check_declares, check_kind, kind_number};
 use crate::have;
 use crate::numbers::{more, next_variable};
 use crate::scopes::Scopes;
+use crate::walk::Walk;
 use sp_base::{Halt, List};
-use sp_tree::{FirstRefusal, Meaning, Name, Role, Sort, SynFormal, Variable, earlier_refusal};
+use sp_tree::{Meaning, Name, Role, Sort, SynFormal, Variable};
 use std::alloc::Global;
 
 /// Declares a variable of a role in the innermost block.
@@ -47,19 +47,17 @@ pub fn declare_variable(
 pub fn declare_variables(
     alloc: Global,
     scopes: &mut Scopes,
+    walk: &mut Walk,
     xs: &[Name],
     role: Role,
-    first: FirstRefusal,
-) -> Result<FirstRefusal, Halt>
-    ensures found { Answers result (Ok (names_first scopes.old.around role scopes.old.local xs.now first)) }
-    ensures after { OnOk result (scopes.new ≡ inner_env scopes.old.around (names_local role scopes.old.local xs.now)) }
+)
+    ensures { Keeps walk.old walk.new (names_first scopes.old.around role scopes.old.local xs.now walk.old.first)
+        (scopes.new ≡ inner_env scopes.old.around (names_local role scopes.old.local xs.now)) }
 {
-    let mut first = first;
     for x in xs {
-        first = earlier_refusal(first, check_declares(scopes, x, Sort::Variable));
-        have!(declare_variable(alloc, scopes, x, role));
+        walk.note(check_declares(scopes, x, Sort::Variable));
+        walk.after(declare_variable(alloc, scopes, x, role));
     }
-    Ok(first)
 }
 
 fn role_of(by_reference: bool) -> Role
@@ -73,26 +71,19 @@ fn role_of(by_reference: bool) -> Role
 }
 
 /// Declares parameters in the innermost block.
-pub fn declare_formals(
-    alloc: Global,
-    scopes: &mut Scopes,
-    fs: &[SynFormal],
-    first: FirstRefusal,
-) -> Result<FirstRefusal, Halt>
-    ensures found { Answers result (Ok (formals_first scopes.old.around scopes.old.local fs.now first)) }
-    ensures after { OnOk result (scopes.new ≡ inner_env scopes.old.around (formals_local scopes.old.local fs.now)) }
+pub fn declare_formals(alloc: Global, scopes: &mut Scopes, walk: &mut Walk, fs: &[SynFormal])
+    ensures { Keeps walk.old walk.new (formals_first scopes.old.around scopes.old.local fs.now walk.old.first)
+        (scopes.new ≡ inner_env scopes.old.around (formals_local scopes.old.local fs.now)) }
 {
-    let mut first = first;
     for f in fs {
-        first = have!(declare_variables(
+        declare_variables(
             alloc,
             scopes,
+            walk,
             f.names.items(),
             role_of(f.by_reference),
-            first,
-        ));
+        );
     }
-    Ok(first)
 }
 
 /// Puts variables of one type behind those of the table.
@@ -124,18 +115,18 @@ pub fn push_variables(
 pub fn name_formals(
     alloc: Global,
     scopes: &Scopes,
+    walk: &mut Walk,
     fs: &[SynFormal],
     block: u32,
-    first: FirstRefusal,
-) -> Result<PassResult<List<Variable>>, Halt>
-    ensures { PassesTo itself result (formals_named scopes.now block fs.now) (heading_first scopes.now fs.now first) }
+) -> List<Variable>
+    ensures { Keeps walk.old walk.new (heading_first scopes.now fs.now walk.old.first)
+        (result ≡ formals_named scopes.now block fs.now) }
 {
     let mut out = Vec::new(alloc);
-    let mut first = first;
     for f in fs {
-        first = earlier_refusal(first, check_kind(scopes, &f.kind));
+        walk.note(check_kind(scopes, &f.kind));
         let kind = kind_number(scopes.find(&f.kind.text));
-        have!(push_variables(
+        walk.after(push_variables(
             alloc,
             &mut out,
             f.names.items(),
@@ -144,10 +135,7 @@ pub fn name_formals(
             kind,
         ));
     }
-    Ok(PassResult {
-        tree: List::of(out),
-        first,
-    })
+    List::of(out)
 }
 
 /// As many numbers from one on as there are variables.

@@ -1,4 +1,4 @@
-use Rattle.std.proofs.Common.{◌≡◌, map}
+use Rattle.std.proofs.Common.{◌≡◌, map, false}
 use Rattle.std.specs.Vec.Iter.{into_iter_items}
 use Rattle.sp_tree.specs.Scopes.{inner_env}
 use Rattle.sp_tree.specs.NameWalk.{parts_local}
@@ -12,10 +12,11 @@ abbrev pub invariant-name_parts-loop-p : goal.invariant-name_parts-loop-p
 invariant-name_parts-loop-p l =
     (goal.iterator-name_parts-loop-p).can_next l.p-iterator ×
     (goal.iterator-name_parts-loop-p).is_finite l.p-iterator ×
+    (l.walk.is_lost ≡ false → (l.fn.walk.is_lost ≡ false) ×
+    (parts_first l.scopes.around l.scopes.local (parts (map part_of (into_iter_items l.p-iterator))) l.walk.first
+    ≡ parts_first l.fn.scopes.around l.fn.scopes.local (parts (map part_of l.fn.ps)) l.fn.walk.first) ×
     (appended_tables (named.program_of l.out) (parts_named l.scopes.around l.scopes.local
     (parts (map part_of (into_iter_items l.p-iterator))))
     ≡ parts_named l.fn.scopes.around l.fn.scopes.local (parts (map part_of l.fn.ps))) ×
-    (parts_first l.scopes.around l.scopes.local (parts (map part_of (into_iter_items l.p-iterator))) l.first
-    ≡ parts_first l.fn.scopes.around l.fn.scopes.local (parts (map part_of l.fn.ps)) l.fn.first) ×
     (inner_env l.scopes.around (parts_local l.scopes.local (parts (map part_of (into_iter_items l.p-iterator))))
-    ≡ inner_env l.fn.scopes.around (parts_local l.fn.scopes.local (parts (map part_of l.fn.ps))))
+    ≡ inner_env l.fn.scopes.around (parts_local l.fn.scopes.local (parts (map part_of l.fn.ps)))))

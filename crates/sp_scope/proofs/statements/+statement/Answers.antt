@@ -1,16 +1,15 @@
-use Rattle.std.proofs.Common.{map, arith}
+use Rattle.std.proofs.Common.{arith, sym, ◌∙◌, Some}
 use Rattle.std.proofs.lemmas.Grind.{common_steps}
+use Rattle.sp_tree.specs.PhaseResults.{earlier_refusal}
+use Rattle.sp_tree.specs.SyntaxOf.{expression_of, statement_of}
+use Rattle.sp_tree.specs.NameWalk.{statement_local, index_local, blocks_around}
+use Rattle.sp_tree.specs.NamedTree.{named_expression, named_statement}
 use Rattle.sp_tree.specs.NamedOf as named
-use Rattle.sp_tree.specs.SyntaxOf.{expression_of}
-use Rattle.sp_scope.proofs.PartBreaches.{repeat_found}
+use Rattle.sp_tree.specs.PlainNamed as n
+use Rattle.sp_tree.specs.Scopes.{inner_env, local_of_inner}
+use Rattle.sp_scope.specs.Firsts.{expression_first, statement_first, indexed_first}
+use Rattle.sp_scope.proofs.Carrying.{noted}
 use Rattle.sp_scope.proofs.statements.+statement.Goals as goal
-
-pub name_repeat-returns-clause-found : goal.name_repeat-returns-clause-found
-name_repeat-returns-clause-found t c =
-    repeat_found _ (map named.statement_of c.in-Ok.value.tree) _ c.in-Ok.value.first
-    c.in-Ok-name_expression.value.first _ _
-    (expression_of c.args.e) (named.expression_of c.in-Ok-name_expression.value.tree) _
-    c.in-Ok.ensures.found c.in-Ok.ensures.after c.in-Ok-name_expression.ensures c.repeat_form.ensures
 
 pub name_statements-loop-s-preserved : goal.name_statements-loop-s-preserved
 name_statements-loop-s-preserved t c = grind (arith, common_steps)
@@ -38,3 +37,75 @@ name_branches-returns-clause-found t c = grind (arith, common_steps)
 
 pub name_branches-returns-clause-after : goal.name_branches-returns-clause-after
 name_branches-returns-clause-after t c = grind (arith, common_steps)
+
+pub name_repeat-returns-clause-found : goal.name_repeat-returns-clause-found
+name_repeat-returns-clause-found t c k =
+    let e = c.name_expression-e.ensures k in
+    let s = c.name_statements-ss.ensures.found e.0 in
+    let a = c.name_statements-ss.ensures.after e.0 in
+    let condition = e.2 ∙ (λ j. named_expression (a j) (expression_of c.args.e)) in (
+      s.0,
+      e.1 ∙ (λ j. expression_first (a j) (expression_of c.args.e) (s.1 j)),
+      c.repeat_form.ensures ∙ (λ j. n.Repeat (named.statements (s.2 j)) (condition j)),
+    )
+
+pub name_indexed-returns-clause-found : goal.name_indexed-returns-clause-found
+name_indexed-returns-clause-found t c k =
+    let body = statement_of c.args.body in
+    let around = c.args.scopes.now.around in
+    let local = index_local c.args.scopes.now.local c.args.x.now in
+    let b = c.name_boxed_statement.ensures.found k in
+    let a = c.after.ensures b.0 in
+    let o = noted c.declare_variable.result c.declare_variable.ensures.after a.2 in (
+      sym (λ j. (c.note.ensures j).is_lost) ∙ a.0,
+      b.1 ∙ (λ j. statement_first (o j).around (o j).local body (a.1 j))
+          ∙ (λ j. statement_first around local body (c.note.ensures j).first)
+          ∙ (λ j. statement_first around local body
+          (earlier_refusal c.args.walk.now.first (c.check_declares.ensures j))),
+      b.2 ∙ (λ j. Some (named_statement (o j).around (o j).local body)),
+    )
+
+pub name_indexed-returns-clause-after : goal.name_indexed-returns-clause-after
+name_indexed-returns-clause-after t c k =
+    let b = c.name_boxed_statement.ensures.found k in
+    let a = c.after.ensures b.0 in
+    let o = noted c.declare_variable.result c.declare_variable.ensures.after a.2 in
+    c.name_boxed_statement.ensures.after k
+    ∙ (λ j. inner_env (o j).around (statement_local (o j).local (statement_of c.args.body)))
+
+pub name_element-returns-clause-found : goal.name_element-returns-clause-found
+name_element-returns-clause-found t c k =
+    let body = statement_of c.args.body in
+    let x = c.args.x.now in
+    let around = c.args.scopes.now.around in
+    let local = c.args.scopes.now.local in
+    let b = c.name_indexed-body.ensures.found k in
+    let a = c.after.ensures b.0 in
+    let o = noted c.open.result c.open.ensures.after a.2
+    ∙ (λ j. inner_env (blocks_around around local)
+    (local_of_inner (c.block-block.ensures j) (c.answer-answer.ensures j) local)) in (
+      a.0,
+      b.1 ∙ (λ j. indexed_first (o j).around (o j).local x body (a.1 j)),
+      b.2 ∙ (λ j. Some (named_statement (o j).around (index_local (o j).local x) body)),
+    )
+
+pub name_element-returns-clause-after : goal.name_element-returns-clause-after
+name_element-returns-clause-after t c k =
+    let body = statement_of c.args.body in
+    let x = c.args.x.now in
+    let around = c.args.scopes.now.around in
+    let local = c.args.scopes.now.local in
+    let b = c.name_indexed-body.ensures.found k in
+    let a = c.after.ensures b.0 in
+    let o = noted c.open.result c.open.ensures.after a.2
+    ∙ (λ j. inner_env (blocks_around around local)
+    (local_of_inner (c.block-block.ensures j) (c.answer-answer.ensures j) local)) in
+    let s = c.name_indexed-body.ensures.after k
+    ∙ (λ j. inner_env (o j).around (statement_local (index_local (o j).local x) body)) in
+    c.leave.ensures around local.here (λ j. (s j).around)
+    ∙ (λ j. inner_env around (record {
+      here = local.here;
+      block = c.block-block.ensures j;
+      answer = c.answer-answer.ensures j;
+      counts = (s j).local.counts;
+    }))

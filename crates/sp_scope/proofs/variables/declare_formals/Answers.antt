@@ -5,8 +5,5 @@ use Rattle.sp_scope.proofs.variables.declare_formals.Goals as goal
 pub loop-f-preserved : goal.loop-f-preserved
 loop-f-preserved c = grind (arith, common_steps)
 
-pub returns-clause-found : goal.returns-clause-found
-returns-clause-found c = grind (arith, common_steps)
-
-pub returns-clause-after : goal.returns-clause-after
-returns-clause-after c = grind (arith, common_steps)
+pub returns : goal.returns
+returns c = grind (arith, common_steps)
