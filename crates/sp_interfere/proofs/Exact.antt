@@ -274,7 +274,8 @@ module _ (c : p.Program) (s : Sets) (are : AreSets c s) (rises : HaveEarlierPare
       )
   broken_back rule.I9 at (b, k, e, f, site, i, h) = let a = function_back b k e f in
       (b, k, e, inr (site, i, stop_back b k e site i (flag k.answer a.0 a.1) at h))
-  broken_back r at (b, k, e, site, i, h) = (b, k, e, inr (site, i, site_back b k e site i r at h))
+  broken_back r at h = let (b, k, e, site, i, breach) = h in
+      (b, k, e, inr (site, i, site_back b k e site i r at breach))
 
   all : Finds (blocks_first s c 0 c.blocks) (InBlocks s c 0 c.blocks)
   all = finds_blocks s c 0 c.blocks
