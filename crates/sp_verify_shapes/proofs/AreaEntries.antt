@@ -101,9 +101,9 @@ module _ (c : Parts) where
       pub of_child : (o : Owner) → Owns c p o → is_same o owner.Nobody ≡ false → (k : ℕ) (ch : ChildTable)
           → slice_get tb.children k ≡ Some ch → IsEntry c ch.entry
       of_child o h s k ch w =
-          let z = someone p o h s in
+          let (parent, (there, passes)) = someone p o h s in
           let at : child_at c p k ≡ Some ch = child_is k ∙ w in
-          (Child z.0 p k, (z.1.0, z.1.1, (ch, at)), ap entry_of_child at)
+          (Child parent p k, (there, passes, (ch, at)), ap entry_of_child at)
 
       pub made_is : (q : ℕ) → IsMadeAt c p q → IsOfChildren tb.children (length tb.children) q
       made_is q (k, ch, w, at, a) = let z = sym (child_is k) ∙ w in (k, ch, slice_get_within tb.children k ch z, z, at)
@@ -158,12 +158,12 @@ module _ (c : Parts) where
         come = λ p k h. absurd (bare p k h);
         marked = λ p m. absurd (unmarked p m);
         carried = λ x a. (let z = ap (λ (y : Arrival). y.list) (true_at x a).0 in omega (arith, z));
-        arrive = λ x a. (let z = true_at x a in
-            (z.1.0, (z.1.1, (sym z.1.2, ap (λ (y : Arrival). list_of s.stacks y.list) z.0))));
+        arrive = λ x a. (let (is_start, (area, there, begins)) = true_at x a in
+            (area, (there, (sym begins, ap (λ (y : Arrival). list_of s.stacks y.list) is_start))));
       };
       closed = λ p k h. absurd (bare p k h);
-      covers = λ a p ss w. inr
-          (start (entry c a), subst (IsOneOf (start (entry c a))) (sym e) (all_there a w.0), sym w.1.0, sym w.1.1);
+      covers = λ a p ss (there, (begins, empty)). inr
+          (start (entry c a), subst (IsOneOf (start (entry c a))) (sym e) (all_there a there), sym begins, sym empty);
     }
       where
         true_at : (x : Arrival) → IsOneOf x s.arrivals → (x ≡ start x.at) × IsEntry c x.at

@@ -143,7 +143,8 @@ module _ (q : ℕ) (ts : List Shape) where
   led_by : (t : Takes) (ss : List Shape) (go : ℕ → ℕ → List Shape → Shaped) → LeadsWith (take t ss go) q ts → LedWith go
   led_by takes.Nothing ss go h = (0, 0, ss, h)
   led_by (takes.One k) ss go h = led_one k ss go h
-  led_by (takes.Two k j) ss go h = let r = led_one k ss (λ x n s1. take_one j s1 go) h in led_one j r.2 go r.3
+  led_by (takes.Two k j) ss go h = let (_, _, left, leads) = led_one k ss (λ x n s1. take_one j s1 go) h in
+      led_one j left go leads
   led_by takes.Same [] go h = absurd h
   led_by takes.Same (O ∷ ss) go h = plainly go (led_o ss (go 0 0) h)
   led_by takes.Same (C ∷ ss) go h = plainly go (led_c ss (go 0 0) h)
@@ -180,5 +181,5 @@ leads_in c a p ss q ts (Some i) h = go (plan_at c a i) refl
         → IsIn q (nexts p (Some i))
     go None e k = absurd k
     go (Some pl) e k =
-        let r = led_by q ts pl.takes ss (goes_with pl p) k in
-        subst (IsIn q) (sym (goes_there c a p i pl e)) (led_to q ts pl.goes p _ r.2 r.3)
+        let (_, _, left, leads) = led_by q ts pl.takes ss (goes_with pl p) k in
+        subst (IsIn q) (sym (goes_there c a p i pl e)) (led_to q ts pl.goes p _ left leads)

@@ -202,14 +202,12 @@ pub list_known : (st : Stacks) → IsStacks st → (s : Kept) (below n : ℕ) �
     → number_at st (key_of s below) ≡ Some n
     → IsListNumber st n × (list_of st n ≡ shape_of s ∷ list_of st below)
 list_known st h s below n small there e =
-    let f = h.found (key_of s below) n e in
-    let i = f.0 in
-    let c = f.1 in
-    let x = list_of_cell st h i c f.3 n f.2 in
+    let (i, c, number, at, same_key) = h.found (key_of s below) n e in
+    let x = list_of_cell st h i c at n number in
     let few : length st.cells < 4294967296 = h.few in
     let low = x.1 in
-    let k = same_keys s c.shape below c.below small (h.small i c f.3) (omega (arith, there, few))
-    (omega (arith, low, few)) f.4 in
+    let k = same_keys s c.shape below c.below small (h.small i c at) (omega (arith, there, few))
+    (omega (arith, low, few)) same_key in
     (x.2, x.0 ∙ ap (λ t. shape_of t ∷ list_of st c.below) (sym k.0) ∙ ap (λ m. shape_of s ∷ list_of st m) (sym k.1))
 
 -- ---- one cell more
@@ -345,9 +343,9 @@ stacks_more old new x h e few there small jump none now =
           sym (eqb-true (key_of x.shape x.below) q g),
         )
         go false g =
-            let k = h.found q n (sym (is_key q false g) ∙ f) in
-            let l : k.0 < length old.cells = slice_get_within old.cells k.0 k.1 k.3 in
-            (k.0, k.1, k.2, ap (λ cs. slice_get cs k.0) e ∙ kept_at old.cells x k.0 l ∙ k.3, k.4)
+            let (i, c, number, at, same_key) = h.found q n (sym (is_key q false g) ∙ f) in
+            let l : i < length old.cells = slice_get_within old.cells i c at in
+            (i, c, number, ap (λ cs. slice_get cs i) e ∙ kept_at old.cells x i l ∙ at, same_key)
 
 -- the same, as a table is written
 pub stacks_grow : (old new : Stacks) (x : Cell) (key n : ℕ) → IsStacks old → new.cells ≡ old.cells ++ x ∷ []
@@ -380,12 +378,12 @@ stacks_same old new h e f = record {
   small = λ i c g. h.small i c (there i c g);
   known = λ i c g. now (key_of c.shape c.below) ∙ h.known i c (there i c g);
   jumps = λ i c g. subst (λ cs. JumpsIn cs (shapes_from cs (i + 1) (i + 1)) c.jump) (sym e) (h.jumps i c (there i c g));
-  found = λ q n g. let k = h.found q n (sym (now q) ∙ g) in (
-    k.0,
-    k.1,
-    k.2,
-    ap (λ cs. slice_get cs k.0) e ∙ k.3,
-    k.4,
+  found = λ q n g. let (i, c, number, at, same_key) = h.found q n (sym (now q) ∙ g) in (
+    i,
+    c,
+    number,
+    ap (λ cs. slice_get cs i) e ∙ at,
+    same_key,
   );
 }
   where

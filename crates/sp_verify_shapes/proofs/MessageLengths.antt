@@ -67,15 +67,15 @@ receives c s h p w e =
 
 pub sent_there : (c : Parts) (s : Shapes) → AreShapes c s → (p k n : ℕ) → SendsAt c p k n
     → sent_at c s p ≡ Some (record { kind = k; cells = n })
-sent_there c s h p k n r =
-    ap (λ o. on_option None o (λ ss. sent_by c (instr_at c p) ss)) (brought c s h r.0 p r.1 r.2)
-    ∙ ap (λ o. sent_by c o r.1) r.3 ∙ ap (of_kind k) r.4
+sent_there c s h p k n (area, shapes, comes, is_send, cells) =
+    ap (λ o. on_option None o (λ ss. sent_by c (instr_at c p) ss)) (brought c s h area p shapes comes)
+    ∙ ap (λ o. sent_by c o shapes) is_send ∙ ap (of_kind k) cells
 
 pub received_there : (c : Parts) (s : Shapes) → AreShapes c s → (p k n : ℕ) → ReceivesAt c p k n
     → received_at c s p ≡ Some (record { kind = k; cells = n })
-received_there c s h p k n r =
-    ap (λ o. on_option None o (λ ss. received_by c (instr_at c p) ss)) (brought c s h r.0 p r.1 r.2)
-    ∙ ap (λ o. received_by c o r.1) r.3 ∙ ap (of_kind k) r.4
+received_there c s h p k n (area, shapes, comes, is_receive, cells) =
+    ap (λ o. on_option None o (λ ss. received_by c (instr_at c p) ss)) (brought c s h area p shapes comes)
+    ∙ ap (λ o. received_by c o shapes) is_receive ∙ ap (of_kind k) cells
 
 -- past the code nothing is reached
 pub within : (c : Parts) (s : Shapes) → AreShapes c s → (f : ℕ → List Shape → Option Message) (p : ℕ) (w : Message)
@@ -280,8 +280,8 @@ least_length c s h m n f g = least_of_same (λ p. Differs c s p ⊎ LacksRoom c 
 pub past_greatest : (c : Parts) (s : Shapes) (n : ℕ) (m o : BTreeMap ℕ ℕ) (v : Message)
     → AreLengths (λ x y. x ≤ y) c s n m → sent_at c s n ≡ Some v → PutsGreatest m o v
     → AreLengths (λ x y. x ≤ y) c s (n + 1) o
-past_greatest c s n m o v h e (inl r) = subst (AreLengths (λ x y. x ≤ y) c s (n + 1)) (sym r.3)
-    (past_kept (λ x y. x ≤ y) c s n m v r.0 h e r.1 r.2)
+past_greatest c s n m o v h e (inl (x, known, fits, same)) = subst (AreLengths (λ x y. x ≤ y) c s (n + 1)) (sym same)
+    (past_kept (λ x y. x ≤ y) c s n m v x h e known fits)
 past_greatest c s n m o v h e (inr r) = past_put (λ x y. x ≤ y) c s n m o v h e r.0 (omega arith)
     (λ x z f l. let g = r.1 x f in omega (arith, g, l))
 

@@ -98,7 +98,7 @@ pub least_passing : (c : Parts) (s : Shapes) → AreShapes c s → (o : Option �
 least_passing c s h o = least_of_same (λ p. fails_at stays_within c s p ≡ true) (BreaksV3 c) o up down
   where
     up : (p : ℕ) → fails_at stays_within c s p ≡ true → BreaksV3 c p
-    up p e = let r = fails_by c s h stays_within p e in PassesLeft r.0 r.1 r.2 r.3
+    up p e = let (a, ss, comes, passes) = fails_by c s h stays_within p e in PassesLeft a ss comes passes
 
     down : (p : ℕ) → BreaksV3 c p → fails_at stays_within c s p ≡ true
     down p (PassesLeft a ss w e) = fails_so c s h stays_within a p ss w e
@@ -116,11 +116,11 @@ least_unfit c s h m n f g = least_of_same (λ p. P p ⊎ Q p) (BreaksV5 c) (earl
     Q p = Upto (LayoutFails answers_by_reference c.layouts) (length c.layouts) p
 
     up : (p : ℕ) → P p ⊎ Q p → BreaksV5 c p
-    up p (inl e) = let r = fails_by c s h (call_fits c) p e in NoFit r.0 r.1 r.2 r.3
+    up p (inl e) = let (a, ss, comes, unfit) = fails_by c s h (call_fits c) p e in NoFit a ss comes unfit
     up p (inr u) =
-        let l = u.holds.0 in
-        let b = and_parts l.answer (some_reference l.formals) u.holds.3 in
-        AnswersByReference l (u.item, u.holds.1) u.holds.2 b.0 b.1
+        let (l, there, begins, answers) = u.holds in
+        let b = and_parts l.answer (some_reference l.formals) answers in
+        AnswersByReference l (u.item, there) begins b.0 b.1
 
     down : (p : ℕ) → BreaksV5 c p → P p ⊎ Q p
     down p (NoFit a ss w e) = inl (fails_so c s h (call_fits c) a p ss w e)

@@ -106,7 +106,7 @@ module _ (c : Parts) (v1 : KeepsV1 c) (s : Search) (done : IsDoneSearch c s) whe
       stacks = kept.sound.stacks;
       size = kept.sound.size;
       held = kept.sound.held;
-      come = λ p k h. (let z = kept.sound.come p k h in
-          (z.0, (z.1.0, arrived c z.0 level p (list_of s.stacks k) z.1.1)));
+      come = λ p k h. (let (area, (there, arrives)) = kept.sound.come p k h in
+          (area, (there, arrived c area level p (list_of s.stacks k) arrives)));
       all = λ a p ss h. brought h.1.steps a p ss h.0 h.1.way;
     }

@@ -213,18 +213,19 @@ module _ (c : Parts) (v1 : KeepsV1 c) (n : ℕ) (s : Search) (rest : List ℕ) (
     -- what is brought on arrives by one step more
     arrive_new : (y : Arrival) → IsEither f g y → SomeAreaBrings c (suc n) y.at (list_of st y.list)
     arrive_new y b =
-        let z = h.sound.come p k leap.has in
-        let l = lies c z.0 n p shapes z.1 in (
-          z.0,
+        let (area, comes) = h.sound.come p k leap.has in
+        let (there, arrives) = comes in
+        let l = lies c area n p shapes comes in (
+          area,
           (
-            z.1.0,
+            there,
             inr (
               p,
               shapes,
-              z.1.1,
-              whole z.0 z.1,
+              arrives,
+              whole area comes,
               subst (λ (o : Shaped). LeadsWith o y.at (list_of st y.list))
-                  (is z.0 l) (is_brought st f g y b),
+                  (is area l) (is_brought st f g y b),
             ),
           ),
         )

@@ -6,7 +6,6 @@ use Rattle.std.proofs.lemmas.Bool.{cases_eq}
 use Rattle.std.proofs.lemmas.Option.{none-some}
 use Rattle.sp_code.specs.declared.instr.Instr.{Instr}
 use Rattle.sp_code.specs.declared.instr.Instr.TheVariants as i
-use Rattle.sp_code.specs.declared.code.ChildTable.{ChildTable}
 use Rattle.sp_code.specs.declared.code.Parts.{Parts}
 use Rattle.sp_verify_rules.specs.Areas.{Area, Body, Child, instr_at, table_named, table_at, child_of, entry}
 use Rattle.sp_verify_rules.specs.Areas.{entry_of_child}
@@ -54,7 +53,7 @@ lies_on c a p q ss ts h k = (
 )
 
 pub lies : (c : Parts) (a : Area) (n p : ℕ) (ss : List Shape) → ArrivesAt c a n p ss → LiesIn c p a
-lies c a zero p ss h = (h.0, record { steps = 0; way = sym h.1.0 })
+lies c a zero p ss (there, (begins, _)) = (there, record { steps = 0; way = sym begins })
 lies c a (suc n) q ts (there, inl h) = lies c a n q ts (there, h)
 lies c a (suc n) q ts (there, inr (p, ss, h, whole, leads)) = lies_on c a p q ss ts (lies c a n p ss (there, h)) leads
 
@@ -119,13 +118,10 @@ module _ (c : Parts) (v1 : KeepsV1 c) where
       is_below (entry c (Body b)) (length c.instrs)
       (λ past. v1 (entry c (Body b))
       (NotThere (inr (record { past = past; of = inl (h.0, (z.0, z.1), sym (ap entry_of_layout h.1)) }))))
-  entry_within (Child a p k) h = go (table_named (instr_at c p)) refl
+  entry_within (Child a p k) (_, _, (ch, is_child)) = go (table_named (instr_at c p)) refl
     where
-      ch : ChildTable
-      ch = h.2.0
-
       go : (o : Option ℕ) → table_named (instr_at c p) ≡ o → entry c (Child a p k) < length c.instrs
-      go None e = absurd (none-some ch (sym (ap (λ (z : Option ℕ). child_of (table_at c.forks z) k) e) ∙ h.2.1))
+      go None e = absurd (none-some ch (sym (ap (λ (z : Option ℕ). child_of (table_at c.forks z) k) e) ∙ is_child))
       go (Some t) e =
           is_below (entry c (Child a p k)) (length c.instrs)
           (λ past. v1 (entry c (Child a p k))
@@ -136,8 +132,8 @@ module _ (c : Parts) (v1 : KeepsV1 c) where
               k,
               ch,
               sym (ap (λ (z : Option ℕ). child_of (table_at c.forks z) k) e)
-                  ∙ h.2.1,
-              sym (ap entry_of_child h.2.1),
+                  ∙ is_child,
+              sym (ap entry_of_child is_child),
             );
           }))))
 
