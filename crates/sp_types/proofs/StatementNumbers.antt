@@ -97,10 +97,10 @@ receives_are env e (AndArgument a rest) = one_more (c.Receive e (argument_variab
 with_last : (fs : List c.Form) (f : c.Form) (n : ℕ) → form_numbers f ≡ [] → Are fs n → Are (fs ++ f ∷ []) (n + 1)
 with_last [] f n e h = let l = h.1 in ((e, tt), omega (arith, l))
 with_last (x ∷ fs) f n e h =
-    let r : Are (fs ++ f ∷ []) (sized fs + 1) = with_last fs f (sized fs) e (h.0.1, refl) in
+    let ((none, others), l) = h in
+    let r : Are (fs ++ f ∷ []) (sized fs + 1) = with_last fs f (sized fs) e (others, refl) in
     let k = r.1 in
-    let l = h.1 in
-    ((h.0.0, r.0), omega (arith, k, l))
+    ((none, r.0), omega (arith, k, l))
 
 singles_are : (env : Env) (p : StandardProcedure) (xs : Arguments) → Are (singles env p xs) (single_count p xs)
 singles_are env procedure.Read xs = reads_are env xs
@@ -118,12 +118,13 @@ single_numbers : (n k : ℕ) (at : Place) (fs : List c.Form) → Are fs k
 single_numbers n k at [] h = omega (arith, h.1)
 single_numbers n zero at (f ∷ fs) h = absurd (omega (arith, h.1))
 single_numbers n (suc k) at (f ∷ fs) h =
+    let ((none, others), l) = h in
     let rest : Rise (n + 1) (statements_numbers (of_.statements (numbered_statements (n + 1) at fs))) (n + 1 + k) =
-    single_numbers (n + 1) k at fs (h.0.1, omega (arith, h.1)) in (
+    single_numbers (n + 1) k at fs (others, omega (arith, l)) in (
       refl,
       subst (λ m. Rise (n + 1) (m ++ statements_numbers (of_.statements (numbered_statements (n + 1) at fs)))
           (n + suc k))
-          (sym h.0.0) (subst (Rise (n + 1) (statements_numbers (of_.statements (numbered_statements (n + 1) at fs))))
+          (sym none) (subst (Rise (n + 1) (statements_numbers (of_.statements (numbered_statements (n + 1) at fs))))
           (omega arith)
           rest),
     )
@@ -133,7 +134,8 @@ expanded_numbers : (n k : ℕ) (at : Place) (fs : List c.Form) → Are fs k
 expanded_numbers n zero at [] h = omega arith
 expanded_numbers n (suc k) at [] h = absurd (omega (arith, h.1))
 expanded_numbers n zero at (f ∷ fs) h = absurd (omega (arith, h.1))
-expanded_numbers n (suc zero) at (f ∷ []) h = subst (λ m. Rise n m (n + 0)) (sym h.0.0) (omega arith)
+expanded_numbers n (suc zero) at (f ∷ []) h =
+    let ((none, others), l) = h in subst (λ m. Rise n m (n + 0)) (sym none) (omega arith)
 expanded_numbers n (suc zero) at (f ∷ g ∷ fs) h = absurd (omega (arith, h.1))
 expanded_numbers n (suc (suc k)) at (f ∷ []) h = absurd (omega (arith, h.1))
 expanded_numbers n (suc (suc k)) at (f ∷ g ∷ fs) h = single_numbers n (suc (suc k)) at (f ∷ g ∷ fs) h
