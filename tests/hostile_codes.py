@@ -2,7 +2,7 @@
 
 `FILES` has for each name what makes the bytes of its code file. Each one has sizes that multiply if the verifier keeps
 something for each pair: blocks and the variables that they come to store, calls and operands, children and lists, and
-so on. The first line of each generator says whether the file is accepted.
+so on. `OPEN` has those for which it still does. The first line of each generator says whether the file is accepted.
 """
 LIMIT = 67_108_864
 MOST = 1_048_576
@@ -260,6 +260,113 @@ def passed_along(blocks=2_000, formals=200):
     return code(layouts, instrs)
 
 
+def chain_of_stores(blocks, order, first, parent=0, place=2):
+    """The instructions of a chain of blocks from this instruction on, and their layouts. Block k + 2 stores the
+    variable at this place + k of the block around it, and calls the next one. They stand in this order."""
+    instrs, entries = [], {}
+    for k in order:
+        entries[k] = first + len(instrs)
+        instrs += [f"addr 1 {place + k}", "const 1", "store", f"call {(k + 1) % blocks + 2} 1", "return"]
+    return instrs, [layout(k + 2, entries[k], parent) for k in range(blocks)]
+
+
+def shuffled_chain(blocks=190_000):
+    """Accepted: as chain_in_child, but the blocks stand in no order."""
+    order = [k * 88_801 % blocks for k in range(blocks)]
+    instrs, layouts = chain_of_stores(blocks, order, 4)
+    layouts.insert(0, layout(0, 0, "-", [1] * blocks, range(2, blocks + 2)))
+    return code(layouts, ["fork 0", "end", "call 2 0", "end", *instrs], [child(0, 0, 2, range(2, blocks + 2))])
+
+
+def chain_in_children(blocks=150_000, others=150_000):
+    """Accepted: two children are above the chain. Both are handed its variables, and each others besides."""
+    instrs, layouts = chain_of_stores(blocks, range(blocks), 7)
+    count = blocks + 2 * others
+    layouts.insert(0, layout(0, 0, "-", [1] * count, range(2, count + 2)))
+    chain, middle = range(2, blocks + 2), blocks + others + 2
+    tables = [child(0, 0, 3, [*chain, *range(blocks + 2, middle)]), child(1, 0, 5, [*chain, *range(middle, count + 2)])]
+    return code(layouts, ["fork 0", "fork 1", "end", "call 2 0", "end", "call 2 0", "end", *instrs], tables)
+
+
+def children_above_chain(children=40_000, blocks=100_000, width=150):
+    """Accepted: n children are above the chain. All are handed its variables, and each one besides."""
+    starts = children + 1
+    first = starts + 2 * children
+    instrs, entries = [f"fork {k}" for k in range(children)] + ["end"] + ["call 2 0", "end"] * children, []
+    for k in range(blocks):
+        entries.append(first + 5 * k)
+        instrs += [f"addr 1 {k % width + 2}", "const 1", "store", f"call {(k + 1) % blocks + 2} 1", "return"]
+    count = width + children
+    layouts = [layout(0, 0, "-", [1] * count, range(2, count + 2))]
+    layouts += [layout(k + 2, entry, 0) for k, entry in enumerate(entries)]
+    tables = [child(k, 0, starts + 2 * k, [*range(2, width + 2), width + 2 + k]) for k in range(children)]
+    return code(layouts, instrs, tables)
+
+
+def half_handed(blocks=190_000):
+    """Refused by V6: a child above the chain is handed half of its variables."""
+    instrs, layouts = chain_of_stores(blocks, range(blocks), 4)
+    layouts.insert(0, layout(0, 0, "-", [1] * blocks, range(2, blocks + 2)))
+    return code(layouts, ["fork 0", "end", "call 2 0", "end", *instrs], [child(0, 0, 2, range(2, blocks // 2 + 2))])
+
+
+def chain_in_answer(blocks=190_000):
+    """Accepted: a block that answers is above the chain, which stores variables of this block."""
+    instrs, layouts = chain_of_stores(blocks, range(blocks), 5, 1, 1)
+    result = blocks + 2
+    layouts[:0] = [layout(0, 0, "-"), layout(1, 3, 0, [1] * (blocks + 1), [result, *range(2, result)], answer=True)]
+    return code(layouts, ["call 1 0", "write int", "end", "call 2 0", "return", *instrs])
+
+
+def chain_by_reference(blocks=190_000):
+    """Accepted: a block that takes a variable by reference is above the chain."""
+    instrs, layouts = chain_of_stores(blocks, range(blocks), 5)
+    count = blocks + 1
+    layouts[:0] = [layout(0, 0, "-", [1] * count, range(2, count + 2)),
+                   layout(1, 3, 0, [1], [count + 2], ["reference 1"])]
+    return code(layouts, [f"addr 0 {count + 1}", "call 1 0", "end", "call 2 1", "return", *instrs])
+
+
+def chain_inside(blocks=190_000):
+    """Accepted: a block that is called inside itself is above the chain, which stores variables of this block."""
+    instrs, layouts = chain_of_stores(blocks, range(blocks), 5, 1, 0)
+    layouts[:0] = [layout(0, 0, "-"), layout(1, 2, 0, [1] * blocks, range(2, blocks + 2))]
+    return code(layouts, ["call 1 0", "end", "call 2 0", "call 1 1", "return", *instrs])
+
+
+def calls_of_lists(operands=100_000, calls=100_000):
+    """Accepted: n operands are pushed once, and each of n calls puts one of its own on top."""
+    instrs = [f"addr 0 {k + 2}" for k in range(operands)] + ["const 0"]
+    after = operands + 2 + calls
+    done = after + 3 * calls + 3
+    instrs += [f"casej {k} {after + 3 * k}" for k in range(calls)] + [f"jump {after + 3 * calls}"]
+    for k in range(calls):
+        instrs += [f"addr 0 {operands + 2 + k}", "call 1 0", f"jump {done}"]
+    instrs += ["nocase", f"addr 0 {operands + 2}", "call 1 0", "end", "return"]
+    count = operands + calls
+    formals = range(count + 2, count + operands + 3)
+    layouts = [layout(0, 0, "-", [1] * count, range(2, count + 2)),
+               layout(1, done + 1, 0, [1] * len(formals), formals, ["reference 1"] * len(formals))]
+    return code(layouts, instrs)
+
+
+def calls_at_heights(operands=200_000, calls=100_000):
+    """Accepted: operands are pushed one by one, and at each of n heights a call takes the topmost ones."""
+    height, away = operands + calls, operands + 3 * calls + 1
+    drops, count = away + 2 * calls, operands + calls
+    instrs = [f"addr 0 {k + 2}" for k in range(operands)]
+    for k in range(calls):
+        instrs += [f"addr 0 {operands + k + 2}", "const 1", f"jumpf {away + 2 * k}"]
+    instrs.append(f"jump {drops}")
+    for k in range(calls):
+        instrs += ["call 1 0", f"jump {drops + height - k - 1}"]
+    instrs += ["read int"] * height + ["end", "return"]
+    formals = range(count + 2, count + operands + 2)
+    layouts = [layout(0, 0, "-", [1] * count, range(2, count + 2)),
+               layout(1, drops + height + 1, 0, [1] * operands, formals, ["reference 1"] * operands)]
+    return code(layouts, instrs)
+
+
 FILES = {
     "blocks_and_outer": blocks_and_outer,
     "chain_of_blocks": chain_of_blocks,
@@ -285,4 +392,17 @@ FILES = {
     "many_texts": many_texts,
     "large_root": large_root,
     "passed_along": passed_along,
+}
+
+# Files in which two sizes still multiply: they take more than 10 seconds, or more than 2 GB.
+OPEN = {
+    "shuffled_chain": shuffled_chain,
+    "chain_in_children": chain_in_children,
+    "children_above_chain": children_above_chain,
+    "half_handed": half_handed,
+    "chain_in_answer": chain_in_answer,
+    "chain_by_reference": chain_by_reference,
+    "chain_inside": chain_inside,
+    "calls_of_lists": calls_of_lists,
+    "calls_at_heights": calls_at_heights,
 }
