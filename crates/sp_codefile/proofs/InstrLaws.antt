@@ -121,32 +121,53 @@ AreReadAs (z ∷ zs) (a ∷ ops) = IsRead z a × AreReadAs zs ops
 pub filled_plain : (x : Instr) → InstrFits x → (a b c : Operand) → AreReadAs (operands x) (a ∷ b ∷ c ∷ [])
     → with_operands (plain x) a b c ≡ x
 filled_plain (i.Const x) f a b c h = ap i.Const (h.0.integer f)
-filled_plain (i.Addr x y) f a b c h = let e0 = h.0.number x f.0 refl in let e1 = h.1.0.number y f.1 refl in λ j. i.Addr
-    (e0 j) (e1 j)
-filled_plain (i.Deref x y) f a b c h = let e0 = h.0.number x f.0 refl in let e1 = h.1.0.number y f.1 refl in λ j.
-    i.Deref (e0 j) (e1 j)
-filled_plain (i.Index x y z) f a b c h = let e0 = h.0.integer f.0 in let e1 = h.1.0.integer f.1 in
-    let e2 = h.1.1.0.number z f.2 refl in λ j. i.Index (e0 j) (e1 j) (e2 j)
+filled_plain (i.Addr x y) f a b c h =
+    let (x_read, (y_read, _)) = h in
+    let e0 = x_read.number x f.0 refl in
+    let e1 = y_read.number y f.1 refl in λ j. i.Addr (e0 j) (e1 j)
+filled_plain (i.Deref x y) f a b c h =
+    let (x_read, (y_read, _)) = h in
+    let e0 = x_read.number x f.0 refl in
+    let e1 = y_read.number y f.1 refl in λ j. i.Deref (e0 j) (e1 j)
+filled_plain (i.Index x y z) f a b c h =
+    let (x_read, (y_read, (z_read, _))) = h in
+    let e0 = x_read.integer f.0 in
+    let e1 = y_read.integer f.1 in
+    let e2 = z_read.number z f.2 refl in λ j. i.Index (e0 j) (e1 j) (e2 j)
 filled_plain (i.Field x) f a b c h = ap i.Field (h.0.number x f refl)
 filled_plain (i.Copy x) f a b c h = ap i.Copy (h.0.number x f refl)
-filled_plain (i.Range x y) f a b c h = let e0 = h.0.integer f.0 in let e1 = h.1.0.integer f.1 in λ j. i.Range (e0 j)
-    (e1 j)
+filled_plain (i.Range x y) f a b c h =
+    let (x_read, (y_read, _)) = h in
+    let e0 = x_read.integer f.0 in
+    let e1 = y_read.integer f.1 in λ j. i.Range (e0 j) (e1 j)
 filled_plain (i.Succ x) f a b c h = ap i.Succ (h.0.integer f)
 filled_plain (i.Pred x) f a b c h = ap i.Pred (h.0.integer f)
 filled_plain (i.Jump x) f a b c h = ap i.Jump (h.0.number x f refl)
 filled_plain (i.Jumpf x) f a b c h = ap i.Jumpf (h.0.number x f refl)
-filled_plain (i.Casej x y) f a b c h = let e0 = h.0.integer f.0 in let e1 = h.1.0.number y f.1 refl in λ j. i.Casej
-    (e0 j) (e1 j)
-filled_plain (i.Forup x y) f a b c h = let e0 = h.0.number x f.0 refl in let e1 = h.1.0.number y f.1 refl in λ j.
-    i.Forup (e0 j) (e1 j)
-filled_plain (i.Fordown x y) f a b c h = let e0 = h.0.number x f.0 refl in let e1 = h.1.0.number y f.1 refl in λ j.
-    i.Fordown (e0 j) (e1 j)
-filled_plain (i.Nextup x y) f a b c h = let e0 = h.0.number x f.0 refl in let e1 = h.1.0.number y f.1 refl in λ j.
-    i.Nextup (e0 j) (e1 j)
-filled_plain (i.Nextdown x y) f a b c h = let e0 = h.0.number x f.0 refl in let e1 = h.1.0.number y f.1 refl in λ j.
-    i.Nextdown (e0 j) (e1 j)
-filled_plain (i.Call x y) f a b c h = let e0 = h.0.number x f.0 refl in let e1 = h.1.0.number y f.1 refl in λ j. i.Call
-    (e0 j) (e1 j)
+filled_plain (i.Casej x y) f a b c h =
+    let (x_read, (y_read, _)) = h in
+    let e0 = x_read.integer f.0 in
+    let e1 = y_read.number y f.1 refl in λ j. i.Casej (e0 j) (e1 j)
+filled_plain (i.Forup x y) f a b c h =
+    let (x_read, (y_read, _)) = h in
+    let e0 = x_read.number x f.0 refl in
+    let e1 = y_read.number y f.1 refl in λ j. i.Forup (e0 j) (e1 j)
+filled_plain (i.Fordown x y) f a b c h =
+    let (x_read, (y_read, _)) = h in
+    let e0 = x_read.number x f.0 refl in
+    let e1 = y_read.number y f.1 refl in λ j. i.Fordown (e0 j) (e1 j)
+filled_plain (i.Nextup x y) f a b c h =
+    let (x_read, (y_read, _)) = h in
+    let e0 = x_read.number x f.0 refl in
+    let e1 = y_read.number y f.1 refl in λ j. i.Nextup (e0 j) (e1 j)
+filled_plain (i.Nextdown x y) f a b c h =
+    let (x_read, (y_read, _)) = h in
+    let e0 = x_read.number x f.0 refl in
+    let e1 = y_read.number y f.1 refl in λ j. i.Nextdown (e0 j) (e1 j)
+filled_plain (i.Call x y) f a b c h =
+    let (x_read, (y_read, _)) = h in
+    let e0 = x_read.number x f.0 refl in
+    let e1 = y_read.number y f.1 refl in λ j. i.Call (e0 j) (e1 j)
 filled_plain (i.WriteText x) f a b c h = ap i.WriteText (h.0.number x f refl)
 filled_plain (i.WritewText x) f a b c h = ap i.WritewText (h.0.number x f refl)
 filled_plain (i.Pack x) f a b c h = ap i.Pack (h.0.number x f refl)
@@ -223,15 +244,17 @@ agree [] t u v a b c s e ra eu rb ev rc = tt
 agree (x ∷ []) t u v a b c s e ra eu rb ev rc = let f = ap word_of e
     ∙ operand_cut x [] s.0 in (one_read x _ a (ap (λ (p : List ℕ × List ℕ). p.0) f) ra, tt)
 agree (x ∷ (y ∷ [])) t u v a b c s e ra eu rb ev rc =
-    let f = ap word_of e ∙ operand_cut x (y ∷ []) s.0 in
-    let g = ap word_of (eu ∙ ap (λ (p : List ℕ × List ℕ). p.1) f) ∙ operand_cut y [] s.1.0 in (
+    let (x_small, (y_small, _)) = s in
+    let f = ap word_of e ∙ operand_cut x (y ∷ []) x_small in
+    let g = ap word_of (eu ∙ ap (λ (p : List ℕ × List ℕ). p.1) f) ∙ operand_cut y [] y_small in (
       one_read x _ a (ap (λ (p : List ℕ × List ℕ). p.0) f) ra,
       (one_read y _ b (ap (λ (p : List ℕ × List ℕ). p.0) g) rb, tt),
     )
 agree (x ∷ (y ∷ (z ∷ zs))) t u v a b c s e ra eu rb ev rc =
-    let f = ap word_of e ∙ operand_cut x (y ∷ (z ∷ zs)) s.0 in
-    let g = ap word_of (eu ∙ ap (λ (p : List ℕ × List ℕ). p.1) f) ∙ operand_cut y (z ∷ zs) s.1.0 in
-    let h = ap word_of (ev ∙ ap (λ (p : List ℕ × List ℕ). p.1) g) ∙ operand_cut z zs s.1.1.0 in (
+    let (x_small, (y_small, (z_small, _))) = s in
+    let f = ap word_of e ∙ operand_cut x (y ∷ (z ∷ zs)) x_small in
+    let g = ap word_of (eu ∙ ap (λ (p : List ℕ × List ℕ). p.1) f) ∙ operand_cut y (z ∷ zs) y_small in
+    let h = ap word_of (ev ∙ ap (λ (p : List ℕ × List ℕ). p.1) g) ∙ operand_cut z zs z_small in (
       one_read x _ a (ap (λ (p : List ℕ × List ℕ). p.0) f) ra,
       (
         one_read y _ b (ap (λ (p : List ℕ × List ℕ). p.0) g) rb,

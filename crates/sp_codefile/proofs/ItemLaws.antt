@@ -90,33 +90,34 @@ forks_text fs = numbered_texts table_text 0 fs
 -- one more item is one more line
 pub text_step : (p : Parts) (x : Item) → CanFollow p x → code_text (after_item p x) ≡ code_text p
     ++ line (item_text p x)
-text_step p (item.Layout l) h =
+text_step p (item.Layout l) ((no_texts, no_instrs, no_forks, _, _), _) =
     ap (λ (z : List ℕ). head ++ z ++ texts_text p.texts ++ instrs_text p.instrs
     ++ forks_text p.forks) (flat_last (λ m. line (layout_text m)) p.layouts l)
     ∙ with_three head (layouts_text p.layouts) (texts_text p.texts) (instrs_text p.instrs) (forks_text p.forks)
-    (line (layout_text l)) (ap texts_text h.0.0) (ap instrs_text h.0.1) (ap forks_text h.0.2)
-text_step p (item.Text t) h =
+    (line (layout_text l)) (ap texts_text no_texts) (ap instrs_text no_instrs)
+    (ap forks_text no_forks)
+text_step p (item.Text t) ((no_instrs, no_forks, _), _) =
     ap (λ (z : List ℕ). head ++ layouts_text p.layouts ++ z ++ instrs_text p.instrs
     ++ forks_text p.forks) (flat_last (λ m. line (text_text m)) p.texts t)
     ∙ with_two head (layouts_text p.layouts) (texts_text p.texts) (instrs_text p.instrs) (forks_text p.forks)
-    (line (text_text t)) (ap instrs_text h.0.0) (ap forks_text h.0.1)
-text_step p (item.Instr x) h =
+    (line (text_text t)) (ap instrs_text no_instrs) (ap forks_text no_forks)
+text_step p (item.Instr x) ((no_forks, _), _) =
     ap (λ (z : List ℕ). head ++ layouts_text p.layouts ++ texts_text p.texts ++ z ++ forks_text p.forks)
     (from_0 instr_line p.instrs x
     ∙ ap (λ (z : List ℕ). instrs_text p.instrs ++ z) (sym (instr_is_line (length p.instrs) x)))
     ∙ with_one head (layouts_text p.layouts) (texts_text p.texts) (instrs_text p.instrs) (forks_text p.forks)
-    (line (item_text p (item.Instr x))) (ap forks_text h.0.0)
+    (line (item_text p (item.Instr x))) (ap forks_text no_forks)
 text_step p (item.Table c) h =
     let front = head ++ layouts_text p.layouts ++ texts_text p.texts ++ instrs_text p.instrs in
     ap (λ (z : List ℕ). front ++ z)
     (from_0 table_text p.forks (record { children = c ∷ [] })
     ∙ ap (λ (z : List ℕ). forks_text p.forks ++ z) (append-nil (child_of (length p.forks) 0 c)))
     ∙ sym (append_assoc front (forks_text p.forks) (child_of (length p.forks) 0 c))
-text_step p (item.Child c) h =
+text_step p (item.Child c) ((some, _), _) =
     let front = head ++ layouts_text p.layouts ++ texts_text p.texts ++ instrs_text p.instrs in
     let e : 0 + (length p.forks - 1) ≡ length p.forks - 1 = omega arith in
     ap (λ (z : List ℕ). front ++ z)
-    (child_last 0 p.forks c h.0.0 ∙ ap (λ (k : ℕ). forks_text p.forks ++ child_of k (last_children p.forks) c) e)
+    (child_last 0 p.forks c some ∙ ap (λ (k : ℕ). forks_text p.forks ++ child_of k (last_children p.forks) c) e)
     ∙ sym (append_assoc front (forks_text p.forks) (child_of (length p.forks - 1) (last_children p.forks) c))
 
 -- all tables hold what each does, and the last one with one more child
@@ -141,22 +142,22 @@ small_sizes l f k d b = let a = f.sizes k d b in omega arith
 
 -- one more item keeps it code
 pub code_step : (p : Parts) (x : Item) → IsCode p → CanFollow p x → IsCode (after_item p x)
-code_step p (item.Layout l) i h = record {
+code_step p (item.Layout l) i ((_, _, _, few, has_numbers), fits) = record {
   sizes = record {
     instrs = i.sizes.instrs;
     forks = i.sizes.forks;
     texts = i.sizes.texts;
     children = i.sizes.children;
-    layouts = let a = h.0.3 in omega (arith, length_push p.layouts l);
-    frames = All-push HasNumbers p.layouts l i.sizes.frames h.0.4;
-    sizes = All-push HasSmallSizes p.layouts l i.sizes.sizes (small_sizes l h.1);
+    layouts = omega (arith, few, length_push p.layouts l);
+    frames = All-push HasNumbers p.layouts l i.sizes.frames has_numbers;
+    sizes = All-push HasSmallSizes p.layouts l i.sizes.sizes (small_sizes l fits);
   };
-  layouts = All-push LayoutFits p.layouts l i.layouts h.1;
+  layouts = All-push LayoutFits p.layouts l i.layouts fits;
   texts = i.texts;
   instrs = i.instrs;
   forks = i.forks;
 }
-code_step p (item.Text t) i h = record {
+code_step p (item.Text t) i ((_, _, few), fits) = record {
   sizes = record {
     instrs = i.sizes.instrs;
     layouts = i.sizes.layouts;
@@ -164,14 +165,14 @@ code_step p (item.Text t) i h = record {
     frames = i.sizes.frames;
     sizes = i.sizes.sizes;
     children = i.sizes.children;
-    texts = let a = h.0.2 in omega (arith, length_push p.texts t);
+    texts = omega (arith, few, length_push p.texts t);
   };
-  texts = All-push (All IsByte) p.texts t i.texts h.1;
+  texts = All-push (All IsByte) p.texts t i.texts fits;
   layouts = i.layouts;
   instrs = i.instrs;
   forks = i.forks;
 }
-code_step p (item.Instr x) i h = record {
+code_step p (item.Instr x) i ((_, few), fits) = record {
   sizes = record {
     layouts = i.sizes.layouts;
     forks = i.sizes.forks;
@@ -179,9 +180,9 @@ code_step p (item.Instr x) i h = record {
     frames = i.sizes.frames;
     sizes = i.sizes.sizes;
     children = i.sizes.children;
-    instrs = let a = h.0.1 in omega (arith, length_push p.instrs x);
+    instrs = omega (arith, few, length_push p.instrs x);
   };
-  instrs = All-push InstrFits p.instrs x i.instrs h.1;
+  instrs = All-push InstrFits p.instrs x i.instrs fits;
   layouts = i.layouts;
   texts = i.texts;
   forks = i.forks;
@@ -203,7 +204,7 @@ code_step p (item.Table c) i h =
       texts = i.texts;
       instrs = i.instrs;
     }
-code_step p (item.Child c) i h = record {
+code_step p (item.Child c) i ((_, few), fits) = record {
   sizes = record {
     instrs = i.sizes.instrs;
     layouts = i.sizes.layouts;
@@ -215,8 +216,8 @@ code_step p (item.Child c) i h = record {
   };
   forks = with_child_all TableFits p.forks c i.forks
       (λ t e a. record {
-        count = let b = h.0.1 in omega (arith, length_push t.children c);
-        children = All-push ChildFits t.children c a.children h.1;
+        count = omega (arith, few, length_push t.children c);
+        children = All-push ChildFits t.children c a.children fits;
       });
   layouts = i.layouts;
   texts = i.texts;

@@ -84,7 +84,7 @@ kind_is p (item.Layout l) h = refl
 kind_is p (item.Text t) h = refl
 kind_is p (item.Instr x) h =
     let n = length p.instrs in
-    let small : n < 2 ^ 64 = let a = h.0.1 in omega arith in
+    let small : n < 2 ^ 64 = let (_, few) = h.0 in omega (arith, few) in
     ap kind_of (append_assoc (decimal n) (codes " ") (instr_text x))
     ∙ digit_kind (decimal n) (codes " " ++ instr_text x) (decimal_nonempty n small) (digits_within n small)
 kind_is p (item.Table c) h = child_kind (length p.forks) 0 c
@@ -133,7 +133,7 @@ module _ (line : List ℕ) where
   says_instr x k f p (item.Text t) c h e = let a : kind.Instr ≡ kind.Text = sym k ∙ ap kind_of e
       ∙ kind_is p (item.Text t) h in absurd (cc a)
   says_instr x k f p (item.Instr y) c h e = ap item.Instr
-      (f y h.1 (instr_behind (length p.instrs) y (let a = h.0.1 in omega arith) e))
+      (f y h.1 (instr_behind (length p.instrs) y (let (_, few) = h.0 in omega (arith, few)) e))
   says_instr x k f p (item.Table d) c h e = let a : kind.Instr ≡ kind.Child = sym k ∙ ap kind_of e
       ∙ kind_is p (item.Table d) h in absurd (cc a)
   says_instr x k f p (item.Child d) c h e = let a : kind.Instr ≡ kind.Child = sym k ∙ ap kind_of e
@@ -157,8 +157,9 @@ module _ (line : List ℕ) where
   says_child x k f g p (item.Table d) c h e = f (length p.forks) d (let a = h.0 in omega arith) h.1 (ap (drop 5) e
       ∙ child_behind (length p.forks) 0 d)
   says_child x k f g p (item.Child d) c h e =
+      let (some, few) = h.0 in
       g (length p.forks - 1) (last_children p.forks) d (let a = c.sizes.forks in omega arith)
-      (last_some p.forks c.sizes.children h.0.0) (let a = h.0.1 in omega arith) h.1
+      (last_some p.forks c.sizes.children some) (omega (arith, few)) h.1
       (ap (drop 5) e ∙ child_behind (length p.forks - 1) (last_children p.forks) d)
 
 -- the same of a child that may not be read for want of memory

@@ -17,8 +17,8 @@ pub left_next : {X : Type 0} (text : X → List ℕ) (Fits : X
     → ((y : X) (more : List X) → Fits y → All Fits more → rest ≡ text y ++ flat_map text more → (x ≡ y)
     × (after ≡ flat_map text more))
     → LeavesRest text Fits whole done rest → LeavesRest text Fits whole (done ++ x ∷ []) after
-left_next {X} text Fits whole done rest x after some one left xs a e = by (left xs a e).0 (left xs a e).1
-    (left xs a e).2 (left xs a e).3
+left_next {X} text Fits whole done rest x after some one left xs a e =
+    let (others, whole_is, rest_is, others_fit) = left xs a e in by others whole_is rest_is others_fit
   where
     by : (more : List X) → xs ≡ done ++ more → rest ≡ flat_map text more → All Fits more → (ms : List X)
         × (xs ≡ (done ++ x ∷ []) ++ ms) × (after ≡ flat_map text ms) × All Fits ms

@@ -302,7 +302,7 @@ module _ (p : Parts) (code : IsCode p) where
   item_alone (item.Instr x) (item.Text u) h k e = let a : kind.Instr ≡ kind.Text = other (item.Instr x)
       (item.Text u) h k e in absurd (cc a)
   item_alone (item.Instr x) (item.Instr y) h k e =
-      let few : length p.instrs < 2 ^ 64 = let a = h.0.1 in omega arith in
+      let few : length p.instrs < 2 ^ 64 = let (_, room) = h.0 in omega (arith, room) in
       ap item.Instr (instr_same x y h.1 k.1
       (sym (instr_behind (item_text p (item.Instr x)) (length p.instrs) x few refl)
       ∙ ap (λ (z : List ℕ). drop 1 (blank_cut z).1) e
@@ -322,9 +322,10 @@ module _ (p : Parts) (code : IsCode p) where
       (sym (child_behind (length p.forks) 0 c) ∙ ap (drop 5) e ∙ child_behind (length p.forks) 0 d))
   item_alone (item.Table c) (item.Child d) h k e =
       let same = tables_same (length p.forks) (length p.forks - 1) 0 (last_children p.forks) c d forks_few before_few
-      (omega arith) (let a = k.0.1 in omega arith) h.1 k.1 (sym (child_behind (length p.forks) 0 c) ∙ ap (drop 5) e
+      (omega arith) (let (_, few) = k.0 in omega (arith, few)) h.1 k.1
+      (sym (child_behind (length p.forks) 0 c) ∙ ap (drop 5) e
       ∙ child_behind (length p.forks - 1) (last_children p.forks) d) in
-      absurd (let a = k.0.0 in omega arith)
+      absurd (let (some, _) = k.0 in omega (arith, some))
   item_alone (item.Child c) (item.Layout m) h k e = let a : kind.Child ≡ kind.Layout = other (item.Child c)
       (item.Layout m) h k e in absurd (cc a)
   item_alone (item.Child c) (item.Text u) h k e = let a : kind.Child ≡ kind.Text = other (item.Child c)
@@ -333,13 +334,13 @@ module _ (p : Parts) (code : IsCode p) where
       (item.Instr y) h k e in absurd (cc a)
   item_alone (item.Child c) (item.Table d) h k e =
       let same = tables_same (length p.forks - 1) (length p.forks) (last_children p.forks) 0 c d before_few forks_few
-      (let a = h.0.1 in omega arith) (omega arith) h.1 k.1
+      (let (_, few) = h.0 in omega (arith, few)) (omega arith) h.1 k.1
       (sym (child_behind (length p.forks - 1) (last_children p.forks) c) ∙ ap (drop 5) e
       ∙ child_behind (length p.forks) 0 d) in
-      absurd (let a = h.0.0 in omega arith)
+      absurd (let (some, _) = h.0 in omega (arith, some))
   item_alone (item.Child c) (item.Child d) h k e =
       ap item.Child (child_same (length p.forks - 1) (length p.forks - 1)
-      (last_children p.forks) c d before_few before_few (let a = h.0.1 in omega arith) h.1 k.1
+      (last_children p.forks) c d before_few before_few (let (_, few) = h.0 in omega (arith, few)) h.1 k.1
       (sym (child_behind (length p.forks - 1) (last_children p.forks) c) ∙ ap (drop 5) e
       ∙ child_behind (length p.forks - 1) (last_children p.forks) d))
 

@@ -51,13 +51,13 @@ no_line (x ∷ text) more e = cc
 
 pub lines_more : (n : ℕ) (xs text : List ℕ) → AreLines n xs → IsOneLine text → AreLines (suc n) (xs ++ line text)
 lines_more zero xs text a w = (text, [], w, ap (λ (z : List ℕ). z ++ line text) a, refl)
-lines_more (suc n) xs text a w = (
-  a.0,
-  a.1 ++ line text,
-  a.2,
-  ap (λ (z : List ℕ). z ++ line text) a.3
-      ∙ append_assoc a.0 (10 ∷ a.1) (line text),
-  lines_more n a.1 text a.4 w,
+lines_more (suc n) xs text (first, after, one, joined, others) w = (
+  first,
+  after ++ line text,
+  one,
+  ap (λ (z : List ℕ). z ++ line text) joined
+      ∙ append_assoc first (10 ∷ after) (line text),
+  lines_more n after text others w,
 )
 
 -- a text that begins with n lines and with one more
@@ -69,23 +69,27 @@ pub record OneMore (xs ys a b : List ℕ) : Type 0 where
 
 pub one_more : (n : ℕ) (xs ys a b : List ℕ) → AreLines n xs → AreLines (suc n) ys → xs ++ a ≡ ys ++ b
     → OneMore xs ys a b
-one_more zero xs ys a b f g e = record {
-  text = g.0;
-  is_line = g.2;
-  lines = g.3 ∙ ap (λ (z : List ℕ). g.0 ++ 10 ∷ z) g.4 ∙ ap (λ (z : List ℕ). z ++ line g.0) (sym f);
+one_more zero xs ys a b f (first, _, one, joined, none_after) e = record {
+  text = first;
+  is_line = one;
+  lines = joined ∙ ap (λ (z : List ℕ). first ++ 10 ∷ z) none_after ∙ ap (λ (z : List ℕ). z ++ line first) (sym f);
   rest = ap (λ (z : List ℕ). z ++ a) (sym f) ∙ e
-      ∙ ap (λ (z : List ℕ). z ++ b) (g.3 ∙ ap (λ (z : List ℕ). g.0 ++ 10 ∷ z) g.4) ∙ append_assoc g.0 (10 ∷ []) b;
+      ∙ ap (λ (z : List ℕ). z ++ b) (joined ∙ ap (λ (z : List ℕ). first ++ 10 ∷ z) none_after)
+      ∙ append_assoc first (10 ∷ []) b;
 }
-one_more (suc n) xs ys a b f g e =
-    let left : xs ++ a ≡ f.0 ++ 10 ∷ (f.1 ++ a) = ap (λ (z : List ℕ). z ++ a) f.3 ∙ append_assoc f.0 (10 ∷ f.1) a in
-    let right : ys ++ b ≡ g.0 ++ 10 ∷ (g.1 ++ b) = ap (λ (z : List ℕ). z ++ b) g.3 ∙ append_assoc g.0 (10 ∷ g.1) b in
-    let k = sym (line_at f.0 (f.1 ++ a) f.2) ∙ ap (first_split 10) (sym left ∙ e ∙ right)
-    ∙ line_at g.0 (g.1 ++ b) g.2 in
-    let h = one_more n f.1 g.1 a b f.4 g.4 (parts_second _ _ _ _ k) in record {
+one_more (suc n) xs ys a b (x_first, x_after, x_one, x_joined, x_more) (y_first, y_after, y_one, y_joined, y_more) e =
+    let left : xs ++ a ≡ x_first ++ 10 ∷ (x_after ++ a) = ap (λ (z : List ℕ). z ++ a) x_joined
+    ∙ append_assoc x_first (10 ∷ x_after) a in
+    let right : ys ++ b ≡ y_first ++ 10 ∷ (y_after ++ b) = ap (λ (z : List ℕ). z ++ b) y_joined
+    ∙ append_assoc y_first (10 ∷ y_after) b in
+    let k = sym (line_at x_first (x_after ++ a) x_one) ∙ ap (first_split 10) (sym left ∙ e ∙ right)
+    ∙ line_at y_first (y_after ++ b) y_one in
+    let h = one_more n x_after y_after a b x_more y_more (parts_second _ _ _ _ k) in record {
       text = h.text;
       is_line = h.is_line;
-      lines = g.3 ∙ (λ i. parts_first _ _ _ _ (sym k) i ++ 10 ∷ h.lines i)
-          ∙ sym (append_assoc f.0 (10 ∷ f.1) (line h.text)) ∙ ap (λ (z : List ℕ). z ++ line h.text) (sym f.3);
+      lines = y_joined ∙ (λ i. parts_first _ _ _ _ (sym k) i ++ 10 ∷ h.lines i)
+          ∙ sym (append_assoc x_first (10 ∷ x_after) (line h.text))
+          ∙ ap (λ (z : List ℕ). z ++ line h.text) (sym x_joined);
       rest = h.rest;
     }
 
@@ -266,15 +270,15 @@ bad_first bytes bad = record {
     },
   );
   here = λ s.
-      let a = s.are_lines in
-      let left : s.lines ++ s.more ≡ a.0 ++ 10 ∷ (a.1 ++ s.more) = ap (λ (z : List ℕ). z ++ s.more) a.3
-      ∙ append_assoc a.0 (10 ∷ a.1) s.more in
-      let right : s.lines ++ s.rest ≡ a.0 ++ 10 ∷ (a.1 ++ s.rest) = ap (λ (z : List ℕ). z ++ s.rest) a.3
-      ∙ append_assoc a.0 (10 ∷ a.1) s.rest in
-      let k = sym (ap (first_split 10) left ∙ line_at a.0 (a.1 ++ s.more) a.2)
+      let (first, after, one, joined, _) = s.are_lines in
+      let left : s.lines ++ s.more ≡ first ++ 10 ∷ (after ++ s.more) = ap (λ (z : List ℕ). z ++ s.more) joined
+      ∙ append_assoc first (10 ∷ after) s.more in
+      let right : s.lines ++ s.rest ≡ first ++ 10 ∷ (after ++ s.rest) = ap (λ (z : List ℕ). z ++ s.rest) joined
+      ∙ append_assoc first (10 ∷ after) s.rest in
+      let k = sym (ap (first_split 10) left ∙ line_at first (after ++ s.more) one)
       ∙ begins_with_head s.begins.0 s.lines s.more s.begins.1.text in
-      bad (a.1 ++ s.rest) (ap (first_split 10) (s.joined ∙ right) ∙ line_at a.0 (a.1 ++ s.rest) a.2
-      ∙ ap (λ (z : List ℕ). Some (z, a.1 ++ s.rest)) (parts_first _ _ _ _ k));
+      bad (after ++ s.rest) (ap (first_split 10) (s.joined ∙ right) ∙ line_at first (after ++ s.rest) one
+      ∙ ap (λ (z : List ℕ). Some (z, after ++ s.rest)) (parts_first _ _ _ _ k));
   whole = λ t. bad (behind_head t.0).0 (ap (first_split 10) (t.1.text ∙ (behind_head t.0).1)
       ∙ first_line head (behind_head t.0).0 head_one_line);
 }

@@ -65,17 +65,15 @@ loop-rest-preserved c =
     let rest = c.loop-rest.rest.now in
     let text = c.in-Some-split_first.text.now in
     let behind = c.in-Some-split_first.behind.now in
-    let i = c.loop-rest.invariant in
+    let (n, line, begun, fits) = c.loop-rest.invariant in
     let next : IsNextItem p text (Some c.in-Some-2.item) =
     subst (IsNextItem p text) c.in-Some-2.is c.in-Ok.ensures in
-    let short = shorter rest text behind c.in-Some-split_first.ensures in
-    let line = i.1 in
-    let fits = i.3 in (
-      suc i.0,
-      omega arith,
-      begun_next bytes i.0 p rest text behind c.in-Some-2.item c.add.new.parts i.2 c.in-Some-split_first.ensures next
+    let short = shorter rest text behind c.in-Some-split_first.ensures in (
+      suc n,
+      omega (arith, line),
+      begun_next bytes n p rest text behind c.in-Some-2.item c.add.new.parts begun c.in-Some-split_first.ensures next
           c.in-Ok-add.ensures,
-      omega arith,
+      omega (arith, short, fits),
     )
 
 pub returns : goal.returns
