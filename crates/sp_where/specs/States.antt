@@ -61,8 +61,8 @@ lines_below _ _ _ = []
 -- a process that works, and goes on at this instruction
 abbrev pub working_line : Known → ProcName → ℕ → List ℕ
 working_line w name pc = line_start name (statement_at w.marks (landing w.code.instrs pc))
-    ++ if is_end (slice_get w.code.instrs (landing w.code.instrs pc)) then codes "runs to its end\n"
-    else codes "runs\n"
+    ++ (if is_end (slice_get w.code.instrs (landing w.code.instrs pc)) then codes "runs to its end\n"
+    else codes "runs\n")
 
 -- one that waits at an offer; none waits at another stop. last: the instruction at which its last turn ended
 abbrev pub waiting_line : Known → ProcName → (last : ℕ) → Stop → List ℕ
