@@ -7,7 +7,7 @@ ghost use Rattle.sp_verify_effects.specs.FactClosure.{Passes};
 use crate::edges::Edge;
 use crate::facts::Effect;
 use crate::have;
-use crate::sets::{add_all, has};
+use crate::sets::{add_all, has, members_of_both};
 use sp_base::Memory;
 use sp_code::ChildTable;
 use std::alloc::Global;
@@ -54,8 +54,19 @@ pub(crate) fn fits(alloc: Global, allowance: &Allowance, child: &ChildTable) -> 
     Ok(allowance.loaded.is_subset(&handed))
 }
 
-// Whether one allowance is within another.
-fn is_within(one: &Allowance, other: &Allowance) -> bool
+/// What two allowances have in common.
+pub(crate) fn shared_by(
+    alloc: Global,
+    one: &Allowance,
+    other: &Allowance,
+) -> Result<Allowance, Memory> {
+    let stored = have!(members_of_both(alloc, &one.stored, &other.stored));
+    let loaded = have!(members_of_both(alloc, &one.loaded, &other.loaded));
+    Ok(Allowance { stored, loaded })
+}
+
+/// Whether one allowance is within another.
+pub(crate) fn is_within(one: &Allowance, other: &Allowance) -> bool
     ensures { result ≡ true → IsWithin one.now other.now }
 {
     if one.stored.is_subset(&other.stored) {

@@ -13,6 +13,7 @@ ghost use Rattle.sp_verify_effects.specs.PassContexts.{IsPassContext};
 ghost use Rattle.sp_verify_rules.specs.Areas.{Area, homes as homes_of, instr_at};
 
 use crate::allowance::{Allowance, allows, fits, passes_within};
+use crate::callers::{flag_groups, groups_of};
 use crate::common::{Common, common_of};
 use crate::edges::{Edge, edge_at};
 use crate::facts::Effect;
@@ -199,57 +200,6 @@ fn mark_blocks(g: &PassContext, flags: &mut List<bool>)
     }
 }
 
-// Whether an edge of a row leads to an area whose flag is set.
-fn leads_to_flag(row: &[Edge], flags: &List<bool>) -> bool {
-    for edge in row {
-        if flag_at(flags, target(*edge) as usize) {
-            return true;
-        }
-    }
-    false
-}
-
-// Sets the flag of an area from which an edge leads to one whose flag is set, and says whether it is new.
-fn follow_row(rows: &List<List<Edge>>, flags: &mut List<bool>, m: usize) -> bool {
-    if flag_at(flags, m) {
-        return false;
-    }
-    match rows.get(m) {
-        None => false,
-        Some(row) => {
-            let leads = leads_to_flag(row.items(), flags);
-            if leads {
-                mark(flags, m);
-            }
-            leads
-        }
-    }
-}
-
-// The same for all areas, once up and once down, and says whether a flag is new.
-fn follow_rows(rows: &List<List<Edge>>, flags: &mut List<bool>) -> bool {
-    let count = rows.len();
-    let mut new = false;
-    for m in 0..count {
-        let up = follow_row(rows, flags, m);
-        new = new || up;
-    }
-    for m in 0..count {
-        let down = follow_row(rows, flags, count - 1 - m);
-        new = new || down;
-    }
-    new
-}
-
-// Sets flags until none is new, or gives up after so many rounds: whether all are set is seen afterwards.
-fn follow(rows: &List<List<Edge>>, flags: &mut List<bool>) {
-    for _round in 0..50 {
-        if !follow_rows(rows, flags) {
-            return;
-        }
-    }
-}
-
 // Whether a child is handed all that its area may do.
 fn fits_some(asked: &Asked, child: &ChildTable) -> Result<bool, Memory>
     ensures { IfOk result (λ b. b ≡ true → Fits (allowance_at asked.now child.now.entry) child.now) }
@@ -413,8 +363,7 @@ fn asks(g: &PassContext, asked: &Asked) -> Result<bool, Memory>
     Ok(false)
 }
 
-// Flags of what rules ask about, and of what leads to it along the edges, as far as some rounds go; and the allowances
-// of these areas.
+// Flags of what rules ask about, and of what leads to it along the edges; and the allowances of these areas.
 fn find_asked(g: &PassContext, rows: &List<List<Edge>>) -> Result<Asked, Memory>
     requires known { IsPassContext g.now }
 {
@@ -422,14 +371,14 @@ fn find_asked(g: &PassContext, rows: &List<List<Edge>>) -> Result<Asked, Memory>
     let alloc = parts.instrs.alloc();
     let mut whole = have!(no_flags(alloc, parts.instrs.len()));
     mark_blocks(g, &mut whole);
-    let mut flags = have!(no_flags(alloc, parts.instrs.len()));
-    mark_blocks(g, &mut flags);
+    let mut flags = have!(List::from_slice(alloc, whole.items()));
     mark_tables(&mut flags, parts.forks.items());
-    follow(rows, &mut flags);
+    let groups = have!(groups_of(rows));
+    flag_groups(rows, &groups, &mut flags);
     let Common {
         numbers,
         allowances,
-    } = have!(common_of(&parts.forks, rows, &flags, &whole));
+    } = have!(common_of(&parts.forks, rows, &groups, &flags, &whole));
     Ok(Asked {
         all: false,
         flags,
@@ -438,7 +387,7 @@ fn find_asked(g: &PassContext, rows: &List<List<Edge>>) -> Result<Asked, Memory>
     })
 }
 
-/// What rules ask about, and what leads to it along these edges; all, if it is not found in some rounds.
+/// What rules ask about, and what leads to it along these edges.
 pub(crate) fn asked_of(g: &PassContext, rows: &List<List<Edge>>) -> Result<Asked, Memory>
     requires known { IsPassContext g.now }
     ensures asks { IfOk result (Asks g.now.code.now) }

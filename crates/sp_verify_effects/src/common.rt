@@ -1,153 +1,23 @@
-//! Finds for each area an allowance that all have that ask about it: children are handed the same variables, and the
-//! areas that only they start and call need not be asked about these. Nothing here has a contract: `asked.rt` looks
-//! afterwards whether what is found is right.
+//! Finds for each area an allowance that all have that ask about it: what all children are handed that come to an area
+//! need not be asked about it. It goes over the groups of `callers.rt` once. Nothing here has a contract:
+//! `asked_areas.rt` checks what is found.
 
-use crate::allowance::{Allowance, allowance_of, passes_within};
+use crate::allowance::{Allowance, passes_within};
 use crate::asked_areas::target;
+use crate::callers::{Groups, NONE, number_of, set_number};
+use crate::classes::{Classes, UNKNOWN, class_of, may_compare, met, no_classes};
 use crate::edges::Edge;
 use crate::have;
 use sp_base::{List, Memory};
 use sp_code::{ChildTable, ForkTable};
 use sp_verify_areas::flags::flag_at;
 use std::alloc::Global;
-use std::collections::BTreeMap;
-
-// The number of an area of which nothing is known yet, and that of one which has no allowance.
-const UNKNOWN: u32 = 4_294_967_294;
-
-const NONE: u32 = 4_294_967_295;
-// How many variables allowances may have together.
-const MOST_VARIABLES: usize = 4_000_000;
 
 /// Allowances, and of each instruction the number of that of the area which begins there, if it has one.
 #[derive(Drop)]
 pub(crate) struct Common {
     pub numbers: List<u32>,
     pub allowances: List<Allowance>,
-}
-
-// The allowances of children, by sums over their lists, and the first child that has each.
-#[derive(Drop)]
-struct Classes<'a> {
-    tables: &'a List<ForkTable>,
-    known: BTreeMap<(u32, u32), u32>,
-    firsts: List<(usize, usize)>,
-    allowances: List<Allowance>,
-    room: usize,
-}
-
-fn sum_of(xs: &[u32]) -> u32 {
-    let mut sum: u32 = 7;
-    for x in xs {
-        sum = ((sum as u64 * 31 + *x as u64) % 4_294_967_291) as u32;
-    }
-    sum
-}
-
-fn are_same(xs: &[u32], ys: &[u32]) -> bool {
-    if xs.len() != ys.len() {
-        return false;
-    }
-    for (k, x) in xs.iter().enumerate() {
-        match ys.get(k) {
-            None => return false,
-            Some(y) => {
-                if *x != *y {
-                    return false;
-                }
-            }
-        }
-    }
-    true
-}
-
-// The child at a place of the tables.
-fn child_of(tables: &List<ForkTable>, place: (usize, usize)) -> Option<&ChildTable> {
-    match tables.get(place.0) {
-        None => None,
-        Some(table) => table.children.get(place.1),
-    }
-}
-
-// The number of a class, if its first child is handed the same as this one.
-fn same_as(classes: &Classes, number: u32, child: &ChildTable) -> u32 {
-    let place = match classes.firsts.get(number as usize) {
-        None => return NONE,
-        Some(place) => *place,
-    };
-    match child_of(classes.tables, place) {
-        None => NONE,
-        Some(first) => {
-            if are_same(first.moved.items(), child.moved.items())
-                && are_same(first.shared.items(), child.shared.items())
-            {
-                number
-            } else {
-                NONE
-            }
-        }
-    }
-}
-
-// A new class, if there is room for it.
-fn put_class(
-    alloc: Global,
-    classes: &mut Classes,
-    key: (u32, u32),
-    place: (usize, usize),
-    child: &ChildTable,
-) -> Result<u32, Memory> {
-    let number = classes.firsts.len();
-    let moved = child.moved.len();
-    let shared = child.shared.len();
-    if number >= 4_000_000 || moved > classes.room || shared > classes.room - moved {
-        return Ok(NONE);
-    }
-    classes.room = classes.room - moved - shared;
-    let allowance = have!(allowance_of(alloc, child));
-    have!(classes.allowances.push(allowance));
-    have!(classes.firsts.push(place));
-    have!(classes.known.insert(key, number as u32));
-    Ok(number as u32)
-}
-
-// The number of the class of a child.
-fn class_of(
-    alloc: Global,
-    classes: &mut Classes,
-    place: (usize, usize),
-    child: &ChildTable,
-) -> Result<u32, Memory> {
-    let key = (sum_of(child.moved.items()), sum_of(child.shared.items()));
-    match classes.known.get(&key).copied() {
-        Some(number) => Ok(same_as(classes, number, child)),
-        None => put_class(alloc, classes, key, place, child),
-    }
-}
-
-fn number_at(numbers: &List<u32>, m: usize) -> u32 {
-    match numbers.get(m) {
-        None => NONE,
-        Some(number) => *number,
-    }
-}
-
-fn set_number(numbers: &mut List<u32>, m: usize, number: u32) {
-    if m < numbers.len() {
-        let _old = numbers.replace(m, number);
-    }
-}
-
-// What two areas have that ask about a third one.
-fn met(one: u32, other: u32) -> u32 {
-    if one == UNKNOWN {
-        return other;
-    }
-    if other == UNKNOWN || one == other {
-        one
-    } else {
-        NONE
-    }
 }
 
 // Gives the children of a table their numbers.
@@ -161,7 +31,7 @@ fn number_children(
     for (k, child) in children.iter().enumerate() {
         let number = have!(class_of(alloc, classes, (t, k), child));
         let m = child.entry as usize;
-        let now = met(number_at(numbers, m), number);
+        let now = have!(met(alloc, classes, number_of(numbers, m), number));
         set_number(numbers, m, now);
     }
     Ok(())
@@ -180,70 +50,144 @@ fn number_tables(
     Ok(())
 }
 
-// Whether an allowance passes along an edge to an area that has the same one.
-fn passes(allowances: &List<Allowance>, number: u32, edge: Edge) -> bool {
-    match allowances.get(number as usize) {
-        None => true,
-        Some(allowance) => match edge {
-            Edge::Passed {
-                to: _,
-                formal: _,
-                actual: _,
-            } => passes_within(allowance, allowance, true, edge),
-            _ => true,
-        },
-    }
+// What goes over the areas: which are asked about, and where edges lead.
+#[derive(Clone, Copy)]
+struct Pass<'a> {
+    rows: &'a List<List<Edge>>,
+    groups: &'a Groups,
+    flags: &'a List<bool>,
 }
 
-// The number of an area, by its own one and those of the areas to which its edges lead.
-fn number_of_row(common: &Common, flags: &List<bool>, row: &[Edge], m: usize) -> u32 {
-    let mut number = number_at(&common.numbers, m);
+// The number that an area has in common with those before it and with the ones to which an edge leads, unless that is
+// in its group.
+fn met_along(
+    alloc: Global,
+    classes: &mut Classes,
+    numbers: &List<u32>,
+    pass: &Pass,
+    m: usize,
+    row: &[Edge],
+    before: u32,
+) -> Result<u32, Memory> {
+    let group = number_of(&pass.groups.numbers, m);
+    let mut number = before;
     for edge in row {
         let to = target(*edge) as usize;
-        if number != NONE && flag_at(flags, to) {
-            number = met(number, number_at(&common.numbers, to));
-            if !passes(&common.allowances, number, *edge) {
-                number = NONE;
+        if flag_at(pass.flags, to) && number_of(&pass.groups.numbers, to) != group {
+            number = have!(met(alloc, classes, number, number_of(numbers, to)));
+        }
+    }
+    Ok(number)
+}
+
+// The same for an area of a group.
+fn met_of(
+    alloc: Global,
+    classes: &mut Classes,
+    numbers: &List<u32>,
+    pass: &Pass,
+    m: usize,
+    before: u32,
+) -> Result<u32, Memory> {
+    let own = have!(met(alloc, classes, before, number_of(numbers, m)));
+    match pass.rows.get(m) {
+        None => Ok(own),
+        Some(row) => met_along(alloc, classes, numbers, pass, m, row.items(), own),
+    }
+}
+
+// Whether one allowance goes along an edge to an area that has the other one.
+fn passes(classes: &mut Classes, number: u32, other: u32, edge: Edge) -> bool {
+    match edge {
+        Edge::Passed {
+            to: _,
+            formal: _,
+            actual: _,
+        } => match classes.allowances.get(number as usize) {
+            None => true,
+            Some(one) => match classes.allowances.get(other as usize) {
+                None => false,
+                Some(allowance) => passes_within(one, allowance, number == other, edge),
+            },
+        },
+        _ => may_compare(classes, number, other),
+    }
+}
+
+// Whether it goes along all edges of an area.
+fn passes_row(
+    classes: &mut Classes,
+    numbers: &List<u32>,
+    pass: &Pass,
+    m: usize,
+    number: u32,
+) -> bool {
+    let row = match pass.rows.get(m) {
+        None => return true,
+        Some(row) => row,
+    };
+    let group = number_of(&pass.groups.numbers, m);
+    for edge in row.items() {
+        let to = target(*edge) as usize;
+        if flag_at(pass.flags, to) {
+            let is_near = number_of(&pass.groups.numbers, to) == group;
+            let other = if is_near {
+                number
+            } else {
+                number_of(numbers, to)
+            };
+            if !passes(classes, number, other, *edge) {
+                return false;
             }
         }
     }
-    number
+    true
 }
 
-// Finds the number of an area again, and says whether it is new.
-fn number_row(common: &mut Common, flags: &List<bool>, rows: &List<List<Edge>>, m: usize) -> bool {
-    if !flag_at(flags, m) {
-        return false;
+// The number of the areas of a group.
+fn number_of_group(
+    alloc: Global,
+    classes: &mut Classes,
+    numbers: &List<u32>,
+    pass: &Pass,
+    from: usize,
+    end: usize,
+) -> Result<u32, Memory> {
+    let mut number = UNKNOWN;
+    for k in from..end {
+        let m = number_of(&pass.groups.members, k) as usize;
+        number = have!(met_of(alloc, classes, numbers, pass, m, number));
     }
-    match rows.get(m) {
-        None => false,
-        Some(row) => {
-            let number = number_of_row(common, flags, row.items(), m);
-            let new = number != number_at(&common.numbers, m);
-            if new {
-                set_number(&mut common.numbers, m, number);
-            }
-            new
+    for k in from..end {
+        let m = number_of(&pass.groups.members, k) as usize;
+        if number != NONE && number != UNKNOWN && !passes_row(classes, numbers, pass, m, number) {
+            number = NONE;
         }
     }
+    Ok(number)
 }
 
-// The same for all areas, once down and once up.
-fn number_rows(common: &mut Common, flags: &List<bool>, rows: &List<List<Edge>>) -> bool {
-    let count = rows.len();
-    let mut new = false;
-    for m in 0..count {
-        let down = number_row(common, flags, rows, count - 1 - m);
-        new = new || down;
+// Finds the numbers of the areas of a group, if they are asked about.
+fn number_group(
+    alloc: Global,
+    classes: &mut Classes,
+    numbers: &mut List<u32>,
+    pass: &Pass,
+    from: usize,
+    end: usize,
+) -> Result<(), Memory> {
+    if !flag_at(pass.flags, number_of(&pass.groups.members, from) as usize) {
+        return Ok(());
     }
-    for m in 0..count {
-        let up = number_row(common, flags, rows, m);
-        new = new || up;
+    let number = have!(number_of_group(alloc, classes, numbers, pass, from, end));
+    for k in from..end {
+        set_number(numbers, number_of(&pass.groups.members, k) as usize, number);
     }
-    new
+    Ok(())
 }
 
-// So many areas; nothing is known of those that are asked about in part, and the others have no allowance.
+// As many areas as there are instructions; nothing is known of those that are asked about in part, and the others have
+// no allowance.
 fn first_numbers(alloc: Global, count: usize, whole: &List<bool>) -> Result<List<u32>, Memory> {
     let mut numbers = List::new(alloc);
     for m in 0..count {
@@ -258,34 +202,38 @@ fn first_numbers(alloc: Global, count: usize, whole: &List<bool>) -> Result<List
 pub(crate) fn common_of(
     tables: &List<ForkTable>,
     rows: &List<List<Edge>>,
+    groups: &Groups,
     flags: &List<bool>,
     whole: &List<bool>,
 ) -> Result<Common, Memory> {
     let alloc = rows.alloc();
     let mut numbers = have!(first_numbers(alloc, rows.len(), whole));
-    let mut classes = Classes {
-        tables,
-        known: BTreeMap::new(alloc),
-        firsts: List::new(alloc),
-        allowances: List::new(alloc),
-        room: MOST_VARIABLES,
-    };
+    let mut classes = no_classes(alloc, tables);
     have!(number_tables(alloc, &mut classes, &mut numbers, tables.items()));
+    let pass = Pass {
+        rows,
+        groups,
+        flags,
+    };
+    let mut from = 0;
+    for end in groups.ends.items() {
+        let end = *end as usize;
+        have!(number_group(alloc, &mut classes, &mut numbers, &pass, from, end));
+        from = end;
+    }
     let Classes {
         tables: _,
         known: _,
         firsts: _,
+        meetings: _,
+        met: _,
         allowances,
         room: _,
+        room_met: _,
+        work: _,
     } = classes;
-    let mut common = Common {
+    Ok(Common {
         numbers,
         allowances,
-    };
-    for _round in 0..50 {
-        if !number_rows(&mut common, flags, rows) {
-            return Ok(common);
-        }
-    }
-    Ok(common)
+    })
 }

@@ -32,9 +32,11 @@
 pub mod allowance;
 pub mod areas;
 pub mod asked_areas;
+pub mod callers;
 pub mod calls;
 pub mod child_effects;
 pub mod clash;
+pub mod classes;
 pub mod closure;
 pub mod common;
 pub mod edges;

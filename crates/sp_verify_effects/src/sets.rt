@@ -4,6 +4,7 @@ ghost use Rattle.std.specs.Prelude.{◌≡◌, IfOk, OnOk, not};
 ghost use Rattle.sp_verify_effects.specs.Sets.{all_new, goes_beyond, meets, with_all, with_index, with_one, has};
 
 use sp_base::Memory;
+use std::alloc::Global;
 use std::collections::BTreeSet;
 
 /// What a call gives; where memory is refused to it, the function around ends so. One match, where `?` is two generic
@@ -45,6 +46,19 @@ pub(crate) fn add_all(set: &mut BTreeSet<u32>, xs: &[u32]) -> Result<bool, Memor
         new &= one;
     }
     Ok(new)
+}
+
+/// The variables that are in both sets.
+pub(crate) fn members_of_both(
+    alloc: Global,
+    one: &BTreeSet<u32>,
+    other: &BTreeSet<u32>,
+) -> Result<BTreeSet<u32>, Memory> {
+    let mut both = BTreeSet::new(alloc);
+    for x in one.intersection(other) {
+        have!(both.insert(*x));
+    }
+    Ok(both)
 }
 
 /// Adds the index of a forall, if there is one.
