@@ -86,27 +86,27 @@ module _ (c : Parts) (os : List Owner) (s : Shapes) (kept : (x : ℕ) → Breaks
 
   own_again : (f : Fact) → OwnAt c p f → OwnAt c q f
   own_again f (a, l, e, inl (ss, r, d)) =
-      let b = earlier a ss (l.0, r) in (
-        b.0,
-        (b.1.0, passes c b.0 q ss b.1.1),
-        e ∙ sym b.2,
-        inl (ss, b.1.1, does_again a b.0 ss f.effect d),
+      let (b, (is_area, comes), same) = earlier a ss (l.0, r) in (
+        b,
+        (is_area, passes c b q ss comes),
+        e ∙ sym same,
+        inl (ss, comes, does_again a b ss f.effect d),
       )
   own_again f (a, l, e, inr (k, t, st, d)) = absurd (no_child k t st.1)
 
   edge_again : (m : ℕ) (e : Edge) → EdgeAt c p m e → EdgeAt c q m e
   edge_again m e (inl (a, f, up, ss, l, there, call, w)) =
-      let b = earlier a ss (there, call.reached) in
+      let (b, (is_area, comes), same) = earlier a ss (there, call.reached) in
       let g : h.block ≡ f = same_Some h.block f (sym h.calls ∙ ap called_block call.call) in
       inl (
-        b.0,
+        b,
         f,
         before.0,
         ss,
         l,
-        b.1.0,
-        record { reached = b.1.1; call = before.1 ∙ ap (λ z. Some (i.Call z before.0)) g; layout = call.layout },
-        subst (λ n. IsCall l n ss m e) (sym b.2) w,
+        is_area,
+        record { reached = comes; call = before.1 ∙ ap (λ z. Some (i.Call z before.0)) g; layout = call.layout },
+        subst (λ n. IsCall l n ss m e) (sym same) w,
       )
   edge_again m e (inr (a, k, t, there, st, w)) = absurd (no_child k t st.1)
 

@@ -97,11 +97,11 @@ module _ (stored loaded : List ℕ) (t : ChildTable) where
       )
 
   loads_from : LoadsBeyond loaded t → goes_beyond (known_keys t) loaded ≡ true
-  loads_from s =
-      beyond_from (known_keys t) loaded s.0 s.1
-      (false_from_ne_true (has (known_keys t) s.0)
-      (λ h. ⊎_elim (λ i. s.3 (handed_member t s.0 i)) (λ i. aside_not t.index s.0 s.2 i)
-      (index_in (handed_keys t) t.index s.0 h)))
+  loads_from (x, is_loaded, counts, not_handed) =
+      beyond_from (known_keys t) loaded x is_loaded
+      (false_from_ne_true (has (known_keys t) x)
+      (λ h. ⊎_elim (λ i. not_handed (handed_member t x i)) (λ i. aside_not t.index x counts i)
+      (index_in (handed_keys t) t.index x h)))
 
   moved_twice : all_new [] t.moved ≡ false → AllDifferent (handed_to t) → ⊥
   moved_twice e d = not_true_and_false (all_new [] t.moved)

@@ -58,7 +58,9 @@ first_of (m ∷ ls) (suc j) l e = go (m.block == l.block) refl (first_of ls j l 
         → (k : ℕ) × (n : Layout) × (slice_get (m ∷ ls) k ≡ Some n) × (n.block ≡ l.block)
         × (layout_of (m ∷ ls) l.block ≡ Some n)
     go true t r = (zero, m, refl, eqb-true m.block l.block t, ap (λ b. if b then Some m else layout_of ls l.block) t)
-    go false t r = (suc r.0, r.1, r.2, r.3, ap (λ b. if b then Some m else layout_of ls l.block) t ∙ r.4)
+    go false t r =
+        let (k, n, there, same_block, found) = r in
+        (suc k, n, there, same_block, ap (λ b. if b then Some m else layout_of ls l.block) t ∙ found)
 
 module _ (c : Parts) (kept : (p : ℕ) → BreaksV1 c p → ⊥) where
   -- where blocks differ, it is that layout
@@ -101,9 +103,9 @@ module _ (c : Parts) (kept : (p : ℕ) → BreaksV1 c p → ⊥) where
   module _ (ks : List (ℕ × ℕ)) (own : AreOwn c ks) (f : ℕ) (l : Layout) (is : layout_of c.layouts f ≡ Some l) where
     pub own_in : (x : ℕ) → owns ks l.entry x ≡ true → IsMember x l.variables
     own_in x h =
-        let o = (own (l.entry, x)).0 h in
+        let (j, m, there, (same_entry, among)) = (own (l.entry, x)).0 h in
         is_member x l.variables
-        (subst (λ (z : Layout). IsIn x z.variables) (same_layout f o.0 l o.1 is o.2 o.3.0) o.3.1)
+        (subst (λ (z : Layout). IsIn x z.variables) (same_layout f j l m is there same_entry) among)
 
     pub in_own : (x : ℕ) → IsMember x l.variables → owns ks l.entry x ≡ true
     in_own x h = let j = layout_in c.layouts f l is in (own (l.entry, x)).1
@@ -121,7 +123,7 @@ module _ (c : Parts) (kept : (p : ℕ) → BreaksV1 c p → ⊥) where
           (let g = b.0 in Prim.grind (arith, g)),
           λ m. not_true_and_false (owns ks l.entry x) (in_own x m) (not-true (owns ks l.entry x) b.1),
         ))
-        (λ h. let r = out_is n xs h in (r.0, inr r.1, r.2, r.3))
+        (λ h. let (y, among, at_least, outside) = out_is n xs h in (y, inr among, at_least, outside))
         (or_cases (nat_le n x && not (owns ks l.entry x)) (goes_out ks l.entry n xs) e)
 
     pub out_from : (n : ℕ) (xs : List ℕ) (x : ℕ) → IsMember x xs → n ≤ x → (IsMember x l.variables → ⊥)

@@ -80,9 +80,9 @@ module _ (l : Layout) (ss : List Shape) where
       let r = given_some (slice_get l.formals (length l.formals - 1 - i))
       (λ f. on_option None (slice_get ss i) (actual_of f)) x e in
       let s = given_some (slice_get ss i) (actual_of r.0) x r.2 in
-      let t = actual_is r.0 s.0 x s.2 in
+      let (cells, left, formal_is, operand_is) = actual_is r.0 s.0 x s.2 in
       let back : length l.formals - 1 - (length l.formals - 1 - i) ≡ i = omega (arith, h) in
-      (t.0, t.1, r.1 ∙ ap Some t.2, ap (slice_get ss) back ∙ s.1 ∙ ap Some t.3)
+      (cells, left, r.1 ∙ ap Some formal_is, ap (slice_get ss) back ∙ s.1 ∙ ap Some operand_is)
 
   is_at : (k x : ℕ) → IsActual l ss k x → (k < length l.formals) × IsActualAt (length l.formals - 1 - k) x
   is_at k x (cells, left, f, s) =
@@ -233,7 +233,7 @@ module _ (e : Effects) (entry : ℕ) where
   outer_is (x ∷ xs) h =
       ⊎_elim (λ k. let b = and_parts (touches e entry x) (not (owns e.own.keys entry x)) k in
       (x, inl refl, b.0, not-true (owns e.own.keys entry x) b.1))
-      (λ k. let r = outer_is xs k in (r.0, inr r.1, r.2, r.3))
+      (λ k. let (y, among, is_touched, not_own) = outer_is xs k in (y, inr among, is_touched, not_own))
       (or_cases (is_outer e entry x) (meets_outer e entry xs) h)
 
   is_outer_from : (x : ℕ) → touches e entry x ≡ true → owns e.own.keys entry x ≡ false → is_outer e entry x ≡ true
@@ -288,14 +288,14 @@ module _ (c : Parts) (e : Effects) (are : AreEffects c e) (kept : (p : ℕ) → 
   outer_rule : meets_outer e l.entry Xs ≡ true → (k x : ℕ) × IsActual l ss k x
       × fork.IsOuter c (Does c) (HasStop c) l b x
   outer_rule h =
-      let r = outer_is e l.entry Xs h in
-      let i = member_at l ss (length l.formals) r.0 r.1 in (
+      let (x, among, is_touched, not_own) = outer_is e l.entry Xs h in
+      let i = member_at l ss (length l.formals) x among in (
         length l.formals - 1 - i.0,
-        r.0,
-        at_is l ss i.0 r.0 i.1 i.2,
+        x,
+        at_is l ss i.0 x i.1 i.2,
         (
-          (touched (length l.formals - 1 - i.0) r.0 (at_is l ss i.0 r.0 i.1 i.2)).0 r.2,
-          λ m. not_true_and_false (owns e.own.keys l.entry r.0) (in_own c kept e.own.keys are.own b l at r.0 m) r.3,
+          (touched (length l.formals - 1 - i.0) x (at_is l ss i.0 x i.1 i.2)).0 is_touched,
+          λ m. not_true_and_false (owns e.own.keys l.entry x) (in_own c kept e.own.keys are.own b l at x m) not_own,
         ),
       )
 
@@ -353,15 +353,15 @@ module _ (c : Parts) (e : Effects) (are : AreEffects c e) (kept : (p : ℕ) → 
       let y = given_true (called_block (instr_at c p)) (by_block n) x.2 in
       let b = y.0 in
       let z = given_true (layout_of c.layouts b) (λ l. call_clashes e l (list_of s.stacks n)) y.2 in
-      let come = shapes.come p n (stands s p n x.1) in
+      let (a, (is_area, comes)) = shapes.come p n (stands s p n x.1) in
       let call = called_is (instr_at c p) b y.1 in (
-        come.0,
+        a,
         b,
         call.0,
         list_of s.stacks n,
         z.0,
-        come.1.0,
-        record { reached = come.1.1; call = call.1; layout = z.1 },
+        is_area,
+        record { reached = comes; call = call.1; layout = z.1 },
         clash_rule c e are kept z.0 b z.1 (list_of s.stacks n) z.2,
       )
 

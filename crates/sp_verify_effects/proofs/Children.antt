@@ -90,8 +90,8 @@ module _ (c : Parts) (kept : (p : ℕ) → BreaksV1 c p → ⊥) (os : List Owne
   child_area t k ch h = go (name_in t c.instrs)
     where
       in_area : (q : ℕ) → Names c t q → ((a : Area) × LiesIn c q a) ⊎ ((a : Area) → LiesIn c q a → ⊥) → IsOf c t k ch
-      in_area q n (inl r) = let e = child_by c t q k ch n h in
-          record { around = r.0; position = q; names = n; there = (r.1.0, r.1.1, (ch, e)); child = e }
+      in_area q n (inl (area, lies)) = let e = child_by c t q k ch n h in
+          record { around = area; position = q; names = n; there = (lies.0, lies.1, (ch, e)); child = e }
       in_area q n (inr f) = let d = first_child t k ch h in absurd
           (kept d.0.entry (TableUnnamed (t, d.0, d.1, refl, inr (inr (q, n, f)))))
 

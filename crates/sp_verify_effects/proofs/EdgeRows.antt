@@ -116,14 +116,14 @@ starts_more a b d ts n k t g u v = links_as a d (λ m e. OneStarts ts n k m e
     ⊎ IsStart t n m e) (OneStarts ts n (k + 1)) to from (links_then a b d (OneStarts ts n k) (IsStart t n) u v)
   where
     to : (m : ℕ) (e : Edge) → OneStarts ts n k m e ⊎ IsStart t n m e → OneStarts ts n (k + 1) m e
-    to m e (inl w) = (w.0, w.1, (let l = w.2 in omega (arith, l)), w.3, w.4)
+    to m e (inl (j, child, below, there, start)) = (j, child, omega (arith, below), there, start)
     to m e (inr w) = (k, t, omega arith, g, w)
 
     from : (m : ℕ) (e : Edge) → OneStarts ts n (k + 1) m e → OneStarts ts n k m e ⊎ IsStart t n m e
-    from m e w =
-        ⊎_elim (λ l. inl (w.0, w.1, l, w.3, w.4))
-        (λ s. inr (subst (λ (y : ChildTable). IsStart y n m e) (same_Some w.1 t (sym w.3 ∙ ap (slice_get ts) s
-        ∙ g)) w.4)) (below_or_last w.0 k w.2)
+    from m e (j, child, below, there, start) =
+        ⊎_elim (λ less. inl (j, child, less, there, start))
+        (λ s. inr (subst (λ (y : ChildTable). IsStart y n m e) (same_Some child t (sym there ∙ ap (slice_get ts) s
+        ∙ g)) start)) (below_or_last j k below)
 
 -- ---- operands
 
@@ -160,7 +160,7 @@ module _ (l : Layout) (n : ℕ) (ss : List Shape) where
   pub deeper_end : (a b : List (List Edge)) (j k : ℕ) → ((d : ℕ) → j < d + 1 → slice_get ss d ≡ None)
       → Links a b (IsDeeper l n ss j) → j < k + 1 → Links a b (IsDeeper l n ss k)
   deeper_end a b j k none t h = links_as a b (IsDeeper l n ss j) (IsDeeper l n ss k)
-      (λ m e w. (w.0, (w.1.0, (let z = w.1.1 in omega (arith, z, h)), w.1.2))) from t
+      (λ m e (q, (d, below, deep)). (q, (d, omega (arith, below, h), deep))) from t
     where
       from : (m : ℕ) (e : Edge) → IsDeeper l n ss k m e → IsDeeper l n ss j m e
       from m e (q, (d, z, (s, i, w))) =
@@ -192,19 +192,20 @@ module _ (l : Layout) (n : ℕ) (ss : List Shape) where
 
   deep_passed : (e : Edge) → ((d : ℕ) × (d < length l.formals) × IsDeep l n ss d e) → IsPassed l n ss e
   deep_passed e (d, z, (s, i, w)) =
-      let r = is_passed (slice_get l.variables (formal_at l d)) (slice_get l.formals (formal_at l d)) s e w in (
+      let (y, cells, x, left, number_is, formal_is, operand_is, edge_is) = is_passed
+      (slice_get l.variables (formal_at l d)) (slice_get l.formals (formal_at l d)) s e w in (
         formal_at l d,
-        r.0,
-        r.2,
-        r.4,
+        y,
+        x,
+        number_is,
         (
-          r.1,
-          r.3,
-          r.5,
+          cells,
+          left,
+          formal_is,
           ap (slice_get ss) (turned d (length l.formals) z) ∙ i
-              ∙ ap Some r.6,
+              ∙ ap Some operand_is,
         ),
-        r.7,
+        edge_is,
       )
 
   passed_deep : (e : Edge) → IsPassed l n ss e → (d : ℕ) × (d < length l.formals) × IsDeep l n ss d e
@@ -270,7 +271,8 @@ module _ (c : Parts) (p : ℕ) where
   module _ (shapes : Shapes) (are : AreShapes c shapes) where
     pub no_stack : (a : List (List Edge)) → reached_at shapes p ≡ None → Links a a (CalledAt c p)
     no_stack a e = links_none a (CalledAt c p)
-        (λ m g w. let k = are.all w.0 p w.3 (w.5, w.6.reached) in none-some k.0 (sym e
+        (λ m g (area, _, _, ss, _, there, call, _).
+        let k = are.all area p ss (there, call.reached) in none-some k.0 (sym e
         ∙ reached_there shapes p k.0 k.1))
 
   module _ (a : Area) (n : ℕ) (only : LiesOnlyIn c p a) (at : entry c a ≡ n) where
@@ -289,17 +291,19 @@ module _ (c : Parts) (p : ℕ) where
         same_area d ts w = only.1 d (w.0, passes c d p ts w.1)
 
         comes : Reaches c a p ss
-        comes = let k = are.come p s here in subst (λ (z : Area). Reaches c z p ss) (same_area k.0 ss k.1) k.1.1
+        comes = let (area, come) = are.come p s here in
+            subst (λ (z : Area). Reaches c z p ss) (same_area area ss come) come.1
 
         to : (m : ℕ) (g : Edge) → IsCall l n ss m g → CalledAt c p m g
         to m g w =
-            let u = called_is (instr_at c p) f b in (
+            let u = called_is (instr_at c p) f b in
+            let lies = only.0 in (
               a,
               f,
               u.0,
               ss,
               l,
-              only.0.0,
+              lies.0,
               record { reached = comes; call = u.1; layout = h },
               subst
                   (λ z. IsCall l z ss m g) (sym at) w,
@@ -327,13 +331,13 @@ module _ (c : Parts) (p : ℕ) where
             ∙ ap (λ (xs : List ChildTable). slice_get xs k) (sym s)
 
         to : (m : ℕ) (g : Edge) → OneStarts ts n (length ts) m g → StartedAt c p m g
-        to m g (k, ch, z, h, w) = (
+        to m g (k, ch, z, h, w) = let lies = only.0 in (
           a,
           k,
           ch,
-          only.0.0,
+          lies.0,
           (
-            only.0.1,
+            lies.1,
             child_is k
                 ∙ h,
           ),
@@ -349,8 +353,9 @@ module _ (c : Parts) (p : ℕ) where
   pub nothing_at : (a : List (List Edge)) → ((d : Area) → LiesIn c p d → ⊥) → Links a a (EdgeAt c p)
   nothing_at a never =
       links_none a (EdgeAt c p) (λ m g w. ⊎_elim
-      (λ (z : CalledAt c p m g). never z.0 (z.5, passes c z.0 p z.3 z.6.reached))
-      (λ (z : StartedAt c p m g). never z.0 (z.3, z.4.0)) w)
+      (λ (z : CalledAt c p m g). let (d, _, _, ss, _, there, call, _) = z in
+      never d (there, passes c d p ss call.reached))
+      (λ (z : StartedAt c p m g). let (d, _, _, there, started, _) = z in never d (there, started.0)) w)
 
 -- ---- first instructions are there
 

@@ -187,7 +187,7 @@ module _ (c : Parts) (kept : (p : ℕ) → BreaksV1 c p → ⊥) (os : List Owne
         first_true : (g : Fact) → has_fact old g ≡ true → IsTrue g
         first_true g h = ⊎_elim (λ z. absurd (cc z))
             (λ (w : OwnBefore c k (length c.instrs) g).
-            (w.2.0.0, w.2.0.1.0, w.2.0.2, does_effect_of w.2.0.0 w.0 g.effect w.2.0.3))
+            let (p, _, ((a, lies, at, does), _)) = w in (a, lies.0, at, does_effect_of a p g.effect does))
             (start.only g h)
 
         all_true : (n : ℕ) (g : Fact) → FollowsBy k rows ks old n g → IsTrue g
@@ -197,8 +197,8 @@ module _ (c : Parts) (kept : (p : ℕ) → BreaksV1 c p → ⊥) (os : List Owne
         sound : (a : Area) (d : Effect) → IsArea c a → has_fact new (fact (entry c a) d) ≡ true → IsEffectOf c a d
         sound a d ia h =
             let w = closes.only (fact (entry c a) d) h in
-            let t = all_true w.0 (fact (entry c a) d) w.1 in
-            subst (λ (z : Area). IsEffectOf c z d) (one_area t.0 a t.1 ia (sym t.2)) t.3
+            let (b, ib, at, does) = all_true w.0 (fact (entry c a) d) w.1 in
+            subst (λ (z : Area). IsEffectOf c z d) (one_area b a ib ia (sym at)) does
 
         -- ---- none is left out
 

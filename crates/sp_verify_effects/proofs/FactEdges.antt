@@ -65,11 +65,11 @@ none_first ls ks e q = (
 pub first_more : (ls : List Layout) (j : ℕ) (l : Layout) (old new : List (ℕ × ℕ)) → slice_get ls j ≡ Some l
     → AreFirst j ls old → AddsPairs old new (IsOwnOf l.entry l.variables) → AreFirst (j + 1) ls new
 first_more ls j l old new e h u q = (
-  λ w. ⊎_elim (λ o. let f = (h q).0 o in (f.0, f.1, (let m = f.2 in omega (arith, m)), f.3, f.4))
+  λ w. ⊎_elim (λ o. let (k, m, below, there, has) = (h q).0 o in (k, m, omega (arith, below), there, has))
       (λ o. (j, l, omega arith, e, o)) ((u q).0 w),
-  λ w. ⊎_elim (λ m. (u q).1 (inl ((h q).1 (w.0, w.1, m, w.3, w.4))))
+  λ (k, m, below, there, has). ⊎_elim (λ less. (u q).1 (inl ((h q).1 (k, m, less, there, has))))
       (λ s. (u q).1 (inr (subst (λ (z : Layout). IsOwnOf z.entry z.variables q)
-      (same_Some w.1 l (sym w.3 ∙ ap (slice_get ls) s ∙ e)) w.4))) (below_or_last w.0 j w.2),
+      (same_Some m l (sym there ∙ ap (slice_get ls) s ∙ e)) has))) (below_or_last k j below),
 )
 
 pub first_all : (c : Parts) (ls : List Layout) (n : ℕ) (ks : List (ℕ × ℕ)) → ls ≡ c.layouts → n ≡ length ls
@@ -78,8 +78,9 @@ first_all c ls n ks s e h = subst (λ (xs : List Layout). (q : ℕ × ℕ) → (
   where
     all : (q : ℕ × ℕ) → (has_pair ks q ≡ true) ↔ IsOwnIn ls q
     all q = (
-      λ w. let f = (h q).0 w in (f.0, f.1, f.3, f.4),
-      λ w. (h q).1 (w.0, w.1, (let m = slice_get_within ls w.0 w.1 w.2 in omega (arith, m, e)), w.2, w.3),
+      λ w. let (j, l, _, there, has) = (h q).0 w in (j, l, there, has),
+      λ (j, l, there, has).
+          (h q).1 (j, l, (let m = slice_get_within ls j l there in omega (arith, m, e)), there, has),
     )
 
 -- ---- along edges
@@ -110,14 +111,14 @@ along_more a b x q row own d k e h u v = tells_as a x (λ g. AlongOne q row own 
     (tells_then a b x (AlongOne q row own d k) (GoesAlong q e own d) u v)
   where
     to : (g : Fact) → AlongOne q row own d k g ⊎ GoesAlong q e own d g → AlongOne q row own d (k + 1) g
-    to g (inl w) = (w.0, w.1, (let l = w.2 in omega (arith, l)), w.3, w.4)
+    to g (inl (j, f, below, there, along)) = (j, f, omega (arith, below), there, along)
     to g (inr w) = (k, e, omega arith, h, w)
 
     from : (g : Fact) → AlongOne q row own d (k + 1) g → AlongOne q row own d k g ⊎ GoesAlong q e own d g
-    from g w =
-        ⊎_elim (λ l. inl (w.0, w.1, l, w.3, w.4))
-        (λ s. inr (subst (λ (y : Edge). GoesAlong q y own d g) (same_Some w.1 e (sym w.3 ∙ ap (slice_get row) s
-        ∙ h)) w.4)) (below_or_last w.0 k w.2)
+    from g (j, f, below, there, along) =
+        ⊎_elim (λ less. inl (j, f, less, there, along))
+        (λ s. inr (subst (λ (y : Edge). GoesAlong q y own d g) (same_Some f e (sym there ∙ ap (slice_get row) s
+        ∙ h)) along)) (below_or_last j k below)
 
 module _ (asked : Asked) (rows : List (List Edge)) (own : List (ℕ × ℕ)) where
   -- ---- until nothing is left

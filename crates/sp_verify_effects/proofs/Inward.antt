@@ -104,9 +104,9 @@ module _ (c : Parts) where
 module _ (c : Parts) (k : KeepsCodeRules c) (first : BTreeMap ℕ ℕ) (s : Shapes) (shapes : AreShapes c s) where
   pub only : (p n : ℕ) → reached_at s p ≡ Some n → (a : Area) × LiesOnlyIn c p a
   only p n e =
-      let r = shapes.come p n (stands s p n e) in
-      let l : LiesIn c p r.0 = (r.1.0, passes c r.0 p (list_of s.stacks n) r.1.1) in
-      (r.0, (l, λ b m. k.apart p b r.0 m l))
+      let (a, (is_area, comes)) = shapes.come p n (stands s p n e) in
+      let l : LiesIn c p a = (is_area, passes c a p (list_of s.stacks n) comes) in
+      (a, (l, λ b m. k.apart p b a m l))
 
   -- what an instruction that is reached calls inside itself
   module _ (p : ℕ) (o : Option ℕ) (come : (a : Area) (n : ℕ) → LiesOnlyIn c p a → reached_at s p ≡ Some n

@@ -234,21 +234,20 @@ children_more q f g h n k t ts e u v = asked_as q f h (λ z. IsOf n (OneIsHanded
     (asked_then q f g h (IsOf n (OneIsHanded ts k)) (IsOf n (IsHanded t)) u v)
   where
     to : (z : Fact) → IsOf n (OneIsHanded ts k) z ⊎ IsOf n (IsHanded t) z → IsOf n (OneIsHanded ts (k + 1)) z
-    to z (inl w) = record {
-      area = w.area;
-      does =
-          (w.does.0, w.does.1, (let l = w.does.2 in omega (arith, l)), w.does.3, w.does.4);
-    }
+    to z (inl w) =
+        let (j, child, below, there, handed) = w.does in
+        record { area = w.area; does = (j, child, omega (arith, below), there, handed) }
     to z (inr w) = record { area = w.area; does = (k, t, omega arith, e, w.does) }
 
     from : (z : Fact) → IsOf n (OneIsHanded ts (k + 1)) z → IsOf n (OneIsHanded ts k) z ⊎ IsOf n (IsHanded t) z
     from z w =
-        ⊎_elim (λ l. inl (record { area = w.area; does = (w.does.0, w.does.1, l, w.does.3, w.does.4) }))
+        let (j, child, below, there, handed) = w.does in
+        ⊎_elim (λ less. inl (record { area = w.area; does = (j, child, less, there, handed) }))
         (λ s. inr (record {
           area = w.area;
           does = subst (λ (y : ChildTable). IsHanded y z.effect)
-              (same_Some w.does.1 t (sym w.does.3 ∙ ap (slice_get ts) s ∙ e)) w.does.4;
-        })) (below_or_last w.does.0 k w.does.2)
+              (same_Some child t (sym there ∙ ap (slice_get ts) s ∙ e)) handed;
+        })) (below_or_last j k below)
 
 -- ---- at an instruction
 
@@ -306,7 +305,9 @@ module _ (q : Asked) (c : Parts) (p : ℕ) where
     where
       to : (z : Fact) → ReachedAt c p z ⊎ IsOf n (ForkedAt c p) z → OwnAt c p z
       to z (inl (b, ss, w, e, d)) = (b, (w.0, passes c b p ss w.1), e, inl (ss, w.1, d))
-      to z (inr w) = (a, only.0, w.area ∙ sym at, inr (w.does.0, w.does.1, (only.0.1, w.does.2), w.does.3))
+      to z (inr w) =
+          let (k, t, there, handed) = w.does in
+          let lies = only.0 in (a, lies, w.area ∙ sym at, inr (k, t, (lies.1, there), handed))
 
       from : (z : Fact) → OwnAt c p z → ReachedAt c p z ⊎ IsOf n (ForkedAt c p) z
       from z (b, lies, e, inl (ss, r, d)) = inl (b, ss, (lies.0, r), e, d)
@@ -320,7 +321,7 @@ module _ (q : Asked) (c : Parts) (p : ℕ) where
 
 pub none_lies : (c : Parts) (p : ℕ) (k : Asked) (f : List Fact) → ((a : Area) → LiesIn c p a → ⊥)
     → Tells f f (AskedAt c k p)
-none_lies c p k f h = tells_none f (AskedAt c k p) (λ z w. absurd (h w.0.0 w.0.1))
+none_lies c p k f h = tells_none f (AskedAt c k p) (λ z w. let own = w.0 in absurd (h own.0 own.1))
 
 module _ (c : Parts) (p : ℕ) (a : Area) (n : ℕ) (only : LiesOnlyIn c p a) (at : entry c a ≡ n) where
   own_area : (z : Fact) → OwnAt c p z → z.area ≡ n

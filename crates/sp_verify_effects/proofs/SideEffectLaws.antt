@@ -38,7 +38,8 @@ module _ (c : Parts) (kept : (p : ℕ) → BreaksV1 c p → ⊥) (ks : List (ℕ
       let b = and_parts l.answer (d.stops || goes_out ks l.entry 0 d.stored) e in (
         b.0,
         ⊎_elim (λ h. inr h)
-            (λ h. let r = out_is c kept ks own l.block l at 0 d.stored h in inl (r.0, r.1, r.3))
+            (λ h. let (x, is_stored, _, outside) = out_is c kept ks own l.block l at 0 d.stored h in
+            inl (x, is_stored, outside))
             (or_cases d.stops (goes_out ks l.entry 0 d.stored) b.1),
       )
 

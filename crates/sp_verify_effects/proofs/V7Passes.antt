@@ -64,10 +64,10 @@ module _ (c : Parts) (kept : (p : ℕ) → BreaksV1 c p → ⊥) (ks : List (ℕ
       let b = and_parts flag (Out d.stored || Out d.loaded) e in (
         b.0,
         ⊎_elim
-            (λ h. let r = out_is c kept ks own l.block l here 2 d.stored h in
-            (r.0, inl r.1, r.3, (let m = r.2 in omega (arith, m))))
-            (λ h. let r = out_is c kept ks own l.block l here 2 d.loaded h in
-            (r.0, inr r.1, r.3, (let m = r.2 in omega (arith, m))))
+            (λ h. let (x, is_stored, at_least, outside) = out_is c kept ks own l.block l here 2 d.stored h in
+            (x, inl is_stored, outside, omega (arith, at_least)))
+            (λ h. let (x, is_loaded, at_least, outside) = out_is c kept ks own l.block l here 2 d.loaded h in
+            (x, inr is_loaded, outside, omega (arith, at_least)))
             (or_cases (Out d.stored) (Out d.loaded) b.1),
       )
 
@@ -125,21 +125,20 @@ module _ (c : Parts) (k : KeepsCodeRules c) (kept : (p : ℕ) → BreaksV1 c p �
             → fork.IsCalledInside c (Does c) (HasStop c) (Inside c) l.block
         by_call h =
             let q = h.calls in
-            let r = inside_call (homes c q.area) first (instr_at c h.position) j q.calls in
-            let b = r.0 in
-            let same_place = place_some c.layouts b j (sym (numbered b) ∙ r.4) in
+            let (b, up, call_is, inward, number_is) = inside_call (homes c q.area) first
+            (instr_at c h.position) j q.calls in
+            let same_place = place_some c.layouts b j (sym (numbered b) ∙ number_is) in
             let here : layout_of c.layouts b ≡ Some l = sym same_place ∙ is in
             let named : l.block ≡ b = (found_layout c.layouts b l here).0 in
-            let come = shapes.come h.position q.stack (stands s h.position q.stack q.come) in
-            let a = come.0 in
-            let lies : LiesIn c h.position a = (come.1.0, passes c a h.position (list_of s.stacks q.stack) come.1.1) in
+            let (a, (is_area, comes)) = shapes.come h.position q.stack (stands s h.position q.stack q.come) in
+            let lies : LiesIn c h.position a = (is_area, passes c a h.position (list_of s.stacks q.stack) comes) in
             let alike : a ≡ q.area = q.lies.1 a lies in
-            let call : IsCalled c a h.position b r.1
-            (list_of s.stacks q.stack) l = record { reached = come.1.1; call = r.2; layout = here } in
-            let round = inside_is c k a h.position b r.1 (list_of s.stacks q.stack) l come.1.0 call
-            (subst (λ (z : Area). is_inside (homes c z) b r.1 ≡ true) (sym alike) r.3) in
+            let call : IsCalled c a h.position b up
+            (list_of s.stacks q.stack) l = record { reached = comes; call = call_is; layout = here } in
+            let round = inside_is c k a h.position b up (list_of s.stacks q.stack) l is_area call
+            (subst (λ (z : Area). is_inside (homes c z) b up ≡ true) (sym alike) inward) in
             subst (λ d. fork.IsCalledInside c (Does c) (HasStop c) (Inside c) d) (sym named)
-            (a, h.position, r.1, list_of s.stacks q.stack, l, come.1.0, call, round)
+            (a, h.position, up, list_of s.stacks q.stack, l, is_area, call, round)
 
     -- its block has that place
     placed : number_of first l.block ≡ Some j
@@ -202,12 +201,13 @@ module _ (c : Parts) (k : KeepsCodeRules c) (kept : (p : ℕ) → BreaksV1 c p �
         by_call : SomeCalls c first s (length c.instrs) j → AsksAll e.asked l.entry
         by_call h =
             let q = h.calls in
-            let r = inside_call (homes c q.area) first (instr_at c h.position) j q.calls in
-            let same_place = place_some c.layouts r.0 j (sym (numbered r.0) ∙ r.4) in
+            let (b, _, call_is, inward, number_is) = inside_call (homes c q.area) first
+            (instr_at c h.position) j q.calls in
+            let same_place = place_some c.layouts b j (sym (numbered b) ∙ number_is) in
             let ls = c.layouts in
             are.asks.inside h.position q.area l.entry q.lies
-            (ap (inside_entry (homes c q.area) ls) r.2
-            ∙ ap (λ t. if t then entry_at (layout_of ls r.0) else None) r.3 ∙ ap entry_at (sym same_place ∙ is))
+            (ap (inside_entry (homes c q.area) ls) call_is
+            ∙ ap (λ t. if t then entry_at (layout_of ls b) else None) inward ∙ ap entry_at (sym same_place ∙ is))
 
   flagged : (flag : Bool) (l : Layout) (o : Option EffectRow) → Turns flag l o → flag ≡ true
   flagged flag l None h = absurd h
