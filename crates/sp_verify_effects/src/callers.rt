@@ -1,6 +1,6 @@
-//! Areas in groups: those of a group lead to each other along edges, and each group comes after those to which its edges
-//! lead on. So one pass over the groups finds what comes from callers. Nothing here has a contract: `asked_areas.rt`
-//! checks what is found with it.
+//! Areas in groups: those of a group lead to each other along edges, and each group comes after those to which its
+//! edges lead on. So one pass over the groups finds what comes from callers. Nothing here has a contract:
+//! `asked_areas.rt` checks what is found with it.
 
 use crate::asked_areas::target;
 use crate::edges::Edge;
