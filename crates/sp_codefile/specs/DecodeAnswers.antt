@@ -3,8 +3,8 @@
 -- no other.
 use Rattle.std.specs.Prelude.{◌≡◌, List, ℕ, Result, Ok, Err}
 use Rattle.sp_code.specs.declared.code.Parts.{Parts}
-use Rattle.sp_codefile.specs.declared.decode.DecodeError.{DecodeError}
-use Rattle.sp_codefile.specs.declared.decode.DecodeError.TheVariants as error
+use Rattle.sp_codefile.specs.declared.decoder.DecodeError.{DecodeError}
+use Rattle.sp_codefile.specs.declared.decoder.DecodeError.TheVariants as error
 use Rattle.sp_codefile.specs.CodeText.{IsTextOf, IsFirstBad}
 
 -- the bytes are the text of the code that is given, and of no other; or they are the text of none, and this line is the

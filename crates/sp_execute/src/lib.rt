@@ -52,19 +52,19 @@
 
 mod conclusion;
 mod execution;
-mod follow;
 mod law;
 mod machine;
+mod race_witness;
+mod replays;
 mod verdict;
-mod witness;
 
 pub use conclusion::{Concluded, conclude};
 pub use execution::{Ran, run_program};
-pub use follow::{follow, follow_told};
 pub use law::{
     accepted_programs_are_ready, journals_are_told_in_the_text, one_unfit_entry, races_are_shown,
 };
 pub use machine::run_code_file;
+pub use race_witness::witness;
+pub use replays::{follow, follow_told};
 pub use sp_replay::{FollowedRun, ReplayError, Replayed, Traced, lasts};
 pub use verdict::judge;
-pub use witness::witness;

@@ -1,5 +1,5 @@
 use Rattle.sp_execute.proofs.Races.{can_show_of}
-use Rattle.sp_execute.proofs.witness.witness.Goals as goal
+use Rattle.sp_execute.proofs.race_witness.witness.Goals as goal
 
 pub witness-requires-clause-silent : goal.witness-requires-clause-silent
 witness-requires-clause-silent c =

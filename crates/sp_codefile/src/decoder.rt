@@ -2,7 +2,7 @@
 //! the line.
 
 ghost use Rattle.std.specs.Prelude.{◌≡◌, ◌++◌, ◌∷◌, [], ◌<◌, ◌↔◌, IsTrue, IfOk, OnOk};
-ghost use Rattle.sp_codefile.specs.declared.decode.DecodeError.TheVariants.{Memory as OutOfMemory};
+ghost use Rattle.sp_codefile.specs.declared.decoder.DecodeError.TheVariants.{Memory as OutOfMemory};
 ghost use Rattle.sp_codefile.specs.CodeText.{IsCode};
 ghost use Rattle.sp_codefile.specs.DecodeAnswers.{Decodes};
 ghost use Rattle.sp_codefile.specs.Items.{last_children, with_child, item_text, ItemFits, HasRoom, after_item};

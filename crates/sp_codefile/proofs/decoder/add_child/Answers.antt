@@ -1,6 +1,6 @@
 use Rattle.std.proofs.Common.{◌∙◌}
 use Rattle.sp_codefile.proofs.LeadLaws.{child_added}
-use Rattle.sp_codefile.proofs.decode.add_child.Goals as goal
+use Rattle.sp_codefile.proofs.decoder.add_child.Goals as goal
 
 pub returns-in-Ok-push : goal.returns-in-Ok-push
 returns-in-Ok-push c = c.in-Ok-push.ensures.ok

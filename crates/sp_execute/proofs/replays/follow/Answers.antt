@@ -4,7 +4,7 @@ use Rattle.sp_code.specs.Sound.{IsSound}
 use Rattle.sp_link.proofs.Soundness.{program_sound}
 use Rattle.sp_execute.specs.Runs.{run_input}
 use Rattle.sp_execute.proofs.FollowedRuns.{followed}
-use Rattle.sp_execute.proofs.follow.follow.Goals as goal
+use Rattle.sp_execute.proofs.replays.follow.Goals as goal
 
 pub replay-requires-clause-sound : goal.replay-requires-clause-sound
 replay-requires-clause-sound c =

@@ -4,7 +4,7 @@ use Rattle.sp_code.specs.Sound.{IsSound}
 use Rattle.sp_link.proofs.Soundness.{program_sound}
 use Rattle.sp_execute.specs.Runs.{run_input}
 use Rattle.sp_execute.proofs.FollowedRuns.{followed}
-use Rattle.sp_execute.proofs.follow.follow_told.Goals as goal
+use Rattle.sp_execute.proofs.replays.follow_told.Goals as goal
 
 pub replay_told-requires-clause-sound : goal.replay_told-requires-clause-sound
 replay_told-requires-clause-sound c =

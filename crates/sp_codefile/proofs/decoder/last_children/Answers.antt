@@ -1,6 +1,6 @@
 use Rattle.std.proofs.Common.{◌≡◌, ◌-◌, length, ◌∙◌, arith}
 use Rattle.sp_codefile.proofs.LeadLaws.{last_by_place, none_by_place}
-use Rattle.sp_codefile.proofs.decode.last_children.Goals as goal
+use Rattle.sp_codefile.proofs.decoder.last_children.Goals as goal
 
 pub returns-in-Some : goal.returns-in-Some
 returns-in-Some c =

@@ -6,7 +6,7 @@ use Rattle.sp_codefile.specs.Items.{item_text, IsNextItem}
 use Rattle.sp_codefile.proofs.WordLaws.{not_empty, empty}
 use Rattle.sp_codefile.proofs.ReadLaws.{Begun, head, begun_first, bad_first, begun_next}
 use Rattle.sp_codefile.proofs.ReadLaws.{bad_line, read_whole, shorter}
-use Rattle.sp_codefile.proofs.decode.decode.Goals as goal
+use Rattle.sp_codefile.proofs.decoder.decode.Goals as goal
 
 pub returns-in_default : goal.returns-in_default
 returns-in_default c = bad_first c.args.bytes.now (λ rest e. none_parts head rest (c.in_default.ensures ∙ e))
