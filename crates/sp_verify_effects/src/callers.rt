@@ -12,6 +12,15 @@ use std::alloc::Global;
 /// No number.
 pub(crate) const NONE: u32 = 4_294_967_295;
 
+// A count as a number, if it is one.
+fn number_from(count: usize) -> u32 {
+    if count < 4_294_967_295 {
+        count as u32
+    } else {
+        NONE
+    }
+}
+
 /// The groups one after another, the end of each one among the members, and of each area the number of its group.
 #[derive(Drop)]
 pub(crate) struct Groups {
@@ -110,7 +119,7 @@ fn go_on(search: &mut Search, m: u32, to: u32) -> Result<(), Memory> {
 
 // Closes the group that was opened with an area.
 fn close(search: &mut Search, m: u32) -> Result<(), Memory> {
-    let number = search.groups.ends.len() as u32;
+    let number = number_from(search.groups.ends.len());
     for _member in 0..search.open.len() {
         match search.open.pop() {
             None => return Ok(()),
@@ -118,7 +127,12 @@ fn close(search: &mut Search, m: u32) -> Result<(), Memory> {
                 set_number(&mut search.groups.numbers, member as usize, number);
                 have!(search.groups.members.push(member));
                 if member == m {
-                    have!(search.groups.ends.push(search.groups.members.len() as u32));
+                    have!(
+                        search
+                            .groups
+                            .ends
+                            .push(number_from(search.groups.members.len()))
+                    );
                     return Ok(());
                 }
             }
@@ -178,7 +192,7 @@ pub(crate) fn groups_of(rows: &List<List<Edge>>) -> Result<Groups, Memory> {
     let mut search = have!(search_of(rows.alloc(), count));
     for m in 0..count {
         if number_of(&search.entries, m) == NONE {
-            have!(explore(&mut search, rows, m as u32));
+            have!(explore(&mut search, rows, number_from(m)));
         }
     }
     let Search {
