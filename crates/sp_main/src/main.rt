@@ -2,16 +2,15 @@
 //! tree and waiting in this order.
 //!
 //! To know:
-//! - It runs the words behind the program's name, and ends with the status of the call. The contract of `called` is the
+//! - It runs the words after the program's name, and ends with the status of the call. The contract of `called` is the
 //!   `Promise` of the top call.
-//! - Before the call, want of memory gives status 8 with the line `out of memory`, and any other error status 2 with
+//! - Before the call, a lack of memory gives status 8 with the line `out of memory`, and any other error status 2 with
 //!   `bad words`, since words are text; where that line cannot be written, the status is 6. No contract says this.
 //! - The gate that it hands in does nothing.
 //!
 //! To change:
 //! - Which program is run, compiled and kept: the script `superpascal` (`docs/COMMANDS.md` says how); how it is proved
-//!   alone: the script `prove`. A command or option stands in `tell_words`, `has_option` and `look_for_files` of the
-//!   first too.
+//!   alone: the script `prove`. A command or option has a line in `launcher/commands.txt`, too.
 #![tactic(auto)]
 
 ghost use Rattle.std.specs.Prelude.{◌≡◌, map};
@@ -32,7 +31,7 @@ use std::thread::Threads;
 use std::{env, io};
 use superpascal::superpascal;
 
-/// Runs the words behind the program's name, and ends with the status of the call.
+/// Runs the words after the program's name, and ends with the status of the call.
 fn main(rt: HostRuntime) -> ExitCode {
     let mut notes = StreamSink::new(rt.stderr());
     match run(&rt, &rt, &mut notes) {
@@ -105,7 +104,7 @@ fn called<R: Threads + Wait + Sync, L: Library, I: Source, O: Sink, N: Sink>(
     outcome.status
 }
 
-// The words behind the program's name.
+// The words after the program's name.
 fn words(rt: &HostRuntime) -> io::Result<Vec<String>> {
     let mut words = Vec::new(rt.alloc());
     for word in env::args(rt)?.skip(1) {
