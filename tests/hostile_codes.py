@@ -214,6 +214,20 @@ def many_tables(tables=500_000):
     return code([layout(0, 0, "-", [1], [2])], instrs, [child(k, 0, tables + 1 + k) for k in range(tables)])
 
 
+def falling_fork(variables=1_000_000):
+    """Accepted: a fork moves all variables, the last one first."""
+    last = variables + 1
+    return code([layout(0, 0, "-", [1] * variables, range(2, last + 1))], ["fork 0", "end", "end"],
+                [child(0, 0, 2, range(last, 1, -1))])
+
+
+def falling_shares(children=99_000):
+    """Accepted: each child shares a variable of its own, the first child the last one."""
+    last = children + 1
+    return code([layout(0, 0, "-", [1] * children, range(2, last + 1))], ["fork 0", "end"] + ["end"] * children,
+                [child(0, k, k + 2, shares=[last - k]) for k in range(children)])
+
+
 def long_loops():
     """Refused by V9: jumps back over all of the code that pass no tick."""
     half = MOST // 2 - 1
@@ -371,6 +385,9 @@ FILES = {
     "blocks_and_outer": blocks_and_outer,
     "chain_of_blocks": chain_of_blocks,
     "chain_in_child": chain_in_child,
+    "shuffled_chain": shuffled_chain,
+    "chain_in_children": chain_in_children,
+    "children_above_chain": children_above_chain,
     "ring_of_blocks": ring_of_blocks,
     "operands_one_block": lambda: operands_of_calls(200_000, 280_000, 1),
     "operands_of_blocks": lambda: operands_of_calls(4_000, 3_000, 900),
@@ -386,6 +403,8 @@ FILES = {
     "messages_of_types": messages_of_types,
     "many_children": many_children,
     "many_tables": many_tables,
+    "falling_fork": falling_fork,
+    "falling_shares": falling_shares,
     "long_loops": long_loops,
     "ticked_loops": ticked_loops,
     "long_text": long_text,
@@ -396,9 +415,6 @@ FILES = {
 
 # Files in which two sizes still multiply: they take more than 10 seconds, or more than 2 GB.
 OPEN = {
-    "shuffled_chain": shuffled_chain,
-    "chain_in_children": chain_in_children,
-    "children_above_chain": children_above_chain,
     "half_handed": half_handed,
     "chain_in_answer": chain_in_answer,
     "chain_by_reference": chain_by_reference,
