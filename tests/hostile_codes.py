@@ -49,27 +49,36 @@ def blocks_and_outer(blocks=4_096, variables=4_096, calls=250_000):
     return code(layouts, instrs)
 
 
+def chain_of_stores(first, blocks, order=None, parent=0, place=2, number=2, variables=None):
+    """The instructions of a chain of blocks from this instruction on, and their layouts. Block k has this number + k,
+    stores the variable at this place + k of the block around it (modulo the number of variables, if it is given), and
+    calls the next block. They stand in this order."""
+    instrs, entries = [], {}
+    for k in order or range(blocks):
+        entries[k] = first + len(instrs)
+        variable, after = place + k % (variables or blocks), (k + 1) % blocks + number
+        instrs += [f"addr 1 {variable}", "const 1", "store", f"call {after} 1", "return"]
+    return instrs, [layout(k + number, entries[k], parent) for k in range(blocks)]
+
+
 def chain_of_blocks(blocks=190_000):
     """Accepted: each block stores a variable of the program of its own, and calls the next block."""
-    instrs, entries = ["call 1 0", "end"], []
-    for block in range(1, blocks + 1):
-        entries.append(len(instrs))
-        instrs += [f"addr 1 {block + 1}", "const 1", "store", f"call {block % blocks + 1} 1", "return"]
-    layouts = [layout(0, 0, "-", [1] * blocks, range(2, blocks + 2))]
-    layouts += [layout(block + 1, entry, 0) for block, entry in enumerate(entries)]
-    return code(layouts, instrs)
+    instrs, layouts = chain_of_stores(2, blocks, number=1)
+    layouts.insert(0, layout(0, 0, "-", [1] * blocks, range(2, blocks + 2)))
+    return code(layouts, ["call 1 0", "end", *instrs])
+
+
+def chain_below_child(blocks, handed, order=None, number=2):
+    """The chain, called from a child that is handed the first variables, as many as this."""
+    instrs, layouts = chain_of_stores(4, blocks, order, number=number)
+    layouts.insert(0, layout(0, 0, "-", [1] * blocks, range(2, blocks + 2)))
+    return code(layouts, ["fork 0", "end", f"call {number} 0", "end", *instrs], [child(0, 0, 2, range(2, handed + 2))])
 
 
 def chain_in_child(blocks=190_000):
     """Accepted: the chain is called from a child that is handed all these variables, so a rule asks what each block
     does."""
-    instrs, entries = ["fork 0", "end", "call 1 0", "end"], []
-    for block in range(1, blocks + 1):
-        entries.append(len(instrs))
-        instrs += [f"addr 1 {block + 1}", "const 1", "store", f"call {block % blocks + 1} 1", "return"]
-    layouts = [layout(0, 0, "-", [1] * blocks, range(2, blocks + 2))]
-    layouts += [layout(block + 1, entry, 0) for block, entry in enumerate(entries)]
-    return code(layouts, instrs, [child(0, 0, 2, range(2, blocks + 2))])
+    return chain_below_child(blocks, blocks, number=1)
 
 
 def ring_of_blocks(blocks=4_096, variables=4_096):
@@ -274,27 +283,14 @@ def passed_along(blocks=2_000, formals=200):
     return code(layouts, instrs)
 
 
-def chain_of_stores(blocks, order, first, parent=0, place=2):
-    """The instructions of a chain of blocks from this instruction on, and their layouts. Block k + 2 stores the
-    variable at this place + k of the block around it, and calls the next one. They stand in this order."""
-    instrs, entries = [], {}
-    for k in order:
-        entries[k] = first + len(instrs)
-        instrs += [f"addr 1 {place + k}", "const 1", "store", f"call {(k + 1) % blocks + 2} 1", "return"]
-    return instrs, [layout(k + 2, entries[k], parent) for k in range(blocks)]
-
-
 def shuffled_chain(blocks=190_000):
     """Accepted: as chain_in_child, but the blocks stand in no order."""
-    order = [k * 88_801 % blocks for k in range(blocks)]
-    instrs, layouts = chain_of_stores(blocks, order, 4)
-    layouts.insert(0, layout(0, 0, "-", [1] * blocks, range(2, blocks + 2)))
-    return code(layouts, ["fork 0", "end", "call 2 0", "end", *instrs], [child(0, 0, 2, range(2, blocks + 2))])
+    return chain_below_child(blocks, blocks, [k * 88_801 % blocks for k in range(blocks)])
 
 
 def chain_in_children(blocks=150_000, others=150_000):
     """Accepted: two children are above the chain. Both are handed its variables, and each others besides."""
-    instrs, layouts = chain_of_stores(blocks, range(blocks), 7)
+    instrs, layouts = chain_of_stores(7, blocks)
     count = blocks + 2 * others
     layouts.insert(0, layout(0, 0, "-", [1] * count, range(2, count + 2)))
     chain, middle = range(2, blocks + 2), blocks + others + 2
@@ -305,28 +301,22 @@ def chain_in_children(blocks=150_000, others=150_000):
 def children_above_chain(children=40_000, blocks=100_000, width=150):
     """Accepted: n children are above the chain. All are handed its variables, and each one besides."""
     starts = children + 1
-    first = starts + 2 * children
-    instrs, entries = [f"fork {k}" for k in range(children)] + ["end"] + ["call 2 0", "end"] * children, []
-    for k in range(blocks):
-        entries.append(first + 5 * k)
-        instrs += [f"addr 1 {k % width + 2}", "const 1", "store", f"call {(k + 1) % blocks + 2} 1", "return"]
     count = width + children
-    layouts = [layout(0, 0, "-", [1] * count, range(2, count + 2))]
-    layouts += [layout(k + 2, entry, 0) for k, entry in enumerate(entries)]
+    instrs, layouts = chain_of_stores(starts + 2 * children, blocks, variables=width)
+    layouts.insert(0, layout(0, 0, "-", [1] * count, range(2, count + 2)))
     tables = [child(k, 0, starts + 2 * k, [*range(2, width + 2), width + 2 + k]) for k in range(children)]
-    return code(layouts, instrs, tables)
+    forks = [f"fork {k}" for k in range(children)]
+    return code(layouts, [*forks, "end", *["call 2 0", "end"] * children, *instrs], tables)
 
 
 def half_handed(blocks=190_000):
     """Refused by V6: a child above the chain is handed half of its variables."""
-    instrs, layouts = chain_of_stores(blocks, range(blocks), 4)
-    layouts.insert(0, layout(0, 0, "-", [1] * blocks, range(2, blocks + 2)))
-    return code(layouts, ["fork 0", "end", "call 2 0", "end", *instrs], [child(0, 0, 2, range(2, blocks // 2 + 2))])
+    return chain_below_child(blocks, blocks // 2)
 
 
 def chain_in_answer(blocks=190_000):
     """Accepted: a block that answers is above the chain, which stores variables of this block."""
-    instrs, layouts = chain_of_stores(blocks, range(blocks), 5, 1, 1)
+    instrs, layouts = chain_of_stores(5, blocks, parent=1, place=1)
     result = blocks + 2
     layouts[:0] = [layout(0, 0, "-"), layout(1, 3, 0, [1] * (blocks + 1), [result, *range(2, result)], answer=True)]
     return code(layouts, ["call 1 0", "write int", "end", "call 2 0", "return", *instrs])
@@ -334,7 +324,7 @@ def chain_in_answer(blocks=190_000):
 
 def chain_by_reference(blocks=190_000):
     """Accepted: a block that takes a variable by reference is above the chain."""
-    instrs, layouts = chain_of_stores(blocks, range(blocks), 5)
+    instrs, layouts = chain_of_stores(5, blocks)
     count = blocks + 1
     layouts[:0] = [layout(0, 0, "-", [1] * count, range(2, count + 2)),
                    layout(1, 3, 0, [1], [count + 2], ["reference 1"])]
@@ -343,7 +333,7 @@ def chain_by_reference(blocks=190_000):
 
 def chain_inside(blocks=190_000):
     """Accepted: a block that is called inside itself is above the chain, which stores variables of this block."""
-    instrs, layouts = chain_of_stores(blocks, range(blocks), 5, 1, 0)
+    instrs, layouts = chain_of_stores(5, blocks, parent=1, place=0)
     layouts[:0] = [layout(0, 0, "-"), layout(1, 2, 0, [1] * blocks, range(2, blocks + 2))]
     return code(layouts, ["call 1 0", "end", "call 2 0", "call 1 1", "return", *instrs])
 
