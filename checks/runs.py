@@ -41,7 +41,6 @@ KEPT = {
 OPEN = {
     "sp_code/proofs/CodePositions": "right_stands",
     "sp_code/specs/CodeOfTree": "RightAt",
-    "sp_code/specs/Ranks": "ways",
     "sp_codefile/proofs/InstrLaws": "operands_small",
     "sp_codegen/proofs/AssignSteps": "assign_makes",
     "sp_codegen/proofs/OperatorValues": "input_gives",
@@ -73,7 +72,6 @@ OPEN = {
     "sp_kernel/proofs/SortedWaiters": "with_more",
     "sp_kernel/specs/Ends": "left_in",
     "sp_lines/proofs/StatementMarks": "form_stands",
-    "sp_lines/specs/Kinds": "IsOf",
     "sp_link/proofs/Fronts": "grows_event",
     "sp_link/proofs/Histories": "to_send to_receive",
     "sp_link/proofs/Ranks": "field_straight",
@@ -85,7 +83,6 @@ OPEN = {
     "sp_report/specs/Census": "is_counted",
     "sp_verify_rules/proofs/AnswerRow": "ends_there is_straight straight_on",
     "sp_verify_rules/proofs/Effects": "stored_p",
-    "sp_verify_rules/proofs/RankLaws": "way_in",
     "sp_verify_rules/proofs/Safety": "received_room",
     "sp_verify_rules/proofs/Turns": "one_fits",
     "sp_verify_rules/specs/Verdict": "is_stop",

@@ -2,7 +2,7 @@
 
 use crate::byte_lists::add;
 use sp_base::{Limits, Show, Word, put_decimal};
-use sp_words::{Command, View, WordsError, read_words};
+use sp_words::{Command, ReplayRequest, RunRequest, Telling, View, WordsError, read_words};
 use std::alloc::Global;
 
 // The words of a line. Where no memory is left they are fewer.
@@ -59,6 +59,25 @@ fn view_text(view: View) -> &'static [u8] {
     }
 }
 
+fn add_run(all: &mut Vec<u8>, asked: &RunRequest) {
+    let name: &[u8] = match asked.telling {
+        Telling::Reports(_) => b"run",
+        Telling::Witness => b"witness",
+    };
+    add_named(all, name, &asked.file);
+    add_number(all, asked.workers as u64);
+    add_limits(all, &asked.limits);
+    if let Telling::Reports(show) = asked.telling {
+        add(all, show_text(show));
+    }
+}
+
+fn add_replay(all: &mut Vec<u8>, asked: &ReplayRequest) {
+    add_named(all, view_text(asked.view), &asked.file);
+    add_named(all, b"", &asked.journal);
+    add_limits(all, &asked.limits);
+}
+
 /// The words as a command line in one text: the command, its file or its size and, of `run`, `gen`, `witness` and
 /// `exec`, the workers; of `run` the limits in their order and the report too, of `witness` and `exec` the limits, and
 /// of `replay`, `trace` and `where` the journal and the limits.
@@ -69,49 +88,17 @@ fn add_command(all: &mut Vec<u8>, command: &Command) {
         Command::Sets(file) => add_named(all, b"sets", file),
         Command::Format(file) => add_named(all, b"format", file),
         Command::Build(file) => add_named(all, b"build", file),
-        Command::Run {
-            file,
-            workers,
-            limits,
-            show,
-        } => {
-            add_named(all, b"run", file);
-            add_number(all, *workers as u64);
-            add_limits(all, limits);
-            add(all, show_text(*show));
-        }
+        Command::Run(asked) => add_run(all, asked),
         Command::Gen { size, workers } => {
             add(all, b"gen");
             add_number(all, *size as u64);
             add_number(all, *workers as u64);
         }
-        Command::Replay {
-            file,
-            journal,
-            limits,
-            view,
-        } => {
-            add_named(all, view_text(*view), file);
-            add_named(all, b"", journal);
-            add_limits(all, limits);
-        }
-        Command::Witness {
-            file,
-            workers,
-            limits,
-        } => {
-            add_named(all, b"witness", file);
-            add_number(all, *workers as u64);
-            add_limits(all, limits);
-        }
-        Command::Exec {
-            file,
-            workers,
-            limits,
-        } => {
-            add_named(all, b"exec", file);
-            add_number(all, *workers as u64);
-            add_limits(all, limits);
+        Command::Replay(asked) => add_replay(all, asked),
+        Command::Exec(asked) => {
+            add_named(all, b"exec", &asked.file);
+            add_number(all, asked.workers as u64);
+            add_limits(all, &asked.limits);
         }
     }
 }

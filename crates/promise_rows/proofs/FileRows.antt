@@ -20,12 +20,12 @@ use Rattle.sp_verify_rules.specs.NameRules.{BreaksV1, OutOfRange}
 use Rattle.sp_verify_rules.specs.Reach.{IsInCodeOf}
 use Rattle.sp_verify_rules.specs.Verdict.{IsRejected, IsVerified, Rule, V1, number}
 use Rattle.sp_words.specs.Words.{command_of}
+use Rattle.sp_words.specs.declared.command.Command.TheVariants as command
 use Rattle.superpascal.specs.declared.ending.Ending.{Ending}
 use Rattle.superpascal.specs.declared.ending.Ending.TheVariants as e
 use Rattle.superpascal.specs.Answers.{line_of, status_of}
 use Rattle.superpascal.specs.Calls.{Call, IsAnswered, IsFinal, IsOutside, SaysEnding}
 use Rattle.superpascal.specs.ExecPromise.{IsFaultyFile}
-use Rattle.superpascal.specs.Texts.{command_of_execution}
 use Rattle.promise_rows.specs.Files.{main, no_variable}
 use Rattle.promise_rows.specs.Observations.{Ends, Holds, IsQuiet, Observed}
 use Rattle.promise_rows.proofs.AskedWords.{an_execution, exec_words}
@@ -142,7 +142,7 @@ rejected = record {
 }
 
 module _ {c : Call} {input out notes : List ℕ} (o : Observed c (codes "exec" ∷ codes "a" ∷ []) input out notes) where
-  asked : command_of c.words ≡ Some (command_of_execution an_execution)
+  asked : command_of c.words ≡ Some (command.Exec an_execution)
   asked = ap command_of o.words ∙ exec_words
 
   module _ (q : IsQuiet c) (empty : input ≡ []) where

@@ -23,8 +23,9 @@ use Rattle.sp_tree.specs.PlainSyntax.{Program}
 use Rattle.sp_words.specs.Ranges.{default_limits}
 use Rattle.sp_words.specs.Words.{command_of}
 use Rattle.sp_words.specs.declared.command.Command.{Command}
-use Rattle.sp_words.specs.declared.command.View.TheVariants as view
-use Rattle.superpascal.specs.declared.requests.ReplayRequest.{ReplayRequest}
+use Rattle.sp_words.specs.declared.requests.View.TheVariants as view
+use Rattle.sp_words.specs.declared.requests.ReplayRequest.{ReplayRequest}
+use Rattle.sp_words.specs.declared.command.Command.TheVariants as command
 use Rattle.superpascal.specs.declared.ending.Ending.{Ending}
 use Rattle.superpascal.specs.declared.ending.Ending.TheVariants as e
 use Rattle.superpascal.specs.Answers.{line_of, status_of}
@@ -32,7 +33,7 @@ use Rattle.superpascal.specs.Calls.{Call, IsFinal, IsOutside, SaysEnding}
 use Rattle.superpascal.specs.Causes.{HasRead}
 use Rattle.superpascal.specs.ReplayPromise.{IsMeantAlong, IsNoJournal, PrintsReplay}
 use Rattle.superpascal.specs.Replays.{IsJournalOf, IsUnfitFor, ending_of_replay, replay_notes}
-use Rattle.superpascal.specs.Texts.{IsAcceptedText, command_of_replay, command_of_run}
+use Rattle.superpascal.specs.Texts.{IsAcceptedText}
 use Rattle.promise_rows.specs.Files.{one_end, two_ends}
 use Rattle.promise_rows.specs.Observations.{Ends, Holds, IsQuiet, Observed}
 use Rattle.promise_rows.specs.Programs.{checked, writes_42}
@@ -88,22 +89,13 @@ One = (v w : Version) (j k : Journal) (bytes : List ℕ) → IsTextOf v j bytes 
 abbrev pub OneTree : Type 0
 OneTree = (text : List ℕ) (p q : Program) → IsTree text p → IsTree text q → p ≡ q
 
-same_followed : (b d : ReplayRequest) → b.file ≡ d.file → b.journal ≡ d.journal → b.limits ≡ d.limits → b.view ≡ d.view
+same_command : (b d : ReplayRequest) → ◌≡◌ {A = Option Command} (Some (command.Replay b)) (Some (command.Replay d))
     → b ≡ d
-same_followed b d p q r s =
-    ap (λ x. record { file = x; journal = b.journal; limits = b.limits; view = b.view }) p
-    ∙ ap (λ x. record { file = d.file; journal = x; limits = b.limits; view = b.view }) q
-    ∙ ap (λ x. record { file = d.file; journal = d.journal; limits = x; view = b.view }) r
-    ∙ ap (λ x. record { file = d.file; journal = d.journal; limits = d.limits; view = x }) s
-
-same_command : (b d : ReplayRequest) → ◌≡◌ {A =
-    Option Command} (Some (command_of_replay b)) (Some (command_of_replay d))
-    → b ≡ d
-same_command b d e = same_followed b d (cc e) (cc e) (cc e) (cc e)
+same_command b d e = cc e
 
 module _ {c : Call} {out notes : List ℕ}
     (o : Observed c (codes "replay" ∷ codes "a" ∷ codes "j" ∷ []) [] out notes) where
-  asked : command_of c.words ≡ Some (command_of_replay (a_journal view.Output))
+  asked : command_of c.words ≡ Some (command.Replay (a_journal view.Output))
   asked = ap command_of o.words ∙ replay_words
 
   module _ (q : IsQuiet c) where
@@ -222,7 +214,7 @@ module _ {c : Call} {out notes : List ℕ}
     pub fit_journals_are_not_refused : c.outcome.status ≡ 9 → ⊥
     fit_journals_are_not_refused e = go (o.promise.following.only e)
       where
-        same : (b : ReplayRequest) → command_of c.words ≡ Some (command_of_replay b) → b ≡ a_journal view.Output
+        same : (b : ReplayRequest) → command_of c.words ≡ Some (command.Replay b) → b ≡ a_journal view.Output
         same b e = same_command b (a_journal view.Output) (sym e ∙ asked)
 
         not_read : IsNoJournal bytes → ⊥
@@ -240,7 +232,7 @@ module _ {c : Call} {out notes : List ℕ}
             here (inl h) = not_read (subst (λ x. IfSome x IsNoJournal) journal h)
             here (inr (h, n, u)) = fits h n u
 
-        go : (b : ReplayRequest) × (command_of c.words ≡ Some (command_of_replay b))
+        go : (b : ReplayRequest) × (command_of c.words ≡ Some (command.Replay b))
             × IfSome (c.files.held b.file) IsAcceptedText
             × (IfSome (c.files.held b.journal) IsNoJournal
             ⊎ ((h : HasRead c.files c.source b) × (n : ℕ) × IsUnfitFor h.text h.input b.limits h.journal n)) → ⊥
@@ -252,6 +244,6 @@ runs_follow_none {c} o e =
     let h = o.promise.following.only e in
     clash h.0 (sym (ap command_of o.words ∙ run_words) ∙ h.1)
   where
-    clash : (b : ReplayRequest) → ◌≡◌ {A = Option Command} (Some (command_of_run a_run)) (Some (command_of_replay b))
+    clash : (b : ReplayRequest) → ◌≡◌ {A = Option Command} (Some (command.Run a_run)) (Some (command.Replay b))
         → ⊥
     clash b e = cc e

@@ -20,13 +20,13 @@ use Rattle.sp_tree.specs.Plain as m
 use Rattle.sp_tree.specs.PlainSyntax.{Program}
 use Rattle.sp_words.specs.Ranges.{default_limits}
 use Rattle.sp_words.specs.Words.{command_of}
+use Rattle.sp_words.specs.declared.command.Command.TheVariants as command
 use Rattle.superpascal.specs.declared.ending.Ending.TheVariants as e
 use Rattle.superpascal.specs.Answers.{line_of, status_of}
 use Rattle.superpascal.specs.Calls.{Call, IsFinal, SaysEnding}
 use Rattle.superpascal.specs.Headline.{IsMeant, Prints}
 use Rattle.superpascal.specs.Runs.{ending_of}
 use Rattle.superpascal.specs.Statuses.{IsRegularStatus}
-use Rattle.superpascal.specs.Texts.{command_of_run}
 use Rattle.promise_rows.specs.Observations.{Ends, Holds, IsQuiet, Observed}
 use Rattle.promise_rows.specs.Programs.{calls_unknown, waits, writes_42}
 use Rattle.promise_rows.proofs.AskedWords.{a_run, run_words}
@@ -46,7 +46,7 @@ six_is_no_end s (inr (inl h)) e = omega (arith, h, e)
 six_is_no_end s (inr (inr h)) e = omega (arith, h, e)
 
 module _ {c : Call} {input out notes : List ℕ} (o : Observed c (codes "run" ∷ codes "a" ∷ []) input out notes) where
-  asked : command_of c.words ≡ Some (command_of_run a_run)
+  asked : command_of c.words ≡ Some (command.Run a_run)
   asked = ap command_of o.words ∙ run_words
 
   pub unknown_names_are_refused : IsQuiet c → input ≡ [] → (text : List ℕ) → Holds c (codes "a") text
@@ -108,13 +108,13 @@ module _ {c : Call} {out notes : List ℕ} (o : Observed c (codes "run" ∷ code
 
     pub a_run_writes_42 : IsQuiet c → ((es : List Entry) → c.reports show.End es ≡ [])
         → Ends c 0 ((out ≡ codes "42") × (notes ≡ codes "done\nordered\n"))
-    a_run_writes_42 q told = go (o.promise.statuses.complete (command_of_run a_run) text (asked o) held
-        (is_accepted_text text t) (works c o.promise q (command_of_run a_run) [] o.input (omega (arith))))
+    a_run_writes_42 q told = go (o.promise.statuses.complete (command.Run a_run) text (asked o) held
+        (is_accepted_text text t) (works c o.promise q (command.Run a_run) [] o.input (omega (arith))))
       where
-        go : IsRegularStatus (command_of_run a_run) c.outcome.status
+        go : IsRegularStatus (command.Run a_run) c.outcome.status
             → Ends c 0 ((out ≡ codes "42") × (notes ≡ codes "done\nordered\n"))
         go (inl f) =
-            let r = o.promise.statuses.ran (command_of_run a_run) (asked o) tt f in
+            let r = o.promise.statuses.ran (command.Run a_run) (asked o) tt f in
             inl (printed told r.0 r.1 f (o.promise.headline.meant a_run text (asked o) held [] o.input r.0 r.1))
         go (inr (inl e)) = inr e
         go (inr (inr (inl h))) = absurd h.0
@@ -141,8 +141,8 @@ module _ {c : Call} {out notes : List ℕ} (o : Observed c (codes "run" ∷ code
 
   pub a_run_waits : IsQuiet c → ((es : List Entry) → c.reports show.End es ≡ [])
       → Ends c 4 ((out ≡ []) × (notes ≡ codes "deadlock\nwaits 0 receive 0#0\nordered\n"))
-  a_run_waits q told = go (o.promise.statuses.complete (command_of_run a_run) text (asked o) held
-      (waits_accepted text t) (works c o.promise q (command_of_run a_run) [] o.input (omega (arith))))
+  a_run_waits q told = go (o.promise.statuses.complete (command.Run a_run) text (asked o) held
+      (waits_accepted text t) (works c o.promise q (command.Run a_run) [] o.input (omega (arith))))
     where
       printed : IsFinal c.outcome.status → (r : Ran) → c.outcome.ran ≡ Some r
           → IsMeant a_run text [] r × Prints c a_run.telling r
@@ -157,10 +157,10 @@ module _ {c : Call} {out notes : List ℕ} (o : Observed c (codes "run" ∷ code
             ),
           )
 
-      go : IsRegularStatus (command_of_run a_run) c.outcome.status
+      go : IsRegularStatus (command.Run a_run) c.outcome.status
           → Ends c 4 ((out ≡ []) × (notes ≡ codes "deadlock\nwaits 0 receive 0#0\nordered\n"))
       go (inl f) =
-          let r = o.promise.statuses.ran (command_of_run a_run) (asked o) tt f in
+          let r = o.promise.statuses.ran (command.Run a_run) (asked o) tt f in
           inl (printed f r.0 r.1 (o.promise.headline.meant a_run text (asked o) held [] o.input r.0 r.1))
       go (inr (inl e)) = inr e
       go (inr (inr (inl h))) = absurd h.0

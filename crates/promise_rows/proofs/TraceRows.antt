@@ -34,7 +34,7 @@ use Rattle.sp_where.specs.States.{fault_in, is_live, named_text, where_text}
 use Rattle.sp_where.specs.Traces.{trace_text}
 use Rattle.sp_words.specs.Ranges.{default_limits}
 use Rattle.sp_words.specs.Words.{command_of}
-use Rattle.sp_words.specs.declared.command.View.TheVariants as view
+use Rattle.sp_words.specs.declared.requests.View.TheVariants as view
 use Rattle.superpascal.specs.Calls.{Call}
 use Rattle.superpascal.specs.Replays.{IsJournalOf}
 use Rattle.superpascal.specs.Traces.{IsStateOf, IsTraceOf}

@@ -22,9 +22,9 @@ use Rattle.sp_witness.specs.Contention.{NeverContends}
 use Rattle.sp_witness.specs.OccurrenceNumbers.{witness_journal}
 use Rattle.sp_words.specs.Ranges.{default_limits}
 use Rattle.sp_words.specs.Words.{command_of}
+use Rattle.sp_words.specs.declared.command.Command.TheVariants as command
 use Rattle.superpascal.specs.Calls.{Call}
 use Rattle.superpascal.specs.Runs.{witness_text}
-use Rattle.superpascal.specs.Texts.{command_of_run}
 use Rattle.promise_rows.specs.Observations.{Holds, Observed}
 use Rattle.promise_rows.proofs.AskedWords.{a_run, a_witness, run_words, witness_words}
 use Rattle.promise_rows.proofs.Seen.{whole_output}
@@ -37,7 +37,7 @@ not_ordered w c i k e = cc e
 
 module _ {c : Call} {input out notes : List ℕ} where
   module _ (o : Observed c (codes "witness" ∷ codes "a" ∷ []) input out notes) where
-    asked : command_of c.words ≡ Some (command_of_run a_witness)
+    asked : command_of c.words ≡ Some (command.Run a_witness)
     asked = ap command_of o.words ∙ witness_words
 
     output_is : (r : Ran) → c.outcome.ran ≡ Some r → c.outcome.status ≢ 6 → out ≡ witness_text r

@@ -287,7 +287,6 @@ module _ {M : Type 0} (ops : Ops M) (code : Parts) (budget : M → ℕ) (law : H
 
   instruction_down : (o : Option Instr) (pc : ℕ) (st : List Entry) (n : M) → 0 < r pc → AllBelow r (r pc) (ways pc o)
       → Falls left (left (At pc st n)) (instruction ops code o pc st n)
-  instruction_down None pc st n p h = tt
   instruction_down (Some (i.Const v)) pc st n p h =
       on_to pc st n (pc + 1) (Number v ∷ st) n h.0 (omega arith) (same_budget pc st n)
   instruction_down (Some (i.Addr up var)) pc st n p h =
@@ -348,7 +347,6 @@ module _ {M : Type 0} (ops : Ops M) (code : Parts) (budget : M → ℕ) (law : H
       falls_number left _ r st _ (λ u st1 e. falls_if left _ r (same_ordinal u v) _ _
       (on_to pc st n to st1 n at_to e (same_budget pc st n))
       (on_to pc st n (pc + 1) (Number u ∷ st1) n at_next e (same_budget pc st n)))
-  instruction_down (Some i.Nocase) pc st n p h = tt
   instruction_down (Some i.Tick) pc st n p h =
       falls_then left _ r (ops.tick n) _ (λ m k. paced_down pc st n (pc + 1) st m
       (ticks_down pc (pc + 1) st st n m (law.tick n m k) (omega arith)))
@@ -404,7 +402,7 @@ module _ {M : Type 0} (ops : Ops M) (code : Parts) (budget : M → ℕ) (law : H
       (λ first st2 k. falls_if left _ r (int_lt last first) _ _
       (on_to pc st n (pc + 1) st2 n h.0 (omega arith) (same_budget pc st n))
       (forked_down pc st n t first (values_in first last) (pc + 1) st2)))
-  instruction_down (Some i.End) pc st n p h = tt
+  instruction_down _ _ _ _ _ _ = tt
 
   rank_above : (p : ℕ) → 0 < r p
   unfolding rank

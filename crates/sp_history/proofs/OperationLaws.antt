@@ -217,7 +217,6 @@ module _ {M : Type 0} (ops : Ops M) (code : Parts) (C : ℕ → Type 0) (I : M �
 
   instruction_keeps : (o : Option Instr) (pc : ℕ) (st : List Entry) (n : M) → EntriesHave C st → I n
       → OneHas C I J (instruction ops code o pc st n)
-  instruction_keeps None pc st n e h = tt
   instruction_keeps (Some (i.Const v)) pc st n e h = ((tt, e), h)
   instruction_keeps (Some (i.Addr up var)) pc st n e h = k_there C I J (ops.addr up var n) _ (λ a x. ((tt, e), h))
   instruction_keeps (Some (i.Deref up var)) pc st n e h = k_there C I J (ops.deref up var n) _ (λ a x. ((tt, e), h))
@@ -266,7 +265,6 @@ module _ {M : Type 0} (ops : Ops M) (code : Parts) (C : ℕ → Type 0) (I : M �
       k_number C I J st _ e (λ v st1 f. k_if C I J (not (int_le v (pos 0))) _ _ (f, h) (f, h))
   instruction_keeps (Some (i.Casej v to)) pc st n e h =
       k_number C I J st _ e (λ u st1 f. k_if C I J (same_ordinal u v) _ _ (f, h) ((tt, f), h))
-  instruction_keeps (Some i.Nocase) pc st n e h = tt
   instruction_keeps (Some i.Tick) pc st n e h =
       k_then C I J (ops.tick n) _ (λ m d. paced_keeps pc st n e h (pc + 1) st m e (law.tick n m h d))
   instruction_keeps (Some i.Assume) pc st n e h =
@@ -316,6 +314,7 @@ module _ {M : Type 0} (ops : Ops M) (code : Parts) (C : ℕ → Type 0) (I : M �
       (λ first st2 k. k_if C I J (int_lt last first) _ _ (k, h)
       (forked_keeps pc st n e h t first (values_in first last) (pc + 1) st2 k)))
   instruction_keeps (Some i.End) pc st n e h = ((tt, tt), (e, h))
+  instruction_keeps _ _ _ _ _ _ = tt
 
   one_has : (c : Config M) → ConfigHas C I c → OneHas C I J (next_step ops code c)
   one_has (At pc st n) h = instruction_keeps (slice_get code.instrs pc) pc st n h.0 h.1

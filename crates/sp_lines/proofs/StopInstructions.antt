@@ -179,7 +179,6 @@ module _ {M : Type 0} (ops : Ops M) (code : Parts) (o : Instr) (at : ℕ) where
 module _ {M : Type 0} (ops : Ops M) (code : Parts) where
   -- each instruction that stops fits its stop
   fits : (o : Instr) (pc : ℕ) (st : List Entry) (n : M) → Only ops code o pc (instruction ops code (Some o) pc st n)
-  fits (i.Const v) pc st n = tt
   fits (i.Addr up var) pc st n = by_some ops code (i.Addr up var) pc (ops.addr up var n) _ (λ a. tt)
   fits (i.Deref up var) pc st n = by_some ops code (i.Deref up var) pc (ops.deref up var n) _ (λ a. tt)
   fits (i.Index low high size) pc st n =
@@ -219,13 +218,11 @@ module _ {M : Type 0} (ops : Ops M) (code : Parts) where
   fits (i.Range low high) pc st n = one ops code (i.Range low high) pc (value_in_range low high) pc st n
   fits (i.Succ high) pc st n = one ops code (i.Succ high) pc (successor high) pc st n
   fits (i.Pred low) pc st n = one ops code (i.Pred low) pc (predecessor low) pc st n
-  fits (i.Jump to) pc st n = tt
   fits (i.Jumpf to) pc st n =
       by_number ops code (i.Jumpf to) pc st _
       (λ v r. either ops code (i.Jumpf to) pc (not (int_le v (pos 0))) _ _ tt tt)
   fits (i.Casej v to) pc st n =
       by_number ops code (i.Casej v to) pc st _ (λ u r. either ops code (i.Casej v to) pc (same_ordinal u v) _ _ tt tt)
-  fits i.Nocase pc st n = tt
   fits i.Tick pc st n = by_memory ops code i.Tick pc (ops.tick n) _ (λ m. pausing ops code i.Tick pc (pc + 1) st m)
   fits i.Assume pc st n =
       by_number ops code i.Assume pc st _ (λ v r. either ops code i.Assume pc (not (int_le v (pos 0))) _ _ tt tt)
@@ -273,6 +270,7 @@ module _ {M : Type 0} (ops : Ops M) (code : Parts) where
       (λ first q. either ops code (i.Forall t) pc (int_lt last first) _ _ tt
       (either ops code (i.Forall t) pc (ops.may_fork n) _ _ (refl, inr refl) tt)))
   fits i.End pc st n = (refl, refl)
+  fits _ _ _ _ = tt
 
   one_less : (a b : ℕ) → a ≡ b + 1 → a - 1 ≡ b
   one_less a b e = omega (arith, e)

@@ -202,9 +202,7 @@ module _ (P : ℕ → Type 0) where
     step (Some (i.Jump to)) w = (h, tt)
     step (Some (i.Jumpf to)) w = by_o ss _ h (λ s1 h1. (h1, (h1, tt)))
     step (Some (i.Casej v to)) w = by_o ss _ h (λ s1 h1. (h1, (h1, tt)))
-    step (Some i.Nocase) w = gone p ss h
     step (Some i.Tick) w = (h, tt)
-    step (Some i.Assume) w = gone p ss h
     step (Some (i.Forup var to)) w = begin p to ss h
     step (Some (i.Fordown var to)) w = begin p to ss h
     step (Some (i.Nextup var to)) w = round p to ss h
@@ -216,14 +214,10 @@ module _ (P : ℕ → Type 0) where
     step (Some i.Readln) w = (h, tt)
     step (Some i.Eof) w = (h, tt)
     step (Some i.Eoln) w = (h, tt)
-    step (Some i.WriteInt) w = gone p ss h
-    step (Some i.WriteChar) w = gone p ss h
-    step (Some i.WriteBool) w = gone p ss h
     step (Some (i.WriteText k)) w = (h, tt)
     step (Some i.WritewInt) w = both_gone p ss h
     step (Some i.WritewChar) w = both_gone p ss h
     step (Some i.WritewBool) w = both_gone p ss h
-    step (Some (i.WritewText k)) w = gone p ss h
     step (Some i.Writeln) w = (h, tt)
     step (Some (i.Pack k)) w = read_l k p ss h
     step (Some i.Open) w = fills p ss h
@@ -232,6 +226,7 @@ module _ (P : ℕ → Type 0) where
     step (Some (i.Fork t)) w = (h, tt)
     step (Some (i.Forall t)) w = both_gone p ss h
     step (Some i.End) w = by_none ss
+    step (Some _) w = gone p ss h
 
   brought : (q : ℕ) (ts : List Shape) (ws : List (ℕ × List Shape)) → EachP ws → IsBrought q ts ws → AllP ts
   brought q ts [] e h = absurd h

@@ -2,7 +2,7 @@
 -- fall.
 use Rattle.std.proofs.Common.{◌≡◌, ◌≢◌, ◌⊎◌, inl, inr, ⊎_elim, ℕ, zero, suc, ◌≤◌, ◌<◌, ◌==◌, List, [], ◌∷◌, length}
 use Rattle.std.proofs.Common.{Option, Some, None, Bool, true, false, refl, sym, ap, ◌∙◌, subst, eqb-true, arith}
-use Rattle.std.proofs.Common.{if◌then◌else◌}
+use Rattle.std.proofs.Common.{if◌then◌else◌, ◌++◌, drop}
 use Rattle.std.specs.Prelude.{slice_get, nat_lt}
 use Rattle.std.proofs.lemmas.Bool.{eqb-false, ltb-true, ltb-false}
 use Rattle.std.proofs.lemmas.Option.{slice_get_within}
@@ -104,20 +104,22 @@ most_same f g (w ∷ ws) h = rw (h w (inl refl), most_same f g ws (λ v m. h v (
 
 -- ---- ways
 
+-- what is in the front part of a list is in the list
+in_front : (q : ℕ) (xs ys : List ℕ) → IsIn q xs → IsIn q (xs ++ ys)
+in_front q [] ys h = absurd h
+in_front q (x ∷ xs) ys (inl e) = inl e
+in_front q (x ∷ xs) ys (inr m) = inr (in_front q xs ys m)
+
+front_in : (q : ℕ) (xs ys : List ℕ) → xs ++ drop (length xs) ys ≡ ys → IsIn q xs → IsIn q ys
+front_in q xs ys e h = subst (IsIn q) e (in_front q xs (drop (length xs) ys) h)
+
+-- only of jumps the order differs
 way_in : (p q : ℕ) (o : Option Instr) → IsIn q (ways p o) → IsIn q (free_nexts p o)
-way_in p q None h = h
 way_in p q (Some (i.Jumpf to)) h = ⊎_elim (λ e. inr (inl e)) (λ z. ⊎_elim (λ e. inl e) (λ y. absurd y) z) h
 way_in p q (Some (i.Casej v to)) h = ⊎_elim (λ e. inr (inl e)) (λ z. ⊎_elim (λ e. inl e) (λ y. absurd y) z) h
 way_in p q (Some (i.Forup var to)) h = ⊎_elim (λ e. inr (inl e)) (λ z. ⊎_elim (λ e. inl e) (λ y. absurd y) z) h
 way_in p q (Some (i.Fordown var to)) h = ⊎_elim (λ e. inr (inl e)) (λ z. ⊎_elim (λ e. inl e) (λ y. absurd y) z) h
-way_in p q (Some i.Nocase) h = absurd h
-way_in p q (Some i.Tick) h = absurd h
-way_in p q (Some (i.Call b up)) h = absurd h
-way_in p q (Some i.Open) h = absurd h
-way_in p q (Some (i.Send k)) h = absurd h
-way_in p q (Some (i.Receive k)) h = absurd h
-way_in p q (Some (i.Fork t)) h = absurd h
-way_in p q (Some _) h = h
+way_in p q o h = front_in q (ways p o) (free_nexts p o) refl h
 
 pub free_in : (p q : ℕ) (o : Option Instr) → IsIn q (free_nexts p o) → IsIn q (nexts p o)
 free_in p q (Some i.Tick) h = absurd h

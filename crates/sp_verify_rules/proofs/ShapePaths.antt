@@ -157,9 +157,7 @@ module _ (c : Parts) (a : Area) (p : ℕ) (ss : List Shape) where
   leads_on (Some (i.Jump to)) = (inl refl, tt)
   leads_on (Some (i.Jumpf to)) = by_o ((p + 1) ∷ to ∷ []) ss _ (λ s1. (inl refl, (inr (inl refl), tt)))
   leads_on (Some (i.Casej v to)) = by_o ((p + 1) ∷ to ∷ []) ss _ (λ s1. (inl refl, (inr (inl refl), tt)))
-  leads_on (Some i.Nocase) = gone p ss
   leads_on (Some i.Tick) = (inl refl, tt)
-  leads_on (Some i.Assume) = gone p ss
   leads_on (Some (i.Forup var to)) = begin p to ss
   leads_on (Some (i.Fordown var to)) = begin p to ss
   leads_on (Some (i.Nextup var to)) = round p to ss
@@ -172,14 +170,10 @@ module _ (c : Parts) (a : Area) (p : ℕ) (ss : List Shape) where
   leads_on (Some i.Readln) = (inl refl, tt)
   leads_on (Some i.Eof) = (inl refl, tt)
   leads_on (Some i.Eoln) = (inl refl, tt)
-  leads_on (Some i.WriteInt) = gone p ss
-  leads_on (Some i.WriteChar) = gone p ss
-  leads_on (Some i.WriteBool) = gone p ss
   leads_on (Some (i.WriteText k)) = (inl refl, tt)
   leads_on (Some i.WritewInt) = both_gone p ss
   leads_on (Some i.WritewChar) = both_gone p ss
   leads_on (Some i.WritewBool) = both_gone p ss
-  leads_on (Some (i.WritewText k)) = gone p ss
   leads_on (Some i.Writeln) = (inl refl, tt)
   leads_on (Some (i.Pack k)) = reads (L k) p ss
   leads_on (Some i.Open) = fills p ss
@@ -188,6 +182,7 @@ module _ (c : Parts) (a : Area) (p : ℕ) (ss : List Shape) where
   leads_on (Some (i.Fork t)) = (inl refl, tt)
   leads_on (Some (i.Forall t)) = both_gone p ss
   leads_on (Some i.End) = by_none [] ss
+  leads_on (Some _) = gone p ss
 
 one_of : (qs : List ℕ) (q : ℕ) (ts : List Shape) (ws : List (ℕ × List Shape)) → EachIn qs ws → IsBrought q ts ws
     → IsIn q qs

@@ -15,14 +15,15 @@ use Rattle.sp_words.specs.Options.{number_or, option_names, options_of, run_opti
 use Rattle.sp_words.specs.Options.{worker_options}
 use Rattle.sp_words.specs.Ranges.{AreInRange, IsInRange, IsUpTo}
 use Rattle.sp_words.specs.Words.{command_from, command_named, command_of, command_of_items, command_read, command_with}
-use Rattle.sp_words.specs.Words.{each_once, has_journal, is_accepted, limits_from, lookup, subject, text_of}
+use Rattle.sp_words.specs.Words.{each_once, has_journal, is_accepted, limits_from, lookup, run_from, subject, text_of}
 use Rattle.sp_words.specs.Words.{with_journal, workers_from}
 use Rattle.sp_words.specs.declared.command.Command.{Command}
 use Rattle.sp_words.specs.declared.command.Command.TheVariants as command
 use Rattle.sp_words.specs.declared.command.CommandName.{CommandName}
 use Rattle.sp_words.specs.declared.command.CommandName.TheVariants as name
-use Rattle.sp_words.specs.declared.command.View.{View}
-use Rattle.sp_words.specs.declared.command.View.TheVariants as view
+use Rattle.sp_words.specs.declared.requests.Telling.TheVariants as told
+use Rattle.sp_words.specs.declared.requests.View.{View}
+use Rattle.sp_words.specs.declared.requests.View.TheVariants as view
 use Rattle.sp_words.proofs.Readings.{HoldsOfEach}
 
 -- ---- a number that was given is in its range, and else the default stands
@@ -195,10 +196,13 @@ gen_in_range is word (Some size) c accepted d e =
 
 journal_in_range : (is : List WordItem) (word : Text) (written : View) (found : Option Text) (c : Command)
     → list_all (is_accepted limit_options) is ≡ true
-    → option_map (λ text. command.Replay word text (limits_from (lookup is)) written) found ≡ Some c → AreInRange c
+    → option_map (λ text. command.Replay
+    (record { file = word; journal = text; limits = limits_from (lookup is); view = written })) found ≡ Some c
+    → AreInRange c
 journal_in_range is word written None c accepted e = absurd (none-some c e)
 journal_in_range is word written (Some text) c accepted e =
-    rw (sym (same_Some (command.Replay word text (limits_from (lookup is)) written) c e))
+    rw (sym (same_Some (command.Replay
+    (record { file = word; journal = text; limits = limits_from (lookup is); view = written })) c e))
     (limits_in_range limit_options is 1 accepted limits_of_following (omega arith, omega arith))
 
 -- ---- the words
@@ -208,8 +212,7 @@ word_in_range : (called : CommandName) (is : List WordItem) (word : Text) (c : C
     → command_from called (lookup is) word ≡ Some c → AreInRange c
 word_in_range name.Check is word c accepted e = rw (sym (same_Some (command.Check word) c e)) tt
 word_in_range name.Run is word c accepted e =
-    rw (sym (same_Some (command.Run word (workers_from (lookup is)) (limits_from (lookup is))
-    (show_or_end (lookup is (codes "show")))) c e))
+    rw (sym (same_Some (run_from (lookup is) word (told.Reports (show_or_end (lookup is (codes "show"))))) c e))
     (limits_in_range run_options is (workers_from (lookup is)) accepted limits_of_run
     (workers_in_range run_options is accepted ((refl, refl), refl)))
 word_in_range name.Code is word c accepted e = rw (sym (same_Some (command.Code word) c e)) tt
@@ -220,10 +223,11 @@ word_in_range name.Gen is word c accepted e = gen_in_range is word (size_named w
 word_in_range name.Replay is word c accepted e =
     journal_in_range is word view.Output (lookup is (codes "JOURNAL")) c accepted e
 word_in_range name.Witness is word c accepted e =
-    rw (sym (same_Some (command.Witness word (workers_from (lookup is)) (limits_from (lookup is))) c e))
+    rw (sym (same_Some (run_from (lookup is) word told.Witness) c e))
     (worker_in_range is accepted)
 word_in_range name.Exec is word c accepted e =
-    rw (sym (same_Some (command.Exec word (workers_from (lookup is)) (limits_from (lookup is))) c e))
+    rw (sym (same_Some (command.Exec
+    (record { file = word; workers = workers_from (lookup is); limits = limits_from (lookup is) })) c e))
     (worker_in_range is accepted)
 word_in_range name.Trace is word c accepted e =
     journal_in_range is word view.Entries (lookup is (codes "JOURNAL")) c accepted e

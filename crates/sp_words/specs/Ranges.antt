@@ -23,11 +23,10 @@ pub record IsInRange (count : ℕ) (lim : Limits) : Type 0 where
 
 -- the options of a command are in their ranges, and so is the size of `gen`; a journal is followed by one worker
 abbrev pub AreInRange : Command → Type 0
-AreInRange (command.Run file workers limits show) = IsInRange workers limits
+AreInRange (command.Run a) = IsInRange a.workers a.limits
 AreInRange (command.Gen size workers) = IsUpTo 2000 size × IsUpTo 64 workers
-AreInRange (command.Replay file journal limits view) = IsInRange 1 limits
-AreInRange (command.Witness file workers limits) = IsInRange workers limits
-AreInRange (command.Exec file workers limits) = IsInRange workers limits
+AreInRange (command.Replay a) = IsInRange 1 a.limits
+AreInRange (command.Exec a) = IsInRange a.workers a.limits
 AreInRange _ = Unit {0}
 
 -- the workers where no option is given

@@ -17,8 +17,10 @@ use Rattle.sp_words.specs.declared.command.Command.{Command}
 use Rattle.sp_words.specs.declared.command.Command.TheVariants as command
 use Rattle.sp_words.specs.declared.command.CommandName.{CommandName}
 use Rattle.sp_words.specs.declared.command.CommandName.TheVariants as name
-use Rattle.sp_words.specs.declared.command.View.{View}
-use Rattle.sp_words.specs.declared.command.View.TheVariants as view
+use Rattle.sp_words.specs.declared.requests.Telling.{Telling}
+use Rattle.sp_words.specs.declared.requests.Telling.TheVariants as told
+use Rattle.sp_words.specs.declared.requests.View.{View}
+use Rattle.sp_words.specs.declared.requests.View.TheVariants as view
 
 -- what an item is about: FILE, which is the N of `gen`, JOURNAL, or an option
 abbrev pub subject : WordItem → Text
@@ -71,24 +73,30 @@ limits_from value = record {
 abbrev pub workers_from : (Text → Option Text) → ℕ
 workers_from value = number_or (2 ^ 32) default_workers (value (codes "workers"))
 
+-- the command that runs a program with this told of it
+abbrev pub run_from : (Text → Option Text) → Text → Telling → Command
+run_from value word telling = command.Run
+    (record { file = word; workers = workers_from value; limits = limits_from value; telling = telling })
+
 -- the command that follows a JOURNAL, of which this is written
 abbrev pub replay_from : (Text → Option Text) → Text → View → Option Command
-replay_from value word written = option_map (λ text. command.Replay word text (limits_from value) written)
+replay_from value word written = option_map (λ text. command.Replay
+    (record { file = word; journal = text; limits = limits_from value; view = written }))
     (value (codes "JOURNAL"))
 
 -- the command with its FILE, or `gen` with a size that it may have, and what its JOURNAL and options were given
 abbrev pub command_from : CommandName → (Text → Option Text) → Text → Option Command
 command_from name.Check value word = Some (command.Check word)
-command_from name.Run value word = Some
-    (command.Run word (workers_from value) (limits_from value) (show_or_end (value (codes "show"))))
+command_from name.Run value word = Some (run_from value word (told.Reports (show_or_end (value (codes "show")))))
 command_from name.Code value word = Some (command.Code word)
 command_from name.Sets value word = Some (command.Sets word)
 command_from name.Format value word = Some (command.Format word)
 command_from name.Gen value word = option_map (λ size. command.Gen size (workers_from value)) (size_named word)
 command_from name.Replay value word = replay_from value word view.Output
-command_from name.Witness value word = Some (command.Witness word (workers_from value) (limits_from value))
+command_from name.Witness value word = Some (run_from value word told.Witness)
 command_from name.Build value word = Some (command.Build word)
-command_from name.Exec value word = Some (command.Exec word (workers_from value) (limits_from value))
+command_from name.Exec value word = Some
+    (command.Exec (record { file = word; workers = workers_from value; limits = limits_from value }))
 command_from name.Trace value word = replay_from value word view.Entries
 command_from name.Where value word = replay_from value word view.State
 

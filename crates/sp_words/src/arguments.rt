@@ -3,10 +3,11 @@
 ghost use Rattle.std.specs.Prelude.{◌≡◌, ◌^◌, IfErr, IfOk, None, Some, codes};
 ghost use Rattle.clap.specs.Words.{first_value, found_of};
 ghost use Rattle.sp_words.specs.Options.{number_below, number_or, show_named, show_or_end, size_named};
-ghost use Rattle.sp_words.specs.Words.{command_from, command_with, limits_from, replay_from, values_given};
+ghost use Rattle.sp_words.specs.Words.{command_from, command_with, limits_from, replay_from, run_from, values_given};
 
-use crate::command::{Command, CommandName, View, WordsError};
+use crate::command::{Command, CommandName, WordsError};
 use crate::defaults::{DEFAULT_WORKERS, default_limits};
+use crate::requests::{ExecRequest, ReplayRequest, RunRequest, Telling, View};
 use clap::ArgMatches;
 use sp_base::{Limits, Show, Word};
 use std::alloc::{AllocError, Global};
@@ -102,6 +103,23 @@ fn file(alloc: Global, text: &str) -> Result<Word, AllocError>
     Ok(Word::of(String::from_str(alloc, text)?))
 }
 
+// The command that runs the program of its FILE, and tells of the run so.
+fn run_given(
+    alloc: Global,
+    text: &str,
+    given: &ArgMatches<'_>,
+    telling: Telling,
+) -> Result<Command, AllocError>
+    ensures { IfOk result (λ c. c ≡ run_from (values_given given.now) text.now telling) }
+{
+    Ok(Command::Run(RunRequest {
+        file: file(alloc, text)?,
+        workers: small_number(given, "workers", DEFAULT_WORKERS),
+        limits: limits(given),
+        telling,
+    }))
+}
+
 // The command that follows a journal, with the text of its FILE. Without a JOURNAL it is refused.
 fn replay_given(
     alloc: Global,
@@ -116,12 +134,12 @@ fn replay_given(
     let Some(journal) = given.get_str("JOURNAL") else {
         return Err(WordsError::Refused);
     };
-    Ok(Command::Replay {
+    Ok(Command::Replay(ReplayRequest {
         file: file(alloc, text)?,
         journal: file(alloc, journal)?,
         limits: limits(given),
         view,
-    })
+    }))
 }
 
 /// The command with what its level of the parse found. Without a FILE, an N in its range, or a JOURNAL where it has
@@ -140,12 +158,7 @@ pub(crate) fn command_given(
     };
     Ok(match command {
         CommandName::Check => Command::Check(file(alloc, text)?),
-        CommandName::Run => Command::Run {
-            file: file(alloc, text)?,
-            workers: small_number(given, "workers", DEFAULT_WORKERS),
-            limits: limits(given),
-            show: show(given),
-        },
+        CommandName::Run => run_given(alloc, text, given, Telling::Reports(show(given)))?,
         CommandName::Code => Command::Code(file(alloc, text)?),
         CommandName::Sets => Command::Sets(file(alloc, text)?),
         CommandName::Format => Command::Format(file(alloc, text)?),
@@ -154,15 +167,11 @@ pub(crate) fn command_given(
         CommandName::Replay => replay_given(alloc, text, given, View::Output)?,
         CommandName::Trace => replay_given(alloc, text, given, View::Entries)?,
         CommandName::Where => replay_given(alloc, text, given, View::State)?,
-        CommandName::Witness => Command::Witness {
+        CommandName::Witness => run_given(alloc, text, given, Telling::Witness)?,
+        CommandName::Exec => Command::Exec(ExecRequest {
             file: file(alloc, text)?,
             workers: small_number(given, "workers", DEFAULT_WORKERS),
             limits: limits(given),
-        },
-        CommandName::Exec => Command::Exec {
-            file: file(alloc, text)?,
-            workers: small_number(given, "workers", DEFAULT_WORKERS),
-            limits: limits(given),
-        },
+        }),
     })
 }

@@ -3,7 +3,8 @@
 ghost use Rattle.std.specs.Prelude.{◌≡◌};
 ghost use Rattle.sp_words.specs.declared.command.WordsError.TheVariants.{Memory as OutOfMemory};
 
-use sp_base::{Limits, Show, Word};
+use crate::requests::{ExecRequest, ReplayRequest, RunRequest};
+use sp_base::Word;
 use std::alloc::{AllocError, AllocFailed};
 use thiserror::Error;
 
@@ -12,15 +13,8 @@ use thiserror::Error;
 pub enum Command {
     /// Say whether the text keeps all rules, or name the first that it breaks.
     Check(Word),
-    /// Run the program.
-    Run {
-        file: Word,
-        /// How many workers run its processes, from 1 to 64.
-        workers: u32,
-        limits: Limits,
-        /// What is reported beside the end and the verdict.
-        show: Show,
-    },
+    /// Run the program, and tell of the run, or show the race that its verdict names.
+    Run(RunRequest),
     /// List the code of the program.
     Code(Word),
     /// List the variable sets of its statements.
@@ -34,43 +28,12 @@ pub enum Command {
         /// How many workers run its processes, from 1 to 64.
         workers: u32,
     },
-    /// Follow a journal of the program.
-    Replay {
-        file: Word,
-        /// The name of the journal's text.
-        journal: Word,
-        limits: Limits,
-        /// What is written of it: `replay` the output, `trace` the entries, `where` the state behind them.
-        view: View,
-    },
-    /// Run the program, and show the race that its verdict names.
-    Witness {
-        file: Word,
-        /// How many workers run its processes, from 1 to 64.
-        workers: u32,
-        limits: Limits,
-    },
+    /// Follow a journal of the program: `replay` writes the output, `trace` the entries, `where` the state behind them.
+    Replay(ReplayRequest),
     /// Write the code of the program as a text that can be read again.
     Build(Word),
     /// Run the code that such a text gives, without its source.
-    Exec {
-        /// The name of the code's text.
-        file: Word,
-        /// How many workers run its processes, from 1 to 64.
-        workers: u32,
-        limits: Limits,
-    },
-}
-
-/// What is written of a journal that was followed.
-#[derive(Clone, Copy, Debug, PartialEq, Eq)]
-pub enum View {
-    /// What the program wrote along it.
-    Output,
-    /// Its entries, each with its place in the text and its message.
-    Entries,
-    /// The state behind its last entry: each process with its place in the text, its calls and its variables.
-    State,
+    Exec(ExecRequest),
 }
 
 /// The names of the commands.

@@ -13,8 +13,8 @@
 //! - `specs/Dashes.antt` reads the words from left to right, `Options` has the options with their ranges and defaults,
 //!   `Words` joins them; `Ranges` has the ranges and the default limits that the law cites.
 //! - `src/form.rt` is the pass of the dash rule, `src/parser.rt` the parser, `src/arguments.rt` takes the values,
-//!   `src/command.rt` has the commands, `src/reader.rt` the call. `src/defaults.rt` gives the default limits to a
-//!   caller that has no words for them, as `gen`.
+//!   `src/command.rt` has the commands, `src/requests.rt` what those ask for that run something, `src/reader.rt` the
+//!   call. `src/defaults.rt` gives the default limits to a caller that has no words for them, as `gen`.
 //! - N of `gen` is the FILE of the definitions, with a condition of its own (`size_named` of `specs/Options.antt`).
 //! - JOURNAL of `replay`, `trace` and `where` is the second of the words that are no options (`with_journal` of
 //!   `specs/Words.antt`); a third one is a second FILE, and so refused.
@@ -22,7 +22,7 @@
 //!   other failure `Refused`.
 //!
 //! To change:
-//! - A command: `CommandName` and `Command`, `option_names`, `command_named`, the parser's subcommands, and `specs/`.
+//! - A command: `CommandName` and `Command`, with what it asks for in `src/requests.rt`, `option_names`, `command_named`, the parser's subcommands, and `specs/`.
 //! - An option: `specs/Options.antt`, `specs/Parsers.antt`, `run_command` or, of a limit, `with_limits`, `RUN_OPTIONS`,
 //!   and of a limit `LIMIT_OPTIONS` and `WORKER_OPTIONS`, in `src/reader.rt`; its range and default also in
 //!   `specs/Ranges.antt` and `src/defaults.rt`.
@@ -35,8 +35,10 @@ mod form;
 mod law;
 mod parser;
 mod reader;
+mod requests;
 
-pub use command::{Command, View, WordsError};
+pub use command::{Command, WordsError};
 pub use defaults::default_limits;
 pub use law::accepted_options_are_in_range;
 pub use reader::read_words;
+pub use requests::{ExecRequest, ReplayRequest, RunRequest, Telling, View};

@@ -19,10 +19,10 @@ use Rattle.sp_words.specs.Ranges.{default_limits}
 use Rattle.sp_words.specs.Words.{command_of}
 use Rattle.sp_words.specs.declared.command.Command.{Command}
 use Rattle.sp_words.specs.declared.command.Command.TheVariants as command
-use Rattle.sp_words.specs.declared.command.View.{View}
-use Rattle.sp_words.specs.declared.command.View.TheVariants as view
-use Rattle.superpascal.specs.declared.requests.RunRequest.{RunRequest}
-use Rattle.superpascal.specs.declared.requests.ReplayRequest.{ReplayRequest}
+use Rattle.sp_words.specs.declared.requests.View.{View}
+use Rattle.sp_words.specs.declared.requests.View.TheVariants as view
+use Rattle.sp_words.specs.declared.requests.RunRequest.{RunRequest}
+use Rattle.sp_words.specs.declared.requests.ReplayRequest.{ReplayRequest}
 use Rattle.superpascal.specs.declared.ending.Ending.{Ending}
 use Rattle.superpascal.specs.declared.ending.Ending.TheVariants as e
 use Rattle.superpascal.specs.declared.ending.Answer.{Answer}
@@ -40,13 +40,13 @@ use Rattle.superpascal.specs.Runs.{IsRunOf, Reports, ending_of, generated_answer
 use Rattle.superpascal.specs.Runs.{told_notes, told_output}
 use Rattle.superpascal.specs.Statuses.{InputIsTooLong, OutsideWorks, IsRunOfWords, IsRegularStatus, ReadsFail, Statuses}
 use Rattle.superpascal.specs.Texts.{FirstBrokenFor, CanRead, HasLongCode, IsDisjointText, IsJournalText, AcceptedFor}
-use Rattle.superpascal.specs.Texts.{IsAcceptedText, Makes, command_of_run, asks_build, asks_text, command_of_replay}
+use Rattle.superpascal.specs.Texts.{IsAcceptedText, Makes, asks_build, asks_text}
 use Rattle.superpascal.specs.Traces.{IsStateOf, IsTraceOf}
 use Rattle.superpascal.specs.TracePromise.{Tells, Tracing}
 use Rattle.superpascal.specs.WitnessPromise.{IsShown}
 use Rattle.superpascal.specs.WrittenParts.{AreWritten, Writing, WritesLine}
 use Rattle.superpascal.proofs.Laws.{Laws, disjoint_text, keeps_all, made_asks, made_once}
-use Rattle.superpascal.proofs.RunCommands.{asked_breaks, asked_text, breaks_asked, keeps_asked, not_gen, one_asked}
+use Rattle.superpascal.proofs.RunCommands.{not_gen, one_asked}
 use Rattle.superpascal.proofs.ReplayFacts.{if_told, meant_along, not_followed, not_unfit, replay_notes_stand}
 use Rattle.superpascal.proofs.ReplayFacts.{same_entry}
 use Rattle.superpascal.proofs.ReplayFacts.{told_of, written_is}
@@ -209,14 +209,14 @@ module _ (c : Call) (k : IsAnswered c) (l : Laws) where
     }
 
     -- of a run that the words ask for
-    module _ (b : RunRequest) (v : command_of c.words ≡ Some (command_of_run b)) where
+    module _ (b : RunRequest) (v : command_of c.words ≡ Some (command.Run b)) where
       of_run : (P : RunRequest → Type 0) → ((x : RunRequest) → HasRun c.files c.source c.reports x k.answer → P x) → P b
       of_run P q = go has_ran
         where
           go : HasRanFor c.files c.source c.reports (command_of c.words) k.answer → P b
-          go (d, u, inl (x, p, m)) = subst P (one_asked b x (sym p ∙ one_command _ (command_of_run b) d v u)) (q x m)
+          go (d, u, inl (x, p, m)) = subst P (one_asked b x (sym p ∙ one_command _ (command.Run b) d v u)) (q x m)
           go (d, u, inr (size, workers, p, m)) =
-              absurd (not_gen b size workers (sym (one_command _ (command_of_run b) d v u)
+              absurd (not_gen b size workers (sym (one_command _ (command.Run b) d v u)
               ∙ p))
 
       run_written : AreWritten c (told_output b.telling r) (told_notes c.reports b.telling r)
@@ -255,9 +255,8 @@ module _ (c : Call) (k : IsAnswered c) (l : Laws) where
 
       run_disjoint : (text : List ℕ) → c.files.held b.file ≡ Some text → IsDisjointText text
       run_disjoint text t =
-          disjoint_text l text (keeps_asked b text
-          (ran_keeps c.files c.source c.reports (command_of c.words) k.answer (command_of_run b) text v
-          (asked_text c.files.held b ∙ t) has_ran))
+          disjoint_text l text
+          (ran_keeps c.files c.source c.reports (command_of c.words) k.answer (command.Run b) text v t has_ran)
 
       -- the witness of its race
       pub run_shown : (text input : List ℕ) → c.files.held b.file ≡ Some text → c.source.left ≡ Some input
@@ -382,7 +381,7 @@ module _ (c : Call) (k : IsAnswered c) (l : Laws) where
 
   -- ---- of a replay
 
-  module _ (b : ReplayRequest) (text bytes : List ℕ) (v : command_of c.words ≡ Some (command_of_replay b))
+  module _ (b : ReplayRequest) (text bytes : List ℕ) (v : command_of c.words ≡ Some (command.Replay b))
       (t : c.files.held b.file ≡ Some text) (u : c.files.held b.journal ≡ Some bytes) where
     abbrev Came_here : Type 0
     Came_here = ReplayCause c.files c.source c.reports (command_of c.words) k.answer b ending
@@ -597,16 +596,13 @@ module _ (c : Call) (k : IsAnswered c) (l : Laws) where
 
   pub headline : Headline c
   headline = record {
-    refused = λ b text v t r h. refuses (command_of_run b) text v (asked_text c.files.held b ∙ t) r
-        (asked_breaks b text r h);
-    no_other_refused = λ b text v t n.
-        let h = refuses_only (command_of_run b) text v (asked_text c.files.held b ∙ t) n in
-        (h.0, breaks_asked b text h.0 h.1);
+    refused = λ b text v t r h. refuses (command.Run b) text v t r h;
+    no_other_refused = λ b text v t n. refuses_only (command.Run b) text v t n;
     disjoint = λ b text v t r h. run_disjoint r h b v text t;
     meant = λ b text v t input left r h. (run_meant r h b v text input t left, prints r h b v);
   }
     where
-      prints : (r : Ran) → c.outcome.ran ≡ Some r → (b : RunRequest) → command_of c.words ≡ Some (command_of_run b)
+      prints : (r : Ran) → c.outcome.ran ≡ Some r → (b : RunRequest) → command_of c.words ≡ Some (command.Run b)
           → Prints c b.telling r
       prints r h b v = let m = run_written r h b v in
           record { status = run_status r h; whole = λ n. (m.whole n).0; part = m.part_of_output }

@@ -14,9 +14,9 @@ use Rattle.sp_print.specs.OutcomeLines.{refusal_text}
 use Rattle.sp_words.specs.Ranges.{default_limits}
 use Rattle.sp_words.specs.declared.command.Command.{Command}
 use Rattle.sp_words.specs.declared.command.Command.TheVariants as command
-use Rattle.superpascal.specs.declared.requests.RunRequest.{RunRequest}
-use Rattle.superpascal.specs.declared.requests.ExecRequest.{ExecRequest}
-use Rattle.superpascal.specs.declared.requests.ReplayRequest.{ReplayRequest}
+use Rattle.sp_words.specs.declared.requests.RunRequest.{RunRequest}
+use Rattle.sp_words.specs.declared.requests.ExecRequest.{ExecRequest}
+use Rattle.sp_words.specs.declared.requests.ReplayRequest.{ReplayRequest}
 use Rattle.superpascal.specs.declared.ending.Ending.{Ending}
 use Rattle.superpascal.specs.declared.ending.Ending.TheVariants as e
 use Rattle.superpascal.specs.declared.ending.Answer.{Answer}
@@ -30,11 +30,9 @@ use Rattle.superpascal.specs.Replays.{IsUnfitFor}
 use Rattle.superpascal.specs.Runs.{IsRunOf, Reports}
 use Rattle.superpascal.specs.Statuses.{IsRegularStatus}
 use Rattle.superpascal.specs.Texts.{FirstBrokenFor, CanRead, HasLongCode, IsSoundFile, AcceptedFor, IsAcceptedText}
-use Rattle.superpascal.specs.Texts.{LoadsText, Makes, command_of_run, asks_build, asks_execution, asks_replay, asks_run}
-use Rattle.superpascal.specs.Texts.{asks_text, command_of_execution, command_of_replay, text_of}
+use Rattle.superpascal.specs.Texts.{LoadsText, Makes, asks_build, asks_execution, asks_replay, asks_run}
+use Rattle.superpascal.specs.Texts.{asks_text, text_of}
 use Rattle.superpascal.proofs.Laws.{Laws, code_text_keeps, keeps_or, kept_or, made_asks, made_keeps, one_break}
-use Rattle.superpascal.proofs.RunCommands.{asked_keeps, asked_makes, asked_no_build, asked_no_text, asked_text}
-use Rattle.superpascal.proofs.RunCommands.{breaks_asked}
 use Rattle.superpascal.proofs.RunCommands.{not_exec, not_gen, not_run}
 use Rattle.superpascal.proofs.CodeFiles.{not_bad, not_long, not_rejected}
 use Rattle.superpascal.proofs.Parts.{if_mapped, when_told}
@@ -108,12 +106,11 @@ module _ (f : Files) (s : Stream) (reports : Reports) (w : Option Command) (a : 
 
     pub ran_keeps : HasRanFor f s reports w a → AcceptedFor d text
     ran_keeps (c, u, inl (asked, p, h)) =
-        let same : command_of_run asked ≡ d = sym p ∙ one_command w d c v u in
-        let told = subst (λ (o : Option (List ℕ)). IfSome o IsAcceptedText) (sym (asked_text f.held asked))
-        (told_keeps (f.held asked.file) h.text h.loaded
-        (run_keeps h.text h.input asked.workers h.ran asked.limits h.is_run)) in
-        let all : IsAcceptedText text = of_text IsAcceptedText (command_of_run asked) (u ∙ ap Some p) told in
-        subst (λ (x : Command). AcceptedFor x text) same (asked_keeps asked text all)
+        let same : command.Run asked ≡ d = sym p ∙ one_command w d c v u in
+        let told = told_keeps (f.held asked.file) h.text h.loaded
+        (run_keeps h.text h.input asked.workers h.ran asked.limits h.is_run) in
+        let all : IsAcceptedText text = of_text IsAcceptedText (command.Run asked) (u ∙ ap Some p) told in
+        subst (λ (x : Command). AcceptedFor x text) same all
     ran_keeps (c, u, inr (size, workers, p, h)) =
         let same : command.Gen size workers ≡ d = sym p ∙ one_command w d c v u in
         let all : IsAcceptedText text = of_text IsAcceptedText (command.Gen size workers) (u
@@ -121,17 +118,17 @@ module _ (f : Files) (s : Stream) (reports : Reports) (w : Option Command) (a : 
         subst (λ (x : Command). AcceptedFor x text) same all
 
     -- a text of which a journal was loaded is kept
-    followed_keeps : (b : ReplayRequest) → w ≡ Some (command_of_replay b) → IfSome (f.held b.file) IsAcceptedText
+    followed_keeps : (b : ReplayRequest) → w ≡ Some (command.Replay b) → IfSome (f.held b.file) IsAcceptedText
         → AcceptedFor d text
-    followed_keeps b u h = subst (λ (x : Command). AcceptedFor x text) (one_command w d (command_of_replay b) v u)
-        (of_text IsAcceptedText (command_of_replay b) u h)
+    followed_keeps b u h = subst (λ (x : Command). AcceptedFor x text) (one_command w d (command.Replay b) v u)
+        (of_text IsAcceptedText (command.Replay b) u h)
 
     replay_keeps : HasReplayedFor f s reports w a → AcceptedFor d text
     replay_keeps (b, u, h) =
         followed_keeps b u (told_keeps (f.held b.file) h.has_read.text h.has_read.loaded
         (tree_keeps h.has_read.text h.is_replay.tree h.is_replay.has))
 
-    unfit_keeps : (b : ReplayRequest) (n : ℕ) → w ≡ Some (command_of_replay b) → IsUnfit f s b n a → AcceptedFor d text
+    unfit_keeps : (b : ReplayRequest) (n : ℕ) → w ≡ Some (command.Replay b) → IsUnfit f s b n a → AcceptedFor d text
     unfit_keeps b n u h =
         followed_keeps b u (told_keeps (f.held b.file) h.has_read.text h.has_read.loaded
         (tree_keeps h.has_read.text h.is_unfit.tree h.is_unfit.has))
@@ -139,14 +136,14 @@ module _ (f : Files) (s : Stream) (reports : Reports) (w : Option Command) (a : 
     -- a code file that has run is kept, and one that is at fault breaks no rule of texts
     executed_keeps : HasExecutedFor f s reports w a → AcceptedFor d text
     executed_keeps (b, u, h) =
-        subst (λ (x : Command). AcceptedFor x text) (one_command w d (command_of_execution b) v u)
-        (of_text IsSoundFile (command_of_execution b) u
+        subst (λ (x : Command). AcceptedFor x text) (one_command w d (command.Exec b) v u)
+        (of_text IsSoundFile (command.Exec b) u
         (when_told IsSoundFile (f.held b.file) h.bytes h.loaded (h.is_execution.code, h.is_execution.file)))
 
-    executed_breaks : (b : ExecRequest) → w ≡ Some (command_of_execution b) → (r : Refusal) → FirstBrokenFor d text r
+    executed_breaks : (b : ExecRequest) → w ≡ Some (command.Exec b) → (r : Refusal) → FirstBrokenFor d text r
         → ⊥
     executed_breaks b u r h =
-        subst (λ (x : Command). FirstBrokenFor x text r) (sym (one_command w d (command_of_execution b) v u)) h
+        subst (λ (x : Command). FirstBrokenFor x text r) (sym (one_command w d (command.Exec b) v u)) h
 
     ended_keeps : HasEnded f s reports w a → AcceptedFor d text
     ended_keeps (inl k) = ran_keeps k
@@ -214,14 +211,14 @@ module _ (f : Files) (s : Stream) (reports : Reports) (w : Option Command) (a : 
     kept_by _ k (inr (inr i)) = absurd (omega arith)
 
     not_ran : asks_text d → HasRanFor f s reports w a → ⊥
-    not_ran q (c, u, inl (asked, p, h)) = asked_no_text asked (subst asks_text (sym (one_command w d c v u) ∙ p) q)
+    not_ran q (c, u, inl (asked, p, h)) = subst asks_text (sym (one_command w d c v u) ∙ p) q
     not_ran q (c, u, inr (size, workers, p, h)) = subst asks_text (sym (one_command w d c v u) ∙ p) q
 
-    not_followed_by : asks_text d → (b : ReplayRequest) → w ≡ Some (command_of_replay b) → ⊥
-    not_followed_by q b u = subst asks_text (sym (one_command w d (command_of_replay b) v u)) q
+    not_followed_by : asks_text d → (b : ReplayRequest) → w ≡ Some (command.Replay b) → ⊥
+    not_followed_by q b u = subst asks_text (sym (one_command w d (command.Replay b) v u)) q
 
-    not_executed_by : asks_text d → (b : ExecRequest) → w ≡ Some (command_of_execution b) → ⊥
-    not_executed_by q b u = subst asks_text (sym (one_command w d (command_of_execution b) v u)) q
+    not_executed_by : asks_text d → (b : ExecRequest) → w ≡ Some (command.Exec b) → ⊥
+    not_executed_by q b u = subst asks_text (sym (one_command w d (command.Exec b) v u)) q
 
     not_ended : asks_text d → HasEnded f s reports w a → ⊥
     not_ended q (inl k) = not_ran q k
@@ -287,8 +284,8 @@ module _ (f : Files) (s : Stream) (reports : Reports) (w : Option Command) (a : 
         (library : (name : List ℕ) → LoadsText f.held d name → Rose (f.before name) (f.after name)
         → ⊥) (source : Rose s.before s.after → ⊥)
         (fits : CanRead f.held d → (input : List ℕ) × (s.left ≡ Some input) × (length input ≤ 16777216)) where
-      replay_asked : (b : ReplayRequest) → w ≡ Some (command_of_replay b) → asks_replay d
-      replay_asked b u = subst asks_replay (one_command w d (command_of_replay b) v u) tt
+      replay_asked : (b : ReplayRequest) → w ≡ Some (command.Replay b) → asks_replay d
+      replay_asked b u = subst asks_replay (one_command w d (command.Replay b) v u) tt
 
       read_well : (c : Command) → w ≡ Some c → IsNotLoaded f c a ⊎ IsNotRead f s c a → ⊥
       read_well c u (inl h) = library h.name
@@ -302,24 +299,24 @@ module _ (f : Files) (s : Stream) (reports : Reports) (w : Option Command) (a : 
           not_too_long i.0 i.0 refl i.2 k
 
       -- a code file of which a sound code comes is not at fault
-      file_kept : (b : ExecRequest) → w ≡ Some (command_of_execution b) → IsSoundFile text
+      file_kept : (b : ExecRequest) → w ≡ Some (command.Exec b) → IsSoundFile text
       file_kept b u = subst (λ (x : Command). AcceptedFor x text)
-          (sym (one_command w d (command_of_execution b) v u)) kept
+          (sym (one_command w d (command.Exec b) v u)) kept
 
-      long_file : (b : ExecRequest) → w ≡ Some (command_of_execution b) → IsLongFile f b a → ⊥
-      long_file b u h = not_long text (file_kept b u) (of_text (λ x. 67108864 < length x) (command_of_execution b) u
+      long_file : (b : ExecRequest) → w ≡ Some (command.Exec b) → IsLongFile f b a → ⊥
+      long_file b u h = not_long text (file_kept b u) (of_text (λ x. 67108864 < length x) (command.Exec b) u
           h.long)
 
-      bad_file : (b : ExecRequest) → w ≡ Some (command_of_execution b) → (n : ℕ) → IsBadCode f b n a → ⊥
+      bad_file : (b : ExecRequest) → w ≡ Some (command.Exec b) → (n : ℕ) → IsBadCode f b n a → ⊥
       bad_file b u n h = not_bad h.bytes n
-          (subst IsSoundFile (sym (of_text (λ x. h.bytes ≡ x) (command_of_execution b) u h.loaded))
+          (subst IsSoundFile (sym (of_text (λ x. h.bytes ≡ x) (command.Exec b) u h.loaded))
           (file_kept b u)) h.bad
 
-      rejected_file : (b : ExecRequest) → w ≡ Some (command_of_execution b) → (r : VRule) (n : ℕ)
+      rejected_file : (b : ExecRequest) → w ≡ Some (command.Exec b) → (r : VRule) (n : ℕ)
           → IsRejectedCode f b r n a → ⊥
       rejected_file b u r n h =
           not_rejected l h.code h.bytes
-          (subst IsSoundFile (sym (of_text (λ x. h.bytes ≡ x) (command_of_execution b) u h.loaded))
+          (subst IsSoundFile (sym (of_text (λ x. h.bytes ≡ x) (command.Exec b) u h.loaded))
           (file_kept b u)) h.text (rule_of r) n h.rejected
 
       pub ends_well : (x : Ending) → Why x → IsRegularStatus d (status_of x)
@@ -343,10 +340,10 @@ module _ (f : Files) (s : Stream) (reports : Reports) (w : Option Command) (a : 
 
   -- a command with a run, where the status is that of one
   followed_or_run : (d : Command) → w ≡ Some d → asks_run d → HasReplayedFor f s reports w a → ⊥
-  followed_or_run d v n (b, u, h) = subst asks_run (sym (one_command w d (command_of_replay b) v u)) n
+  followed_or_run d v n (b, u, h) = subst asks_run (sym (one_command w d (command.Replay b) v u)) n
 
   executed_or_run : (d : Command) → w ≡ Some d → asks_run d → HasExecutedFor f s reports w a → ⊥
-  executed_or_run d v n (b, u, h) = subst asks_run (sym (one_command w d (command_of_execution b) v u)) n
+  executed_or_run d v n (b, u, h) = subst asks_run (sym (one_command w d (command.Exec b) v u)) n
 
   ended_there : (d : Command) → w ≡ Some d → asks_run d → HasEnded f s reports w a → (r : Ran) × (a.ran ≡ Some r)
   ended_there d v n (inl (c, u, h)) = ran_there c h
@@ -366,23 +363,23 @@ module _ (f : Files) (s : Stream) (reports : Reports) (w : Option Command) (a : 
   run_there d v n _ k (inr (inr i)) = absurd (omega arith)
 
   -- too long an input for a text that is kept
-  module _ (b : RunRequest) (text : List ℕ) (v : w ≡ Some (command_of_run b)) (t : f.held b.file ≡ Some text) (l : Laws)
+  module _ (b : RunRequest) (text : List ℕ) (v : w ≡ Some (command.Run b)) (t : f.held b.file ≡ Some text) (l : Laws)
       (kept : IsAcceptedText text)
       (input : List ℕ) (left : s.left ≡ Some input) (long : IsTooLong input) where
-    text_is : text_of f.held (command_of_run b) ≡ Some text
-    text_is = asked_text f.held b ∙ t
+    text_is : text_of f.held (command.Run b) ≡ Some text
+    text_is = t
 
     fits_not : (d : Command) → w ≡ Some d → IsRanBy f s reports w a d → ⊥
     fits_not d u (inl (asked, p, h)) =
         let same : h.input ≡ input = told_of s.left h.input input left h.read in
         not_too_long h.input input same h.fits long
-    fits_not d u (inr (size, workers, p, h)) = not_gen b size workers (one_command w d (command_of_run b) u v ∙ p)
+    fits_not d u (inr (size, workers, p, h)) = not_gen b size workers (one_command w d (command.Run b) u v ∙ p)
 
-    followed_not : (x : ReplayRequest) → w ≡ Some (command_of_replay x) → ⊥
-    followed_not x u = not_run x b (one_command w (command_of_run b) (command_of_replay x) v u)
+    followed_not : (x : ReplayRequest) → w ≡ Some (command.Replay x) → ⊥
+    followed_not x u = not_run x b (one_command w (command.Run b) (command.Replay x) v u)
 
-    executed_not : (x : ExecRequest) → w ≡ Some (command_of_execution x) → ⊥
-    executed_not x u = not_exec b x (one_command w (command_of_execution x) (command_of_run b) u v)
+    executed_not : (x : ExecRequest) → w ≡ Some (command.Exec x) → ⊥
+    executed_not x u = not_exec b x (one_command w (command.Exec x) (command.Run b) u v)
 
     ended_not : HasEnded f s reports w a → ⊥
     ended_not (inl (c, u, h)) = fits_not c u h
@@ -396,11 +393,10 @@ module _ (f : Files) (s : Stream) (reports : Reports) (w : Option Command) (a : 
     long_due e.LongFile k = absurd (executed_not k.0 k.1)
     long_due (e.BadCode n) k = absurd (executed_not k.0 k.1)
     long_due (e.Rejected r n) k = absurd (executed_not k.0 k.1)
-    long_due e.LongCode (c, u, h) = absurd (asked_no_build b (long_code (command_of_run b) text v text_is c u h).0)
-    long_due e.Accepted (c, u, h) =
-        absurd (asked_makes b text h.output h.line (makes (command_of_run b) text v text_is c u h))
+    long_due e.LongCode (c, u, h) = absurd ((long_code (command.Run b) text v text_is c u h).0)
+    long_due e.Accepted (c, u, h) = absurd (makes (command.Run b) text v text_is c u h)
     long_due (e.Refused r) (c, u, h) = absurd
-        (kept_or l text h.refusal kept (breaks_asked b text h.refusal (breaks (command_of_run b) text v text_is c u h)))
+        (kept_or l text h.refusal kept (breaks (command.Run b) text v text_is c u h))
     long_due e.BadWords k = absurd (no_command _ _ v k)
     long_due e.ReadFault k = (omega arith, omega arith)
     long_due e.TooLong k = (omega arith, omega arith)
@@ -415,24 +411,24 @@ module _ (f : Files) (s : Stream) (reports : Reports) (w : Option Command) (a : 
     came_long : IsLongJournal f b a → ReplayCause b x
     came_outside : IsOutside (status_of x) → ReplayCause b x
 
-  module _ (b : ReplayRequest) (text : List ℕ) (v : w ≡ Some (command_of_replay b))
+  module _ (b : ReplayRequest) (text : List ℕ) (v : w ≡ Some (command.Replay b))
       (t : f.held b.file ≡ Some text) where
-    this : (P : ReplayRequest → Type 0) (x : ReplayRequest) → w ≡ Some (command_of_replay x) → P x → P b
-    this P x u h = subst P (one_followed b x (one_command w (command_of_replay b) (command_of_replay x) v u)) h
+    this : (P : ReplayRequest → Type 0) (x : ReplayRequest) → w ≡ Some (command.Replay x) → P x → P b
+    this P x u h = subst P (one_followed b x (one_command w (command.Replay b) (command.Replay x) v u)) h
 
     replayed_by : HasReplayedFor f s reports w a → HasReplayed f s b a
     replayed_by (x, u, h) = this (λ y. HasReplayed f s y a) x u h
 
     not_ran_here : HasRanFor f s reports w a → ⊥
-    not_ran_here (c, u, inl (asked, p, h)) = not_run b asked (sym (one_command w (command_of_replay b) c v u) ∙ p)
+    not_ran_here (c, u, inl (asked, p, h)) = not_run b asked (sym (one_command w (command.Replay b) c v u) ∙ p)
     not_ran_here (c, u, inr (size, workers, p, h)) =
-        not_generated b size workers (sym (one_command w (command_of_replay b) c v u)
+        not_generated b size workers (sym (one_command w (command.Replay b) c v u)
         ∙ p)
 
-    not_executed_here : (x : ExecRequest) → w ≡ Some (command_of_execution x) → ⊥
-    not_executed_here x u = apart (one_command w (command_of_execution x) (command_of_replay b) u v)
+    not_executed_here : (x : ExecRequest) → w ≡ Some (command.Exec x) → ⊥
+    not_executed_here x u = apart (one_command w (command.Exec x) (command.Replay b) u v)
       where
-        apart : command_of_replay b ≡ command_of_execution x → ⊥
+        apart : command.Replay b ≡ command.Exec x → ⊥
         apart h = cc
 
     ended_here : HasEnded f s reports w a → HasReplayed f s b a
@@ -445,9 +441,9 @@ module _ (f : Files) (s : Stream) (reports : Reports) (w : Option Command) (a : 
     came l kept e.Deadlock k = came_followed (ended_here k)
     came l kept e.Fault k = came_followed (ended_here k)
     came l kept e.NoEnd k = came_followed (replayed_by k)
-    came l kept e.Accepted (c, u, h) = absurd (makes (command_of_replay b) text v t c u h)
+    came l kept e.Accepted (c, u, h) = absurd (makes (command.Replay b) text v t c u h)
     came l kept (e.Refused r) (c, u, h) =
-        absurd (kept_or l text h.refusal kept (breaks (command_of_replay b) text v t c u h))
+        absurd (kept_or l text h.refusal kept (breaks (command.Replay b) text v t c u h))
     came l kept e.BadWords k = absurd (no_command _ _ v k)
     came l kept e.ReadFault k = came_outside (omega arith, omega arith)
     came l kept e.TooLong k = came_outside (omega arith, omega arith)
@@ -455,7 +451,7 @@ module _ (f : Files) (s : Stream) (reports : Reports) (w : Option Command) (a : 
     came l kept e.LongJournal (x, u, h) = came_long (this (λ y. IsLongJournal f y a) x u h)
     came l kept (e.BadJournal n) (x, u, h) = came_bad n (this (λ y. IsBadJournal f y n a) x u h)
     came l kept (e.Unfit n) (x, u, h) = came_unfit n (this (λ y. IsUnfit f s y n a) x u h)
-    came l kept e.LongCode (c, u, h) = absurd (long_code (command_of_replay b) text v t c u h).0
+    came l kept e.LongCode (c, u, h) = absurd (long_code (command.Replay b) text v t c u h).0
     came l kept e.LongFile k = absurd (not_executed_here k.0 k.1)
     came l kept (e.BadCode n) k = absurd (not_executed_here k.0 k.1)
     came l kept (e.Rejected r n) k = absurd (not_executed_here k.0 k.1)
@@ -466,7 +462,7 @@ module _ (f : Files) (s : Stream) (reports : Reports) (w : Option Command) (a : 
     followed_only e.Deadlock k i = ended_here k
     followed_only e.Fault k i = ended_here k
     followed_only e.NoEnd k i = replayed_by k
-    followed_only e.Accepted (c, u, h) i = absurd (makes (command_of_replay b) text v t c u h)
+    followed_only e.Accepted (c, u, h) i = absurd (makes (command.Replay b) text v t c u h)
     followed_only _ k (inl i) = absurd (omega arith)
     followed_only _ k (inr (inl i)) = absurd (omega arith)
     followed_only _ k (inr (inr i)) = absurd (omega arith)
@@ -479,14 +475,14 @@ module _ (f : Files) (s : Stream) (reports : Reports) (w : Option Command) (a : 
   pub long_said : (x : Ending) → Why x → status_of x ≡ 10 → Code_refused
   long_said e.LongCode (d, v, h) i =
       (d, v, inl (h.builds, when_told HasLongCode (text_of f.held d) h.text h.loaded h.long))
-  long_said e.LongFile (b, v, h) i = (command_of_execution b, v, inr tt)
-  long_said (e.BadCode n) (b, v, h) i = (command_of_execution b, v, inr tt)
-  long_said (e.Rejected r n) (b, v, h) i = (command_of_execution b, v, inr tt)
+  long_said e.LongFile (b, v, h) i = (command.Exec b, v, inr tt)
+  long_said (e.BadCode n) (b, v, h) i = (command.Exec b, v, inr tt)
+  long_said (e.Rejected r n) (b, v, h) i = (command.Exec b, v, inr tt)
   long_said _ k i = absurd (omega arith)
 
   -- why a journal is refused
   abbrev pub Refused_journal : Type 0
-  Refused_journal = (b : ReplayRequest) × (w ≡ Some (command_of_replay b)) × IfSome (f.held b.file) IsAcceptedText
+  Refused_journal = (b : ReplayRequest) × (w ≡ Some (command.Replay b)) × IfSome (f.held b.file) IsAcceptedText
       × (IfSome (f.held b.journal) IsNoJournal
       ⊎ ((h : HasRead f s b) × (n : ℕ) × IsUnfitFor h.text h.input b.limits h.journal n))
 

@@ -3,7 +3,8 @@ use Rattle.std.proofs.Common.{◌≡◌, inl, inr, ◌≤◌, List, ℕ, length,
 use Rattle.sp_code.specs.declared.code.Parts.{Parts}
 use Rattle.sp_codefile.specs.CodeText.{IsTextOf}
 use Rattle.sp_kernel.specs.declared.closed.Closed.{Closed}
-use Rattle.superpascal.specs.declared.requests.ExecRequest.{ExecRequest}
+use Rattle.sp_words.specs.declared.requests.ExecRequest.{ExecRequest}
+use Rattle.sp_words.specs.declared.command.Command.TheVariants as command
 use Rattle.superpascal.specs.declared.ending.Answer.{Answer}
 use Rattle.superpascal.specs.declared.ending.Ending.{Ending}
 use Rattle.superpascal.specs.declared.ending.Ending.TheVariants as e
@@ -15,7 +16,7 @@ use Rattle.superpascal.specs.Runs.{Reports}
 use Rattle.superpascal.specs.Steps.{AnswersCommand, CommandCause, DecodesTo, GivesFile, GivesInput, HasInput}
 use Rattle.superpascal.specs.Steps.{TellsExecution}
 use Rattle.superpascal.specs.Steps.{VerifiesTo}
-use Rattle.superpascal.specs.Texts.{CanRead, IsFileOf, IsSoundFile, command_of_execution}
+use Rattle.superpascal.specs.Texts.{CanRead, IsFileOf, IsSoundFile}
 use Rattle.superpascal.proofs.Parts.{when_told}
 
 -- ---- the code of a file
@@ -41,7 +42,7 @@ module _ (f : Files) (name bytes : List ℕ) (t : IsKnownAs (f.held name) bytes)
 
 module _ (f : Files) (s : Stream) (reports : Reports) (b : ExecRequest) where
   abbrev Due_execution : Answer → Type 0
-  Due_execution a = CommandCause f s reports (command_of_execution b) a
+  Due_execution a = CommandCause f s reports (command.Exec b) a
 
   -- no code comes of the file
   pub execution_unready : IsUntouched s → (x : Ending) → GivesFile f b.file (Err x) → Due_execution (ending_answer x)
@@ -70,7 +71,7 @@ module _ (f : Files) (s : Stream) (reports : Reports) (b : ExecRequest) where
   )
 
   module _ (bytes : List ℕ) (t : IsKnownAs (f.held b.file) bytes) (code : Parts) (file : IsFileOf code bytes) where
-    may_read : CanRead f.held (command_of_execution b)
+    may_read : CanRead f.held (command.Exec b)
     may_read = when_told IsSoundFile (f.held b.file) bytes t (code, file)
 
     -- memory was wanting for the run, or for what is told of it
@@ -87,7 +88,7 @@ module _ (f : Files) (s : Stream) (reports : Reports) (b : ExecRequest) where
 
     pub execution_told : (input : List ℕ) → HasInput s input → (run : Closed)
         → IsExecutionOf bytes input b.limits run → (r : Result Answer Ending) → TellsExecution run r
-        → AnswersCommand f s reports (command_of_execution b) r
+        → AnswersCommand f s reports (command.Exec b) r
     execution_told input i run is (Ok a) k = (
       by_execution b refl (record {
         bytes = bytes;

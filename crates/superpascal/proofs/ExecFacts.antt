@@ -13,8 +13,8 @@ use Rattle.sp_tree.specs.Bare.{without_places}
 use Rattle.sp_words.specs.Words.{command_of}
 use Rattle.sp_words.specs.declared.command.Command.{Command}
 use Rattle.sp_words.specs.declared.command.Command.TheVariants as command
-use Rattle.superpascal.specs.declared.requests.ExecRequest.{ExecRequest}
-use Rattle.superpascal.specs.declared.requests.ReplayRequest.{ReplayRequest}
+use Rattle.sp_words.specs.declared.requests.ExecRequest.{ExecRequest}
+use Rattle.sp_words.specs.declared.requests.ReplayRequest.{ReplayRequest}
 use Rattle.superpascal.specs.declared.ending.Ending.{Ending}
 use Rattle.superpascal.specs.declared.ending.Ending.TheVariants as e
 use Rattle.superpascal.specs.declared.ending.Answer.{Answer}
@@ -25,7 +25,7 @@ use Rattle.superpascal.specs.Causes.{IsTooLong, Stream}
 use Rattle.superpascal.specs.ExecPromise.{Executing, IsExecutionOfWords, IsFaultyFile, IsMeantHere}
 use Rattle.superpascal.specs.Executions.{IsExecutionOf, execution_answer}
 use Rattle.superpascal.specs.Runs.{Reports, ending_of}
-use Rattle.superpascal.specs.Texts.{IsCodeFile, IsSoundFile, Makes, asks_build, command_of_execution, command_of_replay}
+use Rattle.superpascal.specs.Texts.{IsCodeFile, IsSoundFile, Makes, asks_build}
 use Rattle.superpascal.specs.WrittenParts.{AreWritten}
 use Rattle.superpascal.proofs.RunCommands.{not_exec}
 use Rattle.superpascal.proofs.Forms.{final, no_command, not_too_long, one_command, run_notes_stand}
@@ -39,22 +39,13 @@ use Rattle.superpascal.proofs.Why.{HasEnded, HasExecutedFor, HasRanFor, HasRepla
 
 -- ---- words
 
-one_name : (a b : ExecRequest) → command_of_execution b ≡ command_of_execution a → b.file ≡ a.file
-one_name a b h = cc
+one_executed : (a b : ExecRequest) → command.Exec b ≡ command.Exec a → b ≡ a
+one_executed a b h = cc
 
-one_count : (a b : ExecRequest) → command_of_execution b ≡ command_of_execution a → b.workers ≡ a.workers
-one_count a b h = cc
-
-one_limit : (a b : ExecRequest) → command_of_execution b ≡ command_of_execution a → b.limits ≡ a.limits
-one_limit a b h = cc
-
-one_executed : (a b : ExecRequest) → command_of_execution b ≡ command_of_execution a → b ≡ a
-one_executed a b h = λ i. record { file = one_name a b h i; workers = one_count a b h i; limits = one_limit a b h i }
-
-not_generated : (b : ExecRequest) (size workers : ℕ) → command_of_execution b ≡ command.Gen size workers → ⊥
+not_generated : (b : ExecRequest) (size workers : ℕ) → command.Exec b ≡ command.Gen size workers → ⊥
 not_generated b size workers h = cc
 
-not_followed : (b : ExecRequest) (x : ReplayRequest) → command_of_execution b ≡ command_of_replay x → ⊥
+not_followed : (b : ExecRequest) (x : ReplayRequest) → command.Exec b ≡ command.Replay x → ⊥
 not_followed b x h = cc
 
 -- ---- from the ending
@@ -65,28 +56,28 @@ data ExecutionCause (f : Files) (s : Stream) (b : ExecRequest) (a : Answer) (x :
   came_long : IsLongFile f b a → ExecutionCause f s b a x
   came_bad : (n : ℕ) → IsBadCode f b n a → ExecutionCause f s b a x
   came_rejected : (v : VRule) (i : ℕ) → IsRejectedCode f b v i a → ExecutionCause f s b a x
-  came_refused : status_of x ≡ 1 → IsRefusedFor f (command_of_execution b) a → ExecutionCause f s b a x
+  came_refused : status_of x ≡ 1 → IsRefusedFor f (command.Exec b) a → ExecutionCause f s b a x
   came_outside : IsOutside (status_of x) → ExecutionCause f s b a x
 
 module _ (f : Files) (s : Stream) (reports : Reports) (w : Option Command) (a : Answer) (b : ExecRequest)
-    (v : w ≡ Some (command_of_execution b)) where
+    (v : w ≡ Some (command.Exec b)) where
   abbrev Why : Ending → Type 0
   Why = why f s reports w a
 
   -- what holds of the execution that the words ask for holds of this one
-  this : (P : ExecRequest → Type 0) (x : ExecRequest) → w ≡ Some (command_of_execution x) → P x → P b
-  this P x u h = subst P (one_executed b x (one_command w (command_of_execution b) (command_of_execution x) v u)) h
+  this : (P : ExecRequest → Type 0) (x : ExecRequest) → w ≡ Some (command.Exec x) → P x → P b
+  this P x u h = subst P (one_executed b x (one_command w (command.Exec b) (command.Exec x) v u)) h
 
   not_ran : HasRanFor f s reports w a → ⊥
-  not_ran (c, u, inl (asked, p, h)) = not_exec asked b (sym p ∙ one_command w (command_of_execution b) c v u)
+  not_ran (c, u, inl (asked, p, h)) = not_exec asked b (sym p ∙ one_command w (command.Exec b) c v u)
   not_ran (c, u, inr (size, workers, p, h)) =
-      not_generated b size workers (sym (one_command w (command_of_execution b) c v u) ∙ p)
+      not_generated b size workers (sym (one_command w (command.Exec b) c v u) ∙ p)
 
   not_replayed : HasReplayedFor f s reports w a → ⊥
-  not_replayed (x, u, h) = not_followed b x (sym (one_command w (command_of_execution b) (command_of_replay x) v u))
+  not_replayed (x, u, h) = not_followed b x (sym (one_command w (command.Exec b) (command.Replay x) v u))
 
-  follows_not : (x : ReplayRequest) → w ≡ Some (command_of_replay x) → ⊥
-  follows_not x u = not_followed b x (sym (one_command w (command_of_execution b) (command_of_replay x) v u))
+  follows_not : (x : ReplayRequest) → w ≡ Some (command.Replay x) → ⊥
+  follows_not x u = not_followed b x (sym (one_command w (command.Exec b) (command.Replay x) v u))
 
   ran_here : HasExecutedFor f s reports w a → HasExecuted f s b a
   ran_here (x, u, h) = this (λ y. HasExecuted f s y a) x u h
@@ -101,15 +92,15 @@ module _ (f : Files) (s : Stream) (reports : Reports) (w : Option Command) (a : 
   came e.Deadlock k = came_run (ended_here k)
   came e.Fault k = came_run (ended_here k)
   came e.Accepted (c, u, h) = absurd
-      (subst (λ (y : Command). Makes y h.text h.output h.line) (one_command w (command_of_execution b) c v u) h.makes)
+      (subst (λ (y : Command). Makes y h.text h.output h.line) (one_command w (command.Exec b) c v u) h.makes)
   came (e.Refused r) (c, u, h) = came_refused refl
-      (subst (λ (y : Command). IsRefusedFor f y a) (one_command w (command_of_execution b) c v u) h)
-  came e.BadWords k = absurd (no_command w (command_of_execution b) v k)
+      (subst (λ (y : Command). IsRefusedFor f y a) (one_command w (command.Exec b) c v u) h)
+  came e.BadWords k = absurd (no_command w (command.Exec b) v k)
   came e.ReadFault k = came_outside (omega arith, omega arith)
   came e.TooLong k = came_outside (omega arith, omega arith)
   came e.OutOfMemory k = came_outside (omega arith, omega arith)
   came e.LongCode (c, u, h) =
-      absurd (subst (λ (y : Command). asks_build y) (one_command w (command_of_execution b) c v u) h.builds)
+      absurd (subst (λ (y : Command). asks_build y) (one_command w (command.Exec b) c v u) h.builds)
   came e.LongFile (x, u, h) = came_long (this (λ y. IsLongFile f y a) x u h)
   came (e.BadCode n) (x, u, h) = came_bad n (this (λ y. IsBadCode f y n a) x u h)
   came (e.Rejected r n) (x, u, h) = came_rejected r n (this (λ y. IsRejectedCode f y r n a) x u h)
@@ -122,7 +113,7 @@ module _ (f : Files) (s : Stream) (reports : Reports) (w : Option Command) (a : 
   ran_only e.Fault k i = ended_here k
   ran_only e.NoEnd k i = absurd (follows_not k.0 k.1)
   ran_only e.Accepted (c, u, h) i = absurd
-      (subst (λ (y : Command). Makes y h.text h.output h.line) (one_command w (command_of_execution b) c v u) h.makes)
+      (subst (λ (y : Command). Makes y h.text h.output h.line) (one_command w (command.Exec b) c v u) h.makes)
   ran_only _ k (inl i) = absurd (omega arith)
   ran_only _ k (inr (inl i)) = absurd (omega arith)
   ran_only _ k (inr (inr i)) = absurd (omega arith)
@@ -141,7 +132,7 @@ module _ (f : Files) (s : Stream) (reports : Reports) (w : Option Command) (a : 
       let m = this (λ y. IsRejectedCode f y r n a) x u h in
       when_told IsFaultyFile (f.held b.file) m.bytes m.loaded (inr (inr (m.code, r, n, m.text, m.rejected)))
   faulty e.LongCode (c, u, h) i = absurd
-      (subst (λ (y : Command). asks_build y) (one_command w (command_of_execution b) c v u) h.builds)
+      (subst (λ (y : Command). asks_build y) (one_command w (command.Exec b) c v u) h.builds)
   faulty _ k i = absurd (omega arith)
 
 -- ---- of a call
@@ -212,7 +203,7 @@ module _ (c : Call) (k : IsAnswered c) (l : Laws) where
         }
 
     -- of the file and the input that are told
-    module _ (b : ExecRequest) (bytes input : List ℕ) (v : command_of c.words ≡ Some (command_of_execution b))
+    module _ (b : ExecRequest) (bytes input : List ℕ) (v : command_of c.words ≡ Some (command.Exec b))
         (t : c.files.held b.file ≡ Some bytes) (left : c.source.left ≡ Some input) where
       run_machine : IsExecutionOf bytes input b.limits r
       run_machine =
@@ -229,7 +220,7 @@ module _ (c : Call) (k : IsAnswered c) (l : Laws) where
           (without_places m.tree, (m.tree, m.has.accepted.0, refl), m.about)
 
   -- the answer that was due, whatever displaced its status
-  due_run : (b : ExecRequest) → command_of c.words ≡ Some (command_of_execution b) → (a : IsAnswered c)
+  due_run : (b : ExecRequest) → command_of c.words ≡ Some (command.Exec b) → (a : IsAnswered c)
       → IsFinal (status_of a.answer.ending) → (r : Closed) × (c.outcome.executed ≡ Some r)
   due_run b v a i =
       let m = ran_only c.files c.source c.reports (command_of c.words) a.answer b v a.answer.ending (due_why c a l) i in
@@ -237,7 +228,7 @@ module _ (c : Call) (k : IsAnswered c) (l : Laws) where
 
   -- ---- what is said of a file
 
-  module _ (b : ExecRequest) (bytes : List ℕ) (v : command_of c.words ≡ Some (command_of_execution b))
+  module _ (b : ExecRequest) (bytes : List ℕ) (v : command_of c.words ≡ Some (command.Exec b))
       (t : c.files.held b.file ≡ Some bytes) where
     abbrev Came_here : Type 0
     Came_here = ExecutionCause c.files c.source b k.answer (ending c k l)
@@ -245,7 +236,7 @@ module _ (c : Call) (k : IsAnswered c) (l : Laws) where
     came_here : Came_here
     came_here = came c.files c.source c.reports (command_of c.words) k.answer b v (ending c k l) (due_why c k l)
 
-    not_refused : IsRefusedFor c.files (command_of_execution b) k.answer → ⊥
+    not_refused : IsRefusedFor c.files (command.Exec b) k.answer → ⊥
     not_refused h = if_told (λ x. ⊥) (c.files.held b.file) bytes t h.breaks
 
     this_file : (x : List ℕ) → IsKnownAs (c.files.held b.file) x → x ≡ bytes

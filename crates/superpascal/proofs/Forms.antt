@@ -6,8 +6,8 @@ use Rattle.sp_journal.specs.declared.outcome.End.TheVariants as ends
 use Rattle.sp_print.specs.OutcomeLines.{HasLines}
 use Rattle.sp_words.specs.declared.command.Command.{Command}
 use Rattle.sp_words.specs.declared.command.Command.TheVariants as command
-use Rattle.superpascal.specs.declared.telling.Telling.{Telling}
-use Rattle.superpascal.specs.declared.telling.Telling.TheVariants as told
+use Rattle.sp_words.specs.declared.requests.Telling.{Telling}
+use Rattle.sp_words.specs.declared.requests.Telling.TheVariants as told
 use Rattle.superpascal.specs.Answers.{has_output, notes_by, output_of, status_of}
 use Rattle.superpascal.specs.Calls.{IsFinal}
 use Rattle.superpascal.specs.Causes.{IsTooLong}
@@ -49,25 +49,23 @@ output_stands reports told.Witness r = refl
 
 -- a command that answers from a text alone runs nothing
 pub text_or_run : (d : Command) → asks_text d → asks_run d → ⊥
-text_or_run (command.Run file workers limits show) q r = q
-text_or_run (command.Witness file workers limits) q r = q
+text_or_run (command.Run asked) q r = q
 text_or_run (command.Gen size workers) q r = q
 text_or_run _ _ r = r
 
 -- a command that writes a code file answers from a text alone
 pub build_text : (d : Command) → asks_build d → asks_text d
-build_text (command.Run file workers limits show) q = q
-build_text (command.Witness file workers limits) q = q
+build_text (command.Run asked) q = q
 build_text (command.Gen size workers) q = q
-build_text (command.Replay file journal limits view) q = q
-build_text (command.Exec file workers limits) q = q
+build_text (command.Replay asked) q = q
+build_text (command.Exec asked) q = q
 build_text _ _ = tt
 
 -- what it refuses, and of what it makes something
 pub build_keeps : (d : Command) (text : List ℕ) → asks_build d → IsAcceptedText text → AcceptedFor d text
 build_keeps (command.Sets file) text q k = absurd q
 build_keeps (command.Format file) text q k = absurd q
-build_keeps (command.Exec file workers limits) text q k = absurd q
+build_keeps (command.Exec asked) text q k = absurd q
 build_keeps _ _ _ k = k
 
 -- a code file is not too long

@@ -81,14 +81,14 @@ module _ (l : Laws) (text : List ℕ) where
   pub one_break : (d : Command) (a b : Refusal) → FirstBrokenFor d text a → FirstBrokenFor d text b → a ≡ b
   one_break (command.Sets file) a b x y = l.first text a b x y
   one_break (command.Format file) a b x y = l.no_layout text a b x y
-  one_break (command.Exec file workers limits) a b x y = absurd x
+  one_break (command.Exec asked) a b x y = absurd x
   one_break _ a b x y = one_rule a b x y
 
   -- a command that refuses the text for no rule refuses it for none
   pub keeps_or : (d : Command) (r : Refusal) → AcceptedFor d text → FirstBrokenFor d text r → ⊥
   keeps_or (command.Sets file) r k x = l.not_both text k.0 r k.1 x
   keeps_or (command.Format file) r k x = l.layout_or text k.0 r k.1 x
-  keeps_or (command.Exec file workers limits) r k x = x
+  keeps_or (command.Exec asked) r k x = x
   keeps_or _ r k x = kept_or r k x
 
   one_sets : (a b : List ℕ) → HasSets text a → HasSets text b → a ≡ b
@@ -124,17 +124,16 @@ made_keeps (command.Build file) text out line ((is_text, _), _) = code_text_keep
 made_keeps _ _ _ _ m = absurd m
 
 pub made_asks : (d : Command) (text out line : List ℕ) → Makes d text out line → asks_text d
-made_asks (command.Run file workers limits show) text out line m = m
-made_asks (command.Witness file workers limits) text out line m = m
+made_asks (command.Run asked) text out line m = m
 made_asks (command.Gen size workers) text out line m = m
-made_asks (command.Replay file journal limits view) text out line m = m
-made_asks (command.Exec file workers limits) text out line m = m
+made_asks (command.Replay asked) text out line m = m
+made_asks (command.Exec asked) text out line m = m
 made_asks _ _ _ _ _ = tt
 
 pub keeps_all : (d : Command) (text : List ℕ) → asks_all d → AcceptedFor d text → IsAcceptedText text
 keeps_all (command.Sets file) text q k = absurd q
 keeps_all (command.Format file) text q k = absurd q
-keeps_all (command.Exec file workers limits) text q k = absurd q
+keeps_all (command.Exec asked) text q k = absurd q
 keeps_all _ _ _ k = k
 
 -- the command loads a text under this name first, and no code file
@@ -146,7 +145,7 @@ pub long_breaks : (d : Command) (name all : List ℕ) → IsAbout d name → 104
     → FirstBrokenFor d all (record { rule = rule.L1; at = start })
 long_breaks (command.Sets file) name all about h = inl (inl (too_long all start refl h))
 long_breaks (command.Format file) name all about h = inl (inl (too_long all start refl h))
-long_breaks (command.Exec file workers limits) name all about h = absurd (about.1 tt)
+long_breaks (command.Exec asked) name all about h = absurd (about.1 tt)
 long_breaks _ _ all _ h = inl (inl (inl (inl (too_long all start refl h))))
 
 pub laws : ((text : List ℕ) (p q : c.Program) → IsChecked text p → IsChecked text q → p ≡ q)

@@ -21,8 +21,8 @@ use Rattle.sp_where.specs.StateVariables.{Known}
 use Rattle.sp_where.specs.States.{where_text}
 use Rattle.sp_where.specs.Traces.{trace_text}
 use Rattle.sp_where.specs.declared.symbols.Symbols.{Symbols}
-use Rattle.sp_words.specs.declared.command.View.{View}
-use Rattle.sp_words.specs.declared.command.View.TheVariants as view
+use Rattle.sp_words.specs.declared.requests.View.{View}
+use Rattle.sp_words.specs.declared.requests.View.TheVariants as view
 use Rattle.superpascal.specs.declared.ending.Ending.{Ending}
 use Rattle.superpascal.specs.declared.teller.Account.{Account}
 use Rattle.superpascal.specs.declared.teller.Teller.{Teller}

@@ -20,11 +20,11 @@ use Rattle.sp_tree.specs.PlainChecked as c
 use Rattle.sp_words.specs.Ranges.{default_limits}
 use Rattle.sp_words.specs.declared.command.Command.{Command}
 use Rattle.sp_words.specs.declared.command.Command.TheVariants as command
-use Rattle.superpascal.specs.declared.requests.RunRequest.{RunRequest}
+use Rattle.sp_words.specs.declared.requests.RunRequest.{RunRequest}
 use Rattle.superpascal.specs.declared.ending.Answer.{Answer}
 use Rattle.superpascal.specs.declared.ending.Ending.{Ending}
 use Rattle.superpascal.specs.declared.ending.Ending.TheVariants as e
-use Rattle.superpascal.specs.declared.telling.Telling.{Telling}
+use Rattle.sp_words.specs.declared.requests.Telling.{Telling}
 use Rattle.superpascal.specs.AnswerParts.{AnswersEnding, HasCode, ending_answer, ending_of_halt}
 use Rattle.superpascal.specs.Causes.{Cause, by_words, before_words, by_command, Due, by_run, by_generated, by_text}
 use Rattle.superpascal.specs.Causes.{by_code, by_rule, by_library, by_source, by_length, by_memory, Files, IsKnownAs}
@@ -36,8 +36,7 @@ use Rattle.superpascal.specs.Steps.{HasInput, LoadFails, IsSaidOf, IsUnready, Re
 use Rattle.superpascal.specs.Steps.{ReportsRun}
 use Rattle.superpascal.specs.Steps.{TellsSets, TextCause, length_refusal}
 use Rattle.superpascal.specs.Texts.{FirstBrokenFor, FirstBroken, CanRead, HasCodeText, IsAcceptedText, Makes}
-use Rattle.superpascal.specs.Texts.{command_of_run, text_of}
-use Rattle.superpascal.proofs.RunCommands.{asked_about, asked_breaks, asked_reads}
+use Rattle.superpascal.specs.Texts.{text_of}
 use Rattle.superpascal.proofs.Laws.{IsAbout, long_breaks}
 
 -- ---- what is told
@@ -214,19 +213,19 @@ text_command_by f s reports d x r h u k = command_by f s reports d x r h
 
 module _ (f : Files) (s : Stream) (reports : Reports) (b : RunRequest) where
   abbrev Due_run : Answer → Type 0
-  Due_run a = CommandCause f s reports (command_of_run b) a
+  Due_run a = CommandCause f s reports (command.Run b) a
 
   -- no code comes of the text
   pub run_unready : IsUntouched s → (x : Ending) → IsUnready f b.file x → Due_run (ending_answer x)
-  run_unready u x h = cause_of_text f s reports (command_of_run b) u (ending_answer x)
-      (text_unready f (command_of_run b) b.file (asked_about b) (asked_breaks b) x h)
+  run_unready u x h = cause_of_text f s reports (command.Run b) u (ending_answer x)
+      (text_unready f (command.Run b) b.file (refl, λ k. k) (λ text r h. h) x h)
 
   module _ (text : List ℕ) (t : IsKnownAs (f.held b.file) text) (tree : c.Program) (code : Parts)
       (has : HasCode text tree code) where
-    can_read : CanRead f.held (command_of_run b)
-    can_read = asked_reads f.held b (when_told IsAcceptedText (f.held b.file) text t (keeps_code text tree code has))
+    can_read : CanRead f.held (command.Run b)
+    can_read = when_told IsAcceptedText (f.held b.file) text t (keeps_code text tree code has)
 
-    reads : ReadsAfterRules f s (command_of_run b)
+    reads : ReadsAfterRules f s (command.Run b)
     reads = inr can_read
 
     -- memory was wanting for the run, or for what is told of it
@@ -242,7 +241,7 @@ module _ (f : Files) (s : Stream) (reports : Reports) (b : RunRequest) where
 
     pub run_told : (input : List ℕ) → HasInput s input → (ran : Ran) → IsRunOf text input b.workers b.limits ran
         → (r : Result Answer Ending) → ReportsRun reports b.telling ran r
-        → AnswersCommand f s reports (command_of_run b) r
+        → AnswersCommand f s reports (command.Run b) r
     run_told input i ran is (Ok a) k = (
       by_run b refl (record {
         text = text;

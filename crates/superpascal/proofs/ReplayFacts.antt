@@ -19,8 +19,8 @@ use Rattle.sp_tree.specs.Bare.{without_places}
 use Rattle.sp_tree.specs.Plain.{Program}
 use Rattle.sp_tree.specs.PlainChecked as c
 use Rattle.sp_words.specs.declared.command.Command.TheVariants as command
-use Rattle.sp_words.specs.declared.command.View.{View}
-use Rattle.superpascal.specs.declared.requests.ReplayRequest.{ReplayRequest}
+use Rattle.sp_words.specs.declared.requests.View.{View}
+use Rattle.sp_words.specs.declared.requests.ReplayRequest.{ReplayRequest}
 use Rattle.superpascal.specs.declared.teller.Account.{Account}
 use Rattle.superpascal.specs.declared.ending.Ending.{Ending}
 use Rattle.superpascal.specs.declared.ending.Ending.TheVariants as e
@@ -35,34 +35,17 @@ use Rattle.superpascal.specs.Runs.{HasTree, Reports}
 use Rattle.superpascal.specs.Steps.{AccountsFor, AnswersCommand, CommandCause, ReplaysTo, GivesInput, GivesJournal}
 use Rattle.superpascal.specs.Steps.{HasInput, IsUnready}
 use Rattle.superpascal.specs.Steps.{ReadsJournal, TellsReplay}
-use Rattle.superpascal.specs.Texts.{CanRead, IsJournalText, IsAcceptedText, command_of_replay}
+use Rattle.superpascal.specs.Texts.{CanRead, IsJournalText, IsAcceptedText}
 use Rattle.superpascal.proofs.Laws.{Laws}
 use Rattle.superpascal.proofs.Parts.{cause_of_text, keeps_code, text_unready, when_told}
 use Rattle.superpascal.proofs.Tellable.{replay_ends}
 
 -- ---- words
 
-one_file : (a b : ReplayRequest) → command_of_replay b ≡ command_of_replay a → b.file ≡ a.file
-one_file a b h = cc
+pub one_followed : (a b : ReplayRequest) → command.Replay b ≡ command.Replay a → b ≡ a
+one_followed a b h = cc
 
-one_journal : (a b : ReplayRequest) → command_of_replay b ≡ command_of_replay a → b.journal ≡ a.journal
-one_journal a b h = cc
-
-one_limits : (a b : ReplayRequest) → command_of_replay b ≡ command_of_replay a → b.limits ≡ a.limits
-one_limits a b h = cc
-
-one_view : (a b : ReplayRequest) → command_of_replay b ≡ command_of_replay a → b.view ≡ a.view
-one_view a b h = cc
-
-pub one_followed : (a b : ReplayRequest) → command_of_replay b ≡ command_of_replay a → b ≡ a
-one_followed a b h = λ i. record {
-  file = one_file a b h i;
-  journal = one_journal a b h i;
-  limits = one_limits a b h i;
-  view = one_view a b h i;
-}
-
-pub not_generated : (b : ReplayRequest) (size workers : ℕ) → command_of_replay b ≡ command.Gen size workers → ⊥
+pub not_generated : (b : ReplayRequest) (size workers : ℕ) → command.Replay b ≡ command.Gen size workers → ⊥
 not_generated b size workers h = cc
 
 -- ---- from the parts of the call
@@ -97,12 +80,12 @@ journal_under f g name held l i (Err x) (inr (bytes, n, t, short, h, bad)) = inr
 
 module _ (f : Files) (s : Stream) (reports : Reports) (b : ReplayRequest) where
   abbrev Due_replay : Answer → Type 0
-  Due_replay a = CommandCause f s reports (command_of_replay b) a
+  Due_replay a = CommandCause f s reports (command.Replay b) a
 
   -- no code comes of the text
   pub replay_unready : IsUntouched s → (x : Ending) → IsUnready f b.file x → Due_replay (ending_answer x)
-  replay_unready u x h = cause_of_text f s reports (command_of_replay b) u (ending_answer x)
-      (text_unready f (command_of_replay b) b.file (refl, λ k. k) (λ text r k. k) x h)
+  replay_unready u x h = cause_of_text f s reports (command.Replay b) u (ending_answer x)
+      (text_unready f (command.Replay b) b.file (refl, λ k. k) (λ text r k. k) x h)
 
   module _ (text : List ℕ) (t : IsKnownAs (f.held b.file) text) (tree : c.Program) (code : Parts)
       (has : HasCode text tree code) where
@@ -133,7 +116,7 @@ module _ (f : Files) (s : Stream) (reports : Reports) (b : ReplayRequest) where
     )
 
     module _ (bytes : List ℕ) (told : IsKnownAs (f.held b.journal) bytes) (j : Journal) (is : IsJournalOf bytes j) where
-      may_read : CanRead f.held (command_of_replay b)
+      may_read : CanRead f.held (command.Replay b)
       may_read = (kept_is, when_told IsJournalText (f.held b.journal) bytes told ((is.version, j, is.text), is.short))
 
       -- memory was wanting for the run, or for what is told of it
@@ -173,7 +156,7 @@ module _ (f : Files) (s : Stream) (reports : Reports) (b : ReplayRequest) where
         replay_unfit x (inr h) = replay_wanting x h
 
         pub replay_told : (account : Account) → AccountsFor b.view text input b.limits j (Ok account)
-            → (r : Result Answer Ending) → TellsReplay account r → AnswersCommand f s reports (command_of_replay b) r
+            → (r : Result Answer Ending) → TellsReplay account r → AnswersCommand f s reports (command.Replay b) r
         replay_told account (replayed, m, same, written) (Ok a) k = (
           by_replay b refl (record {
             has_read = has_read;

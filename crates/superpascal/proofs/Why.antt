@@ -7,9 +7,9 @@ use Rattle.sp_journal.specs.declared.outcome.End.TheVariants as ends
 use Rattle.sp_kernel.specs.declared.closed.Closed.{Closed}
 use Rattle.sp_words.specs.declared.command.Command.{Command}
 use Rattle.sp_words.specs.declared.command.Command.TheVariants as command
-use Rattle.superpascal.specs.declared.requests.RunRequest.{RunRequest}
-use Rattle.superpascal.specs.declared.requests.ExecRequest.{ExecRequest}
-use Rattle.superpascal.specs.declared.requests.ReplayRequest.{ReplayRequest}
+use Rattle.sp_words.specs.declared.requests.RunRequest.{RunRequest}
+use Rattle.sp_words.specs.declared.requests.ExecRequest.{ExecRequest}
+use Rattle.sp_words.specs.declared.requests.ReplayRequest.{ReplayRequest}
 use Rattle.superpascal.specs.declared.ending.Ending.{Ending}
 use Rattle.superpascal.specs.declared.ending.Ending.TheVariants as e
 use Rattle.superpascal.specs.declared.ending.Answer.{Answer}
@@ -24,13 +24,12 @@ use Rattle.superpascal.specs.Causes.{IsRejectedCode, IsLongInput, IsUnfit, Strea
 use Rattle.superpascal.specs.Executions.{execution_answer}
 use Rattle.superpascal.specs.Replays.{ending_of_replay, replay_answer}
 use Rattle.superpascal.specs.Runs.{Reports, ending_of, generated_answer, run_answer}
-use Rattle.superpascal.specs.Texts.{command_of_run, command_of_execution, command_of_replay}
 use Rattle.superpascal.proofs.Tellable.{EndHasLines, ends_of, execution_ends, replay_ends}
 
 module _ (f : Files) (s : Stream) (reports : Reports) (w : Option Command) (a : Answer) where
   -- a program has run for this command
   abbrev pub IsRanBy : Command → Type 0
-  IsRanBy d = ((asked : RunRequest) × (d ≡ command_of_run asked) × HasRun f s reports asked a)
+  IsRanBy d = ((asked : RunRequest) × (d ≡ command.Run asked) × HasRun f s reports asked a)
       ⊎ ((size workers : ℕ) × (d ≡ command.Gen size workers) × HasGenerated size workers a)
 
   abbrev pub HasRanFor : Type 0
@@ -38,11 +37,11 @@ module _ (f : Files) (s : Stream) (reports : Reports) (w : Option Command) (a : 
 
   -- a journal was followed for this command
   abbrev pub HasReplayedFor : Type 0
-  HasReplayedFor = (asked : ReplayRequest) × (w ≡ Some (command_of_replay asked)) × HasReplayed f s asked a
+  HasReplayedFor = (asked : ReplayRequest) × (w ≡ Some (command.Replay asked)) × HasReplayed f s asked a
 
   -- a code file has run for this command
   abbrev pub HasExecutedFor : Type 0
-  HasExecutedFor = (asked : ExecRequest) × (w ≡ Some (command_of_execution asked)) × HasExecuted f s asked a
+  HasExecutedFor = (asked : ExecRequest) × (w ≡ Some (command.Exec asked)) × HasExecuted f s asked a
 
   -- a program or a code file came to its end, in a run or along a journal
   abbrev pub HasEnded : Type 0
@@ -59,13 +58,13 @@ module _ (f : Files) (s : Stream) (reports : Reports) (w : Option Command) (a : 
   why e.ReadFault = (d : Command) × (w ≡ Some d) × (IsNotLoaded f d a ⊎ IsNotRead f s d a)
   why e.TooLong = (d : Command) × (w ≡ Some d) × IsLongInput f s d a
   why e.OutOfMemory = a ≡ answer_without_output e.OutOfMemory
-  why e.LongJournal = (asked : ReplayRequest) × (w ≡ Some (command_of_replay asked)) × IsLongJournal f asked a
-  why (e.BadJournal n) = (asked : ReplayRequest) × (w ≡ Some (command_of_replay asked)) × IsBadJournal f asked n a
-  why (e.Unfit n) = (asked : ReplayRequest) × (w ≡ Some (command_of_replay asked)) × IsUnfit f s asked n a
+  why e.LongJournal = (asked : ReplayRequest) × (w ≡ Some (command.Replay asked)) × IsLongJournal f asked a
+  why (e.BadJournal n) = (asked : ReplayRequest) × (w ≡ Some (command.Replay asked)) × IsBadJournal f asked n a
+  why (e.Unfit n) = (asked : ReplayRequest) × (w ≡ Some (command.Replay asked)) × IsUnfit f s asked n a
   why e.LongCode = (d : Command) × (w ≡ Some d) × IsLongCode f d a
-  why e.LongFile = (asked : ExecRequest) × (w ≡ Some (command_of_execution asked)) × IsLongFile f asked a
-  why (e.BadCode n) = (asked : ExecRequest) × (w ≡ Some (command_of_execution asked)) × IsBadCode f asked n a
-  why (e.Rejected v i) = (asked : ExecRequest) × (w ≡ Some (command_of_execution asked)) × IsRejectedCode f asked v i a
+  why e.LongFile = (asked : ExecRequest) × (w ≡ Some (command.Exec asked)) × IsLongFile f asked a
+  why (e.BadCode n) = (asked : ExecRequest) × (w ≡ Some (command.Exec asked)) × IsBadCode f asked n a
+  why (e.Rejected v i) = (asked : ExecRequest) × (w ≡ Some (command.Exec asked)) × IsRejectedCode f asked v i a
 
   by_end : (x : End) → EndHasLines x → HasEnded → why (ending_of x)
   by_end ends.Done p h = h
@@ -143,7 +142,7 @@ module _ (f : Files) (s : Stream) (reports : Reports) (w : Option Command) (a : 
   no_file b r h n k = none-some r (sym n ∙ sym (ap (λ (z : Answer). z.executed) h) ∙ k)
 
   executed_due : (d : Command) (r : Closed) → Due f s reports d a → a.executed ≡ Some r → (asked : ExecRequest)
-      × (d ≡ command_of_execution asked) × HasExecuted f s asked a
+      × (d ≡ command.Exec asked) × HasExecuted f s asked a
   executed_due d r (by_run asked p h) k = absurd (no_file _ r h.answer refl k)
   executed_due d r (by_generated size workers p h) k = absurd (no_file _ r h.answer refl k)
   executed_due d r (by_text h) k = absurd (no_file _ r h.answer refl k)

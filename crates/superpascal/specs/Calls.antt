@@ -6,16 +6,17 @@ use Rattle.sp_outside.specs.Counts.{Rose}
 use Rattle.sp_outside.specs.Visible.{Grows}
 use Rattle.sp_words.specs.Words.{command_of}
 use Rattle.sp_words.specs.declared.command.Command.{Command}
-use Rattle.superpascal.specs.declared.requests.RunRequest.{RunRequest}
-use Rattle.superpascal.specs.declared.requests.ExecRequest.{ExecRequest}
-use Rattle.superpascal.specs.declared.requests.ReplayRequest.{ReplayRequest}
+use Rattle.sp_words.specs.declared.requests.RunRequest.{RunRequest}
+use Rattle.sp_words.specs.declared.requests.ExecRequest.{ExecRequest}
+use Rattle.sp_words.specs.declared.requests.ReplayRequest.{ReplayRequest}
+use Rattle.sp_words.specs.declared.command.Command.TheVariants as command
 use Rattle.superpascal.specs.declared.ending.Answer.{Answer}
 use Rattle.superpascal.specs.declared.ending.Ending.{Ending}
 use Rattle.superpascal.specs.declared.outcome.Outcome.{Outcome}
 use Rattle.superpascal.specs.Answers.{has_output, line_of, notes_of, output_of, status_of}
 use Rattle.superpascal.specs.Causes.{Cause, Files, Stream}
 use Rattle.superpascal.specs.Runs.{Reports}
-use Rattle.superpascal.specs.Texts.{command_of_run, command_of_execution, command_of_replay, text_of}
+use Rattle.superpascal.specs.Texts.{text_of}
 
 -- what a sink has got, where it tells it, before and after the call, and its counts of faults
 pub record Sink : Type 0 where
@@ -61,7 +62,7 @@ call w f s r o n x = record { words = w; files = f; source = s; reports = r; out
 
 -- of the run that the words ask for, and its text, where the library tells it
 abbrev pub OfRun : Call → (RunRequest → List ℕ → Type 0) → Type 0
-OfRun c P = (a : RunRequest) (text : List ℕ) → command_of c.words ≡ Some (command_of_run a)
+OfRun c P = (a : RunRequest) (text : List ℕ) → command_of c.words ≡ Some (command.Run a)
     → c.files.held a.file ≡ Some text
     → P a text
 
@@ -71,7 +72,7 @@ OfInput c P = OfRun c (λ a text. (input : List ℕ) → c.source.left ≡ Some 
 
 -- of the journal that the words ask to follow, the bytes of its text and its own, where the library tells both
 abbrev pub OfReplay : Call → (ReplayRequest → List ℕ → List ℕ → Type 0) → Type 0
-OfReplay c P = (b : ReplayRequest) (text bytes : List ℕ) → command_of c.words ≡ Some (command_of_replay b)
+OfReplay c P = (b : ReplayRequest) (text bytes : List ℕ) → command_of c.words ≡ Some (command.Replay b)
     → c.files.held b.file ≡ Some text → c.files.held b.journal ≡ Some bytes → P b text bytes
 
 -- the same with the input, where the source tells it
@@ -80,7 +81,7 @@ OfReplayInput c P = OfReplay c (λ b text bytes. (input : List ℕ) → c.source
 
 -- of the execution that the words ask for, and the bytes of its code file, where the library tells them
 abbrev pub OfExecution : Call → (ExecRequest → List ℕ → Type 0) → Type 0
-OfExecution c P = (b : ExecRequest) (bytes : List ℕ) → command_of c.words ≡ Some (command_of_execution b)
+OfExecution c P = (b : ExecRequest) (bytes : List ℕ) → command_of c.words ≡ Some (command.Exec b)
     → c.files.held b.file ≡ Some bytes → P b bytes
 
 -- the same with the input, where the source tells it

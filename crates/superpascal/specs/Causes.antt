@@ -21,9 +21,9 @@ use Rattle.sp_verify_rules.specs.Verdict.{IsRejected}
 use Rattle.sp_words.specs.Ranges.{default_limits}
 use Rattle.sp_words.specs.declared.command.Command.{Command}
 use Rattle.sp_words.specs.declared.command.Command.TheVariants as command
-use Rattle.superpascal.specs.declared.requests.RunRequest.{RunRequest}
-use Rattle.superpascal.specs.declared.requests.ExecRequest.{ExecRequest}
-use Rattle.superpascal.specs.declared.requests.ReplayRequest.{ReplayRequest}
+use Rattle.sp_words.specs.declared.requests.RunRequest.{RunRequest}
+use Rattle.sp_words.specs.declared.requests.ExecRequest.{ExecRequest}
+use Rattle.sp_words.specs.declared.requests.ReplayRequest.{ReplayRequest}
 use Rattle.superpascal.specs.declared.ending.Ending.{Ending}
 use Rattle.superpascal.specs.declared.ending.Ending.TheVariants as e
 use Rattle.superpascal.specs.declared.ending.Answer.{Answer}
@@ -31,7 +31,7 @@ use Rattle.superpascal.specs.Executions.{IsExecutionOf, execution_answer}
 use Rattle.superpascal.specs.Replays.{IsJournalOf, IsReplayOf, IsUnfitFor, IsWritten, numbered_answer, replay_answer}
 use Rattle.superpascal.specs.Runs.{IsRunOf, Reports, generated_answer, run_answer}
 use Rattle.superpascal.specs.Texts.{FirstBrokenFor, CanRead, HasLongCode, IsAcceptedText, LoadsText, Makes}
-use Rattle.superpascal.specs.Texts.{command_of_run, asks_build, command_of_execution, command_of_replay, text_of}
+use Rattle.superpascal.specs.Texts.{asks_build, text_of}
 
 -- ---- the outside
 
@@ -225,7 +225,7 @@ pub record IsRejectedCode (f : Files) (asked : ExecRequest) (v : VRule) (i : ℕ
 
 -- Why an answer to a command is due.
 pub data Due (f : Files) (s : Stream) (reports : Reports) (c : Command) (a : Answer) : Type 0 where
-  by_run : (asked : RunRequest) → c ≡ command_of_run asked → HasRun f s reports asked a → Due f s reports c a
+  by_run : (asked : RunRequest) → c ≡ command.Run asked → HasRun f s reports asked a → Due f s reports c a
   by_generated : (size workers : ℕ) → c ≡ command.Gen size workers → HasGenerated size workers a → Due f s reports c a
   by_text : HasMadeOutput f c a → Due f s reports c a
   by_code : IsLongCode f c a → Due f s reports c a
@@ -233,16 +233,16 @@ pub data Due (f : Files) (s : Stream) (reports : Reports) (c : Command) (a : Ans
   by_library : IsNotLoaded f c a → Due f s reports c a
   by_source : IsNotRead f s c a → Due f s reports c a
   by_length : IsLongInput f s c a → Due f s reports c a
-  by_replay : (asked : ReplayRequest) → c ≡ command_of_replay asked → HasReplayed f s asked a → Due f s reports c a
-  by_entry : (asked : ReplayRequest) (n : ℕ) → c ≡ command_of_replay asked → IsUnfit f s asked n a → Due f s reports c a
-  by_line : (asked : ReplayRequest) (n : ℕ) → c ≡ command_of_replay asked → IsBadJournal f asked n a
+  by_replay : (asked : ReplayRequest) → c ≡ command.Replay asked → HasReplayed f s asked a → Due f s reports c a
+  by_entry : (asked : ReplayRequest) (n : ℕ) → c ≡ command.Replay asked → IsUnfit f s asked n a → Due f s reports c a
+  by_line : (asked : ReplayRequest) (n : ℕ) → c ≡ command.Replay asked → IsBadJournal f asked n a
       → Due f s reports c a
-  by_size : (asked : ReplayRequest) → c ≡ command_of_replay asked → IsLongJournal f asked a → Due f s reports c a
-  by_execution : (asked : ExecRequest) → c ≡ command_of_execution asked → HasExecuted f s asked a → Due f s reports c a
-  by_long_file : (asked : ExecRequest) → c ≡ command_of_execution asked → IsLongFile f asked a → Due f s reports c a
-  by_code_line : (asked : ExecRequest) (n : ℕ) → c ≡ command_of_execution asked → IsBadCode f asked n a
+  by_size : (asked : ReplayRequest) → c ≡ command.Replay asked → IsLongJournal f asked a → Due f s reports c a
+  by_execution : (asked : ExecRequest) → c ≡ command.Exec asked → HasExecuted f s asked a → Due f s reports c a
+  by_long_file : (asked : ExecRequest) → c ≡ command.Exec asked → IsLongFile f asked a → Due f s reports c a
+  by_code_line : (asked : ExecRequest) (n : ℕ) → c ≡ command.Exec asked → IsBadCode f asked n a
       → Due f s reports c a
-  by_rejection : (asked : ExecRequest) (v : VRule) (i : ℕ) → c ≡ command_of_execution asked
+  by_rejection : (asked : ExecRequest) (v : VRule) (i : ℕ) → c ≡ command.Exec asked
       → IsRejectedCode f asked v i a
       → Due f s reports c a
   by_memory : a ≡ answer_without_output e.OutOfMemory → Due f s reports c a

@@ -16,14 +16,15 @@ use Rattle.sp_print.specs.OutcomeLines.{end_text}
 use Rattle.sp_verify_rules.specs.Verdict.{IsRejected}
 use Rattle.sp_tree.specs.Plain.{Program}
 use Rattle.sp_words.specs.Words.{command_of}
-use Rattle.superpascal.specs.declared.requests.ExecRequest.{ExecRequest}
+use Rattle.sp_words.specs.declared.requests.ExecRequest.{ExecRequest}
+use Rattle.sp_words.specs.declared.command.Command.TheVariants as command
 use Rattle.superpascal.specs.declared.ending.Ending.TheVariants as e
 use Rattle.superpascal.specs.Answers.{status_of}
 use Rattle.superpascal.specs.Calls.{Call, IsAnswered, IsFinal, IsOutside, OfExecution, OfExecutionInput, SaysEnding}
 use Rattle.superpascal.specs.Causes.{IsKnownAs, IsTooLong}
 use Rattle.superpascal.specs.Executions.{IsExecutionOf}
 use Rattle.superpascal.specs.Runs.{ending_of}
-use Rattle.superpascal.specs.Texts.{IsCodeFile, IsSoundFile, command_of_execution}
+use Rattle.superpascal.specs.Texts.{IsCodeFile, IsSoundFile}
 use Rattle.superpascal.specs.WrittenParts.{AreWritten}
 
 -- the bytes are more than are loaded, or the text of no code, or that of code which breaks a rule
@@ -36,7 +37,7 @@ IsFaultyFile bytes =
 -- the run that is given back is one of the code file and the input that the words ask for, of which nothing is left
 abbrev pub IsExecutionOfWords : Call → Closed → Type 0
 IsExecutionOfWords c r =
-    (b : ExecRequest) × (command_of c.words ≡ Some (command_of_execution b)) × IsAtEnd c.source.left'
+    (b : ExecRequest) × (command_of c.words ≡ Some (command.Exec b)) × IsAtEnd c.source.left'
     × (bytes input : List ℕ) × IsKnownAs (c.files.held b.file) bytes × IsKnownAs c.source.left input
     × IsExecutionOf bytes input b.limits r
 
@@ -47,7 +48,7 @@ IsMeantHere b text input r = (p : Program) × IsProgramOf text p × IsAbout (run
 pub record Executing (c : Call) : Type 0 where
   -- a run is given back of `exec` alone, and wherever the status that was due, also one that a failed write displaced,
   -- is 0, 3 or 4
-  pub given : (b : ExecRequest) → command_of c.words ≡ Some (command_of_execution b) → (a : IsAnswered c)
+  pub given : (b : ExecRequest) → command_of c.words ≡ Some (command.Exec b) → (a : IsAnswered c)
       → IsFinal (status_of a.answer.ending) → (r : Closed) × (c.outcome.executed ≡ Some r)
   pub runs : (r : Closed) → c.outcome.executed ≡ Some r → IsExecutionOfWords c r
   -- that status is the one of its end
@@ -75,7 +76,7 @@ pub record Executing (c : Call) : Type 0 where
   -- a file that is too long is not read
   pub long : OfExecution c (λ b bytes. 67108864 < length bytes → SaysEnding c e.LongFile)
   -- 10: the file is at fault
-  pub only : (b : ExecRequest) → command_of c.words ≡ Some (command_of_execution b) → c.outcome.status ≡ 10
+  pub only : (b : ExecRequest) → command_of c.words ≡ Some (command.Exec b) → c.outcome.status ≡ 10
       → IfSome (c.files.held b.file) IsFaultyFile
   -- 1: no rule of texts is broken; 7: the input of a file that is run is too long; 8: no run is given back
   pub no_refusal : OfExecution c (λ b bytes. c.outcome.status ≡ 1 → ⊥)

@@ -14,13 +14,13 @@ use Rattle.sp_execute.specs.declared.execution.Ran.{Ran}
 use Rattle.sp_execute.specs.Runs.{Executes, run_input}
 use Rattle.sp_front.specs.Checks.{IsProgramOf}
 use Rattle.sp_tree.specs.Plain.{Program}
-use Rattle.superpascal.specs.declared.requests.RunRequest.{RunRequest}
+use Rattle.sp_words.specs.declared.requests.RunRequest.{RunRequest}
 use Rattle.superpascal.specs.declared.ending.Ending.TheVariants as e
 use Rattle.superpascal.specs.Answers.{status_of}
 use Rattle.superpascal.specs.Calls.{WroteAll, Call, OfInput, OfRun, WrotePart, SaysEnding}
 use Rattle.superpascal.specs.Runs.{ending_of, told_output}
 use Rattle.superpascal.specs.Texts.{FirstBroken, IsDisjointText}
-use Rattle.superpascal.specs.declared.telling.Telling.{Telling}
+use Rattle.sp_words.specs.declared.requests.Telling.{Telling}
 
 -- the status tells the end of the run, and its output, or its witness, was written; with status 6 a first part of it
 pub record Prints (c : Call) (telling : Telling) (r : Ran) : Type 0 where

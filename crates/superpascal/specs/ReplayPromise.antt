@@ -13,14 +13,15 @@ use Rattle.sp_outside.specs.Visible.{IsAtEnd}
 use Rattle.sp_replay.specs.declared.replayer.Replayed.{Replayed}
 use Rattle.sp_tree.specs.Plain.{Program}
 use Rattle.sp_words.specs.Words.{command_of}
-use Rattle.sp_words.specs.declared.command.View.TheVariants as view
-use Rattle.superpascal.specs.declared.requests.ReplayRequest.{ReplayRequest}
+use Rattle.sp_words.specs.declared.requests.View.TheVariants as view
+use Rattle.sp_words.specs.declared.requests.ReplayRequest.{ReplayRequest}
+use Rattle.sp_words.specs.declared.command.Command.TheVariants as command
 use Rattle.superpascal.specs.declared.ending.Ending.TheVariants as e
 use Rattle.superpascal.specs.Answers.{status_of}
 use Rattle.superpascal.specs.Calls.{WroteAll, Call, IsFinal, IsOutside, OfReplay, OfReplayInput, SaysEnding}
 use Rattle.superpascal.specs.Causes.{HasRead}
 use Rattle.superpascal.specs.Replays.{IsJournalOf, IsUnfitFor, ending_of_replay, replay_notes}
-use Rattle.superpascal.specs.Texts.{IsAcceptedText, command_of_replay}
+use Rattle.superpascal.specs.Texts.{IsAcceptedText}
 
 -- the status tells the end, the notes and the output of `replay` were written, and nothing is left of the input
 pub record PrintsReplay (c : Call) (b : ReplayRequest) (r : Replayed) : Type 0 where
@@ -61,7 +62,7 @@ pub record Following (c : Call) : Type 0 where
   -- a journal that is too long is not read
   pub long : OfReplay c (λ b text bytes. IsAcceptedText text → 67108864 < length bytes → SaysEnding c e.LongJournal)
   -- 9: the text breaks no rule, and no journal is read, or all was read and an entry does not fit
-  pub only : c.outcome.status ≡ 9 → (b : ReplayRequest) × (command_of c.words ≡ Some (command_of_replay b))
+  pub only : c.outcome.status ≡ 9 → (b : ReplayRequest) × (command_of c.words ≡ Some (command.Replay b))
       × IfSome (c.files.held b.file) IsAcceptedText
       × (IfSome (c.files.held b.journal) IsNoJournal
       ⊎ ((h : HasRead c.files c.source b) × (n : ℕ) × IsUnfitFor h.text h.input b.limits h.journal n))

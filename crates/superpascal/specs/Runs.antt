@@ -23,8 +23,8 @@ use Rattle.sp_tree.specs.PlainChecked as c
 use Rattle.superpascal.specs.declared.ending.Ending.{Ending}
 use Rattle.superpascal.specs.declared.ending.Ending.TheVariants as e
 use Rattle.superpascal.specs.declared.ending.Answer.{Answer}
-use Rattle.superpascal.specs.declared.telling.Telling.{Telling}
-use Rattle.superpascal.specs.declared.telling.Telling.TheVariants as told
+use Rattle.sp_words.specs.declared.requests.Telling.{Telling}
+use Rattle.sp_words.specs.declared.requests.Telling.TheVariants as told
 use Rattle.superpascal.specs.Answers.{answer_of}
 
 -- the text has this tree, which breaks no rule, and its code is no longer than code may be

@@ -11,7 +11,7 @@ use Rattle.sp_words.specs.Ranges.{default_limits}
 use Rattle.sp_words.specs.Words.{command_of}
 use Rattle.sp_words.specs.declared.command.Command.{Command}
 use Rattle.sp_words.specs.declared.command.Command.TheVariants as command
-use Rattle.superpascal.specs.declared.requests.RunRequest.{RunRequest}
+use Rattle.sp_words.specs.declared.requests.RunRequest.{RunRequest}
 use Rattle.superpascal.specs.declared.ending.Ending.TheVariants as e
 use Rattle.superpascal.specs.Answers.{status_of}
 use Rattle.superpascal.specs.Calls.{Call, Exactly, Failed, IsFinal, IsOutside, IsUnwritten, OfReplay, OfRun, OfText}
@@ -20,7 +20,7 @@ use Rattle.superpascal.specs.Causes.{IsKnownAs, IsTooLong, IsUntouched}
 use Rattle.superpascal.specs.Runs.{IsRunOf, ending_of}
 use Rattle.superpascal.specs.Texts.{FirstBrokenFor, CanRead, HasLongCode, IsDisjointText, IsJournalText, AcceptedFor}
 use Rattle.superpascal.specs.Texts.{IsAcceptedText}
-use Rattle.superpascal.specs.Texts.{LoadsText, Makes, command_of_run, asks_all, asks_build, asks_execution, asks_replay}
+use Rattle.superpascal.specs.Texts.{LoadsText, Makes, asks_all, asks_build, asks_execution, asks_replay}
 use Rattle.superpascal.specs.Texts.{asks_run}
 use Rattle.superpascal.specs.Texts.{asks_text, text_of}
 
@@ -39,7 +39,7 @@ InputIsTooLong c = (d : Command) × (command_of c.words ≡ Some d) × CanRead c
 -- generated text
 abbrev pub IsRunOfWords : Call → Ran → Type 0
 IsRunOfWords c r =
-    ((a : RunRequest) × (command_of c.words ≡ Some (command_of_run a)) × IsAtEnd c.source.left'
+    ((a : RunRequest) × (command_of c.words ≡ Some (command.Run a)) × IsAtEnd c.source.left'
     × (text input : List ℕ) × IsKnownAs (c.files.held a.file) text × IsKnownAs c.source.left input
     × IsRunOf text input a.workers a.limits r)
     ⊎ ((size workers : ℕ) × (command_of c.words ≡ Some (command.Gen size workers))

@@ -39,8 +39,8 @@ use Rattle.sp_tree.specs.PlainChecked as c
 use Rattle.sp_tree.specs.PlainSyntax.{Program as Syntax}
 use Rattle.sp_where.specs.declared.symbols.Symbols.{Symbols}
 use Rattle.sp_words.specs.declared.command.Command.{Command}
-use Rattle.sp_words.specs.declared.command.View.{View}
-use Rattle.sp_words.specs.declared.command.View.TheVariants as view
+use Rattle.sp_words.specs.declared.requests.View.{View}
+use Rattle.sp_words.specs.declared.requests.View.TheVariants as view
 use Rattle.superpascal.specs.declared.ending.Ending.{Ending}
 use Rattle.superpascal.specs.declared.ending.Ending.TheVariants as e
 use Rattle.superpascal.specs.declared.ending.Answer.{Answer}
@@ -48,7 +48,7 @@ use Rattle.superpascal.specs.declared.teller.Account.{Account}
 use Rattle.superpascal.specs.declared.teller.Ready.{Ready}
 use Rattle.superpascal.specs.declared.teller.Teller.{Teller}
 use Rattle.superpascal.specs.declared.teller.Teller.TheVariants as teller
-use Rattle.superpascal.specs.declared.telling.Telling.{Telling}
+use Rattle.sp_words.specs.declared.requests.Telling.{Telling}
 use Rattle.superpascal.specs.AnswerParts.{HasCode, ending_answer}
 use Rattle.superpascal.specs.Causes.{Cause, Due, Files, HasMadeOutput, IsLongCode, IsNotLoaded, IsRefusedFor, IsKnownAs}
 use Rattle.superpascal.specs.Causes.{IsTooLong, ReadsAfterRules, Stream, answer_without_output}

@@ -1,11 +1,10 @@
--- Some of this belongs to what the program promises (docs/promise.txt).
+-- All of this belongs to what the program promises (docs/promise.txt).
 -- What each command finds in a text: the first rule for which it refuses the text (`FirstBrokenFor`), or none
 -- (`AcceptedFor`), or what it makes of it (`Makes`). The contracts of `texts` promise it, and the causes, the headline
 -- and the writing cite it.
 use Rattle.std.specs.Prelude.{◌≡◌, ◌⊎◌, ℕ, ◌<◌, ◌≤◌, List, [], Option, Some, None, IfSome, codes, length}
 use Rattle.std.specs.Prelude.{option_and_then}
 use Rattle.sp_base.specs.declared.halt.Refusal.{Refusal}
-use Rattle.sp_base.specs.declared.limits.Limits.{Limits}
 use Rattle.sp_code.specs.Lengths.{tree_length}
 use Rattle.sp_code.specs.declared.code.Parts.{Parts}
 use Rattle.sp_codefile.specs.CodeText.{IsTextOf}
@@ -27,11 +26,6 @@ use Rattle.sp_varsets.specs.AreSets.{AreSets}
 use Rattle.sp_varsets.specs.declared.sets.Sets.{Sets}
 use Rattle.sp_words.specs.declared.command.Command.{Command}
 use Rattle.sp_words.specs.declared.command.Command.TheVariants as command
-use Rattle.superpascal.specs.declared.requests.RunRequest.{RunRequest}
-use Rattle.superpascal.specs.declared.requests.ExecRequest.{ExecRequest}
-use Rattle.superpascal.specs.declared.requests.ReplayRequest.{ReplayRequest}
-use Rattle.superpascal.specs.declared.telling.Telling.{Telling}
-use Rattle.superpascal.specs.declared.telling.Telling.TheVariants as told
 
 -- the text has a tree that breaks no rule of the phases, and its code is no longer than code may be
 abbrev pub IsAcceptedText : List ℕ → Type 0
@@ -79,37 +73,17 @@ IsSoundFile bytes = (code : Parts) × IsFileOf code bytes
 abbrev pub IsDisjointText : List ℕ → Type 0
 IsDisjointText text = (p : m.Program) → IsProgramOf text p → (g : RunInput) → g.program ≡ p → IsDisjointRun g
 
--- the run that words ask for, and how it is told, by its parts
-abbrev pub asked_run : List ℕ → ℕ → Limits → Telling → RunRequest
-asked_run file workers limits telling =
-    record { file = file; workers = workers; limits = limits; telling = telling }
-
--- the command for a run that is told so
-abbrev pub command_for_run : Telling → List ℕ → ℕ → Limits → Command
-command_for_run (told.Reports show) file workers limits = command.Run file workers limits show
-command_for_run told.Witness file workers limits = command.Witness file workers limits
-
-abbrev pub command_of_run : RunRequest → Command
-command_of_run a = command_for_run a.telling a.file a.workers a.limits
-
-abbrev pub command_of_replay : ReplayRequest → Command
-command_of_replay b = command.Replay b.file b.journal b.limits b.view
-
-abbrev pub command_of_execution : ExecRequest → Command
-command_of_execution b = command.Exec b.file b.workers b.limits
-
 -- the file that a command loads first: its text, or its code file
 abbrev pub file_of : Command → Option (List ℕ)
 file_of (command.Check file) = Some file
-file_of (command.Run file workers limits show) = Some file
+file_of (command.Run asked) = Some asked.file
 file_of (command.Code file) = Some file
 file_of (command.Sets file) = Some file
 file_of (command.Format file) = Some file
-file_of (command.Witness file workers limits) = Some file
 file_of (command.Gen size workers) = None
-file_of (command.Replay file journal limits view) = Some file
+file_of (command.Replay asked) = Some asked.file
 file_of (command.Build file) = Some file
-file_of (command.Exec file workers limits) = Some file
+file_of (command.Exec asked) = Some asked.file
 
 -- what that file holds, where the library tells it, or the text that the command makes itself
 abbrev pub text_of : (List ℕ → Option (List ℕ)) → Command → Option (List ℕ)
@@ -118,7 +92,7 @@ text_of held c = option_and_then held (file_of c)
 
 -- the command follows the journal under this name
 abbrev pub FollowsUnder : Command → List ℕ → Type 0
-FollowsUnder (command.Replay file journal limits view) name = journal ≡ name
+FollowsUnder (command.Replay asked) name = asked.journal ≡ name
 FollowsUnder _ _ = ⊥
 
 -- the command loads what is held under this name: its file, or its journal, where its text breaks no rule
@@ -130,35 +104,33 @@ LoadsText held c name = (file_of c ≡ Some name) ⊎ (FollowsUnder c name × If
 abbrev pub FirstBrokenFor : Command → List ℕ → Refusal → Type 0
 FirstBrokenFor (command.Sets file) text r = FirstBrokenUpToTypes text r
 FirstBrokenFor (command.Format file) text r = HasNoLayout text r
-FirstBrokenFor (command.Exec file workers limits) text r = ⊥
+FirstBrokenFor (command.Exec asked) text r = ⊥
 FirstBrokenFor _ text r = FirstBroken text r
 
 -- the command refuses the text for no rule, and a code file neither
 abbrev pub AcceptedFor : Command → List ℕ → Type 0
 AcceptedFor (command.Sets file) text = IsAnalysed text
 AcceptedFor (command.Format file) text = (out : List ℕ) × HasLayout text out
-AcceptedFor (command.Exec file workers limits) text = IsSoundFile text
+AcceptedFor (command.Exec asked) text = IsSoundFile text
 AcceptedFor _ text = IsAcceptedText text
 
 -- the commands that answer from the text alone
 abbrev pub asks_text : Command → Type 0
-asks_text (command.Run file workers limits show) = ⊥
-asks_text (command.Witness file workers limits) = ⊥
+asks_text (command.Run asked) = ⊥
 asks_text (command.Gen size workers) = ⊥
-asks_text (command.Replay file journal limits view) = ⊥
-asks_text (command.Exec file workers limits) = ⊥
+asks_text (command.Replay asked) = ⊥
+asks_text (command.Exec asked) = ⊥
 asks_text _ = Unit {0}
 
 -- the commands that run a program with workers
 abbrev pub asks_run : Command → Type 0
-asks_run (command.Run file workers limits show) = Unit {0}
-asks_run (command.Witness file workers limits) = Unit {0}
+asks_run (command.Run asked) = Unit {0}
 asks_run (command.Gen size workers) = Unit {0}
 asks_run _ = ⊥
 
 -- the commands that follow a journal
 abbrev pub asks_replay : Command → Type 0
-asks_replay (command.Replay file journal limits view) = Unit {0}
+asks_replay (command.Replay asked) = Unit {0}
 asks_replay _ = ⊥
 
 -- the command that writes a code file
@@ -168,7 +140,7 @@ asks_build _ = ⊥
 
 -- the command that runs a code file
 abbrev pub asks_execution : Command → Type 0
-asks_execution (command.Exec file workers limits) = Unit {0}
+asks_execution (command.Exec asked) = Unit {0}
 asks_execution _ = ⊥
 
 -- these bytes are the text of a journal, and no more than are loaded
@@ -177,11 +149,10 @@ IsJournalText bytes = IsText bytes × (length bytes ≤ 67108864)
 
 -- the command reads the input, where what it loads before is right
 abbrev pub CanRead : (List ℕ → Option (List ℕ)) → Command → Type 0
-CanRead held (command.Run file workers limits show) = IfSome (held file) IsAcceptedText
-CanRead held (command.Witness file workers limits) = IfSome (held file) IsAcceptedText
-CanRead held (command.Replay file journal limits view) = IfSome (held file) IsAcceptedText
-    × IfSome (held journal) IsJournalText
-CanRead held (command.Exec file workers limits) = IfSome (held file) IsSoundFile
+CanRead held (command.Run asked) = IfSome (held asked.file) IsAcceptedText
+CanRead held (command.Replay asked) = IfSome (held asked.file) IsAcceptedText
+    × IfSome (held asked.journal) IsJournalText
+CanRead held (command.Exec asked) = IfSome (held asked.file) IsSoundFile
 CanRead _ _ = ⊥
 
 -- what the command makes of the text alone, for the output and for the notes
@@ -197,5 +168,5 @@ Makes _ _ _ _ = ⊥
 abbrev pub asks_all : Command → Type 0
 asks_all (command.Sets file) = ⊥
 asks_all (command.Format file) = ⊥
-asks_all (command.Exec file workers limits) = ⊥
+asks_all (command.Exec asked) = ⊥
 asks_all _ = Unit {0}

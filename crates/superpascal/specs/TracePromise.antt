@@ -6,7 +6,7 @@
 -- calls and its variables; one that waits or joins has the place of a statement that does so.
 use Rattle.std.specs.Prelude.{◌≡◌, ℕ, List}
 use Rattle.sp_journal.specs.declared.entry.Journal.{Journal}
-use Rattle.sp_words.specs.declared.command.View.TheVariants as view
+use Rattle.sp_words.specs.declared.requests.View.TheVariants as view
 use Rattle.superpascal.specs.Calls.{WroteAll, Call, IsFinal, OfReplayInput}
 use Rattle.superpascal.specs.Replays.{IsJournalOf}
 use Rattle.superpascal.specs.Traces.{IsStateOf, IsTraceOf}

@@ -7,7 +7,7 @@ use Rattle.sp_execute.specs.Runs.{run_input}
 use Rattle.sp_execute.specs.Witnesses.{ShowsRace}
 use Rattle.sp_front.specs.Checks.{IsProgramOf}
 use Rattle.sp_tree.specs.Plain.{Program}
-use Rattle.superpascal.specs.declared.requests.RunRequest.{RunRequest}
+use Rattle.sp_words.specs.declared.requests.RunRequest.{RunRequest}
 use Rattle.superpascal.specs.Calls.{Call, OfInput}
 
 -- the witness of the run's race, if it has one, shows it: along the witness the meaning of the program of the text is

@@ -5,12 +5,12 @@ use Rattle.std.specs.Prelude.{◌≡◌, ◌≢◌, ℕ, List, [], Some, false}
 use Rattle.sp_execute.specs.declared.execution.Ran.{Ran}
 use Rattle.sp_words.specs.Words.{command_of}
 use Rattle.sp_words.specs.declared.command.Command.TheVariants as command
-use Rattle.superpascal.specs.declared.requests.RunRequest.{RunRequest}
+use Rattle.sp_words.specs.declared.requests.RunRequest.{RunRequest}
 use Rattle.superpascal.specs.declared.ending.Ending.{Ending}
 use Rattle.superpascal.specs.Answers.{has_output, line_of, status_of}
 use Rattle.superpascal.specs.Calls.{WroteAll, Call, IsUnwritten, OfText, WrotePart}
 use Rattle.superpascal.specs.Runs.{generated_output, told_notes, told_output}
-use Rattle.superpascal.specs.Texts.{Makes, command_of_run}
+use Rattle.superpascal.specs.Texts.{Makes}
 
 -- the output and the notes were written whole; with status 6 a first part of each
 pub record AreWritten (c : Call) (output notes : List ℕ) : Type 0 where
@@ -29,7 +29,7 @@ pub record Writing (c : Call) : Type 0 where
       → WroteAll c.output out
       × WroteAll c.notes line)
   -- the output of a run, or the witness of its race; and its end, verdict and reports, or its journal
-  pub ran : (a : RunRequest) → command_of c.words ≡ Some (command_of_run a) → (r : Ran) → c.outcome.ran ≡ Some r
+  pub ran : (a : RunRequest) → command_of c.words ≡ Some (command.Run a) → (r : Ran) → c.outcome.ran ≡ Some r
       → AreWritten c (told_output a.telling r) (told_notes c.reports a.telling r)
   -- those of `gen`
   pub generated : (size workers : ℕ) → command_of c.words ≡ Some (command.Gen size workers) → (r : Ran)

@@ -3,17 +3,17 @@
 ghost use Rattle.std.specs.Prelude.{List, ℕ, IfOk};
 ghost use Rattle.sp_print.specs.OutcomeLines.{HasLines};
 ghost use Rattle.sp_words.specs.Ranges.{IsInRange};
+ghost use Rattle.sp_words.specs.declared.command.Command.TheVariants.{Exec};
 ghost use Rattle.superpascal.specs.Causes.{files_of, stream_of};
 ghost use Rattle.superpascal.specs.Executions.{IsExecutionOf};
 ghost use Rattle.superpascal.specs.Runs.{Reports};
 ghost use Rattle.superpascal.specs.Steps.{AnswersCommand, TellsExecution};
-ghost use Rattle.superpascal.specs.Texts.{IsFileOf, command_of_execution};
+ghost use Rattle.superpascal.specs.Texts.{IsFileOf};
 
 use crate::ending::{Answer, Ending};
 use crate::host::Host;
 use crate::notes::ending_of;
 use crate::prepare::{prepare_file, read_input};
-use crate::requests::ExecRequest;
 use sp_base::{Limits, Memory, Text};
 use sp_code::Code;
 use sp_codefile::laws::a_text_is_of_one_code;
@@ -22,6 +22,7 @@ use sp_kernel::Closed;
 use sp_outside::{Gate, Library, Source};
 use sp_print::end_lines;
 use sp_verify_rules::laws::verified_code_is_sound;
+use sp_words::ExecRequest;
 use std::alloc::Global;
 use std::sync::{Arc, Wait};
 use std::thread::Threads;
@@ -75,7 +76,7 @@ pub(crate) fn exec_file<R: Threads + Wait + Sync, L: Library, I: Source, G: Gate
     ensures { (reports : Reports)
         → AnswersCommand (files_of L.held L.faults library.old library.new)
         (stream_of I.left I.faults input.old input.new) reports
-        (command_of_execution asked.now) result }
+        (Exec asked.now) result }
 {
     let code = prepare_file(host.alloc, library, &asked.file)?;
     let input = read_input(host.alloc, input)?;

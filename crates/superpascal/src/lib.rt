@@ -17,15 +17,15 @@
 //!   `sp_kernel`.
 //!
 //! To know:
-//! - `src/top.rt` is the call: the words, the command that they ask for (`src/requests.rt`), its answer, and the
+//! - `src/top.rt` is the call: the words, the command that they ask for (`Command` of `sp_words`), its answer, and the
 //!   writing.
 //! - A command is a row of steps, each on a line of its own with `?`, as `run` there: load and compilation (`prepare`),
 //!   input, run with verdict, texts. A step gives what the next needs, or the `Ending` of the call. The steps that
 //!   commands share are `src/prepare.rt`.
 //! - `src/texts.rt` has the commands that answer from the text alone, `src/runs.rt` the run of a program, told as
-//!   `src/telling.rt` says, and `gen`, `src/replays.rt` the commands that follow a journal, with what they tell it by
-//!   (`src/teller.rt`), `src/executions.rt` the one that runs a code file. `src/notes.rt` is what is told of a run,
-//!   `src/answers.rt` makes the answer of an ending without a run.
+//!   `Telling` of `sp_words` says, and `gen`, `src/replays.rt` the commands that follow a journal, with what they tell
+//!   it by (`src/teller.rt`), `src/executions.rt` the one that runs a code file. `src/notes.rt` is what is told of a
+//!   run, `src/answers.rt` makes the answer of an ending without a run.
 //! - `src/ending.rt` is how a call ends (`Ending`) and what it has to write (`Answer`), `src/writer.rt` writes it,
 //!   `src/outcome.rt` is what is given back. `src/host.rt` is what the steps take of the system (`Host`).
 //! - The contract speaks of a call as `specs/Calls.antt` describes it (`Call`). What each step answers stands in
@@ -56,7 +56,7 @@
 //! - A status or a line: `Ending` in `src/ending.rt`, `specs/Answers.antt`, `own_line` of `specs/AnswerParts.antt` and
 //!   of `src/answers.rt`, its cause in `Due` of `specs/Causes.antt`, the step that it ends in `specs/Steps.antt`, its
 //!   clause in `specs/Statuses.antt`, `proofs/Why.antt`, `proofs/EndingFacts.antt` and `proofs/CallFacts.antt`.
-//! - A command: its variant in `sp_words`; what it asks for in `src/requests.rt`; `file_of`, `text_of`, `FollowsUnder`,
+//! - A command: its variant in `sp_words`, with what it asks for; `file_of`, `text_of`, `FollowsUnder`,
 //!   `FirstBrokenFor`, `AcceptedFor`, `asks_text`, `asks_run`, `asks_replay`, `asks_build`, `asks_execution`,
 //!   `CanRead`, `Makes` and `asks_all` of `specs/Texts.antt`; its function in `src/texts.rt`, `src/runs.rt`,
 //!   `src/replays.rt` or `src/executions.rt`, its arm in `src/top.rt`.
@@ -74,10 +74,8 @@ mod notes;
 mod outcome;
 mod prepare;
 mod replays;
-mod requests;
 mod runs;
 mod teller;
-mod telling;
 mod texts;
 mod top;
 mod writer;

@@ -4,19 +4,18 @@ ghost use Rattle.std.specs.Prelude.{ℕ, ◌≤◌, ◌≡◌, List};
 ghost use Rattle.sp_journal.specs.Births.{IsNameable};
 ghost use Rattle.sp_tree.specs.PlainChecked.{Program as Checked};
 ghost use Rattle.sp_words.specs.Ranges.{IsInRange};
-ghost use Rattle.sp_words.specs.declared.command.View.{View as AView};
-ghost use Rattle.sp_words.specs.declared.command.View.TheVariants as view;
+ghost use Rattle.sp_words.specs.declared.command.Command.TheVariants.{Replay};
+ghost use Rattle.sp_words.specs.declared.requests.View.{View as AView};
+ghost use Rattle.sp_words.specs.declared.requests.View.TheVariants as view;
 ghost use Rattle.superpascal.specs.AnswerParts.{HasCode, HasEndLines};
 ghost use Rattle.superpascal.specs.Causes.{files_of, stream_of};
 ghost use Rattle.superpascal.specs.Runs.{Reports};
 ghost use Rattle.superpascal.specs.Steps.{AccountsFor, AnswersCommand, GivesReady, GivesSymbols, HasSymbols, HasTeller};
 ghost use Rattle.superpascal.specs.Steps.{TellsReplay, TracesTo};
-ghost use Rattle.superpascal.specs.Texts.{command_of_replay};
 
 use crate::ending::{Answer, Ending};
 use crate::notes::{ending_of_replay, replay_notes};
 use crate::prepare::{prepare, prepare_journal, prepare_marked, read_input};
-use crate::requests::ReplayRequest;
 use crate::teller::{Account, Ready, Teller};
 use sp_base::{Limits, Text, Word};
 use sp_code::Code;
@@ -26,7 +25,7 @@ use sp_execute::{
 use sp_journal::Journal;
 use sp_outside::{Library, Source};
 use sp_where::{Symbols, trace_text, where_text};
-use sp_words::View;
+use sp_words::{ReplayRequest, View};
 use std::alloc::Global;
 use std::sync::Arc;
 use std::thread::Threads;
@@ -235,7 +234,7 @@ pub(crate) fn replay<L: Library, I: Source>(
     ensures { (reports : Reports)
         → AnswersCommand (files_of L.held L.faults library.old library.new)
         (stream_of I.left I.faults input.old input.new) reports
-        (command_of_replay asked.now) result }
+        (Replay asked.now) result }
 {
     let ready = ready(rt, alloc, library, asked)?;
     let journal = prepare_journal(alloc, library, &asked.journal)?;

@@ -5,11 +5,11 @@ ghost use Rattle.std.specs.String.{string_bytes};
 ghost use Rattle.sp_report.specs.WatcherReports.{AreFresh, reports};
 ghost use Rattle.sp_words.specs.Ranges.{IsInRange};
 ghost use Rattle.sp_words.specs.Words.{command_of};
+ghost use Rattle.sp_words.specs.declared.command.Command.TheVariants.{Run};
 ghost use Rattle.superpascal.specs.Calls.{call, sink_of};
 ghost use Rattle.superpascal.specs.Causes.{Cause, files_of, stream_of};
 ghost use Rattle.superpascal.specs.Promise.{Promise};
 ghost use Rattle.superpascal.specs.Steps.{AnswersCommand, AnswersWords, ReadsCommand};
-ghost use Rattle.superpascal.specs.Texts.{command_of_run};
 
 use crate::answers::ended;
 use crate::ending::{Answer, Ending};
@@ -18,9 +18,7 @@ use crate::host::Host;
 use crate::outcome::Outcome;
 use crate::prepare::{prepare, read_input};
 use crate::replays::replay;
-use crate::requests::{ExecRequest, ReplayRequest, RunRequest};
 use crate::runs::{run_generated, run_prepared, tell_run};
-use crate::telling::Telling;
 use crate::texts::{build, check, lay_out, list, one_code_text, tell_sets};
 use crate::writer::write;
 use sp_codefile::laws::a_text_is_of_one_code;
@@ -31,7 +29,7 @@ use sp_journal::one_journal_of_a_text;
 use sp_outside::{Gate, Library, Sink, Source};
 use sp_report::Watcher;
 use sp_sets::one_sets_text;
-use sp_words::{Command, WordsError, accepted_options_are_in_range, read_words};
+use sp_words::{Command, RunRequest, WordsError, accepted_options_are_in_range, read_words};
 use std::alloc::Global;
 use std::sync::Wait;
 use std::thread::Threads;
@@ -59,7 +57,7 @@ fn run<R: Threads + Wait + Sync, L: Library, I: Source, G: Gate>(
     requires range { IsInRange asked.now.workers asked.now.limits }
     ensures { AnswersCommand (files_of L.held L.faults library.old library.new)
         (stream_of I.left I.faults input.old input.new)
-        (reports text title watchers.items) (command_of_run asked.now) result }
+        (reports text title watchers.items) (Run asked.now) result }
 {
     let code = prepare(host.rt, host.alloc, library, &asked.file)?;
     let input = read_input(host.alloc, input)?;
@@ -88,62 +86,10 @@ fn dispatch<R: Threads + Wait + Sync, L: Library, I: Source, G: Gate>(
         Command::Build(file) => build(host.rt, host.alloc, library, &file),
         Command::Sets(file) => tell_sets(host.rt, host.alloc, library, &file),
         Command::Format(file) => lay_out(host.alloc, library, &file),
-        Command::Run {
-            file,
-            workers,
-            limits,
-            show,
-        } => {
-            let telling = Telling::Reports(show);
-            let asked = RunRequest {
-                file,
-                workers,
-                limits,
-                telling,
-            };
-            run(host, &asked, library, input, watchers)
-        }
-        Command::Witness {
-            file,
-            workers,
-            limits,
-        } => {
-            let telling = Telling::Witness;
-            let asked = RunRequest {
-                file,
-                workers,
-                limits,
-                telling,
-            };
-            run(host, &asked, library, input, watchers)
-        }
+        Command::Run(asked) => run(host, &asked, library, input, watchers),
         Command::Gen { size, workers } => run_generated(host, size, workers),
-        Command::Replay {
-            file,
-            journal,
-            limits,
-            view,
-        } => {
-            let asked = ReplayRequest {
-                file,
-                journal,
-                limits,
-                view,
-            };
-            replay(host.rt, host.alloc, &asked, library, input)
-        }
-        Command::Exec {
-            file,
-            workers,
-            limits,
-        } => {
-            let asked = ExecRequest {
-                file,
-                workers,
-                limits,
-            };
-            exec_file(host, &asked, library, input)
-        }
+        Command::Replay(asked) => replay(host.rt, host.alloc, &asked, library, input),
+        Command::Exec(asked) => exec_file(host, &asked, library, input),
     }
 }
 

@@ -1,7 +1,7 @@
 use Rattle.std.proofs.Common.{refl}
 use Rattle.std.proofs.lemmas.Result.{err_from_is_err_and}
+use Rattle.sp_words.specs.declared.command.Command.TheVariants as command
 use Rattle.superpascal.specs.Steps.{AnswersCommand}
-use Rattle.superpascal.specs.Texts.{command_of_execution}
 use Rattle.superpascal.proofs.ExecCauses.{execution_told, execution_unread, execution_unready, execution_wanting}
 use Rattle.superpascal.proofs.Parts.{at_exit}
 use Rattle.superpascal.proofs.Tellable.{execution_ends}
@@ -16,7 +16,7 @@ tell_execution-requires g c =
 
 pub returns-in_err-code : goal.returns-in_err-code
 returns-in_err-code g c = λ reports.
-    at_exit (AnswersCommand _ _ reports (command_of_execution c.args.asked.now)) c.from_residual.result _
+    at_exit (AnswersCommand _ _ reports (command.Exec c.args.asked.now)) c.from_residual.result _
     (err_from_is_err_and c.from_residual.result c.from_residual.ensures.1)
     (execution_unready _ _ reports c.args.asked.now (refl, refl) _ c.in_err-code.ensures)
 
@@ -24,7 +24,7 @@ pub returns-in_err-input : goal.returns-in_err-input
 returns-in_err-input g c = λ reports.
     let h = c.in_ok-code.ensures in
     let r = c.from_residual-in_err-input.result in
-    at_exit (AnswersCommand _ _ reports (command_of_execution c.args.asked.now)) r _
+    at_exit (AnswersCommand _ _ reports (command.Exec c.args.asked.now)) r _
     (err_from_is_err_and r c.from_residual-in_err-input.ensures.1)
     (execution_unread _ _ reports c.args.asked.now h.0 h.1 c.in_ok-code.code h.2 _ c.in_err-input.ensures)
 
@@ -32,7 +32,7 @@ pub returns-in_err-closed : goal.returns-in_err-closed
 returns-in_err-closed g c = λ reports.
     let h = c.in_ok-code.ensures in
     let r = c.from_residual-in_err-closed.result in
-    at_exit (AnswersCommand _ _ reports (command_of_execution c.args.asked.now)) r _
+    at_exit (AnswersCommand _ _ reports (command.Exec c.args.asked.now)) r _
     (err_from_is_err_and r c.from_residual-in_err-closed.ensures.1)
     (execution_wanting _ _ reports c.args.asked.now h.0 h.1 c.in_ok-code.code h.2 _ refl)
 

@@ -2,7 +2,7 @@ use Rattle.std.proofs.Common.{List, inr, refl, ◌∙◌, ap}
 use Rattle.std.proofs.lemmas.Result.{err_from_is_err_and}
 use Rattle.sp_lines.specs.declared.entry_place.Told.{Told}
 use Rattle.sp_where.specs.Traces.{trace_text}
-use Rattle.sp_words.specs.declared.command.View.TheVariants as view
+use Rattle.sp_words.specs.declared.requests.View.TheVariants as view
 use Rattle.superpascal.specs.Steps.{AccountsFor}
 use Rattle.superpascal.proofs.MarkFacts.{held_code, trace_is}
 use Rattle.superpascal.proofs.Parts.{at_exit}

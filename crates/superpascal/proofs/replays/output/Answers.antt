@@ -1,6 +1,6 @@
 use Rattle.std.proofs.Common.{inr, Ok, Err, refl}
 use Rattle.std.proofs.lemmas.Result.{err_from_is_err_and}
-use Rattle.sp_words.specs.declared.command.View.TheVariants as view
+use Rattle.sp_words.specs.declared.requests.View.TheVariants as view
 use Rattle.superpascal.specs.Steps.{AccountsFor}
 use Rattle.superpascal.proofs.Parts.{at_exit}
 use Rattle.superpascal.proofs.RunFacts.{follows_text, ready_held}

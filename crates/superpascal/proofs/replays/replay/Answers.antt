@@ -1,8 +1,8 @@
 use Rattle.std.proofs.Common.{Ok, Err, refl}
 use Rattle.std.proofs.lemmas.Result.{err_from_is_err_and}
+use Rattle.sp_words.specs.declared.command.Command.TheVariants as command
 use Rattle.superpascal.specs.Causes.{Files, files_of}
 use Rattle.superpascal.specs.Steps.{AnswersCommand}
-use Rattle.superpascal.specs.Texts.{command_of_replay}
 use Rattle.superpascal.proofs.Parts.{at_exit}
 use Rattle.superpascal.proofs.ReplayFacts.{account_ends, journal_under, replay_no_input, replay_told, replay_unfit}
 use Rattle.superpascal.proofs.ReplayFacts.{replay_unread, replay_unready}
@@ -26,7 +26,7 @@ tell_replay-requires g c =
 
 pub returns-in_err-ready : goal.returns-in_err-ready
 returns-in_err-ready g c = λ reports.
-    at_exit (AnswersCommand _ _ reports (command_of_replay c.args.asked.now)) c.from_residual.result _
+    at_exit (AnswersCommand _ _ reports (command.Replay c.args.asked.now)) c.from_residual.result _
     (err_from_is_err_and c.from_residual.result c.from_residual.ensures.1)
     (replay_unready _ _ reports c.args.asked.now (refl, refl) _ c.in_err-ready.ensures.ready)
 
@@ -38,7 +38,7 @@ returns-in_err-journal g c = λ reports.
     let after : Files = files_of g.L.Library.held g.L.Library.faults c.ready.new.library
     c.prepare_journal.new.library in
     let r = c.from_residual-in_err-journal.result in
-    at_exit (AnswersCommand _ _ reports (command_of_replay c.args.asked.now)) r _
+    at_exit (AnswersCommand _ _ reports (command.Replay c.args.asked.now)) r _
     (err_from_is_err_and r c.from_residual-in_err-journal.ensures.1)
     (replay_unread _ _ reports c.args.asked.now text known tree c.in_ok-ready.ready.code has_code (refl, refl) _
     (journal_under f after name (c.in_ok-ready.ensures.unchanged name) (c.in_ok-ready.ensures.counted name) refl (Err _)
@@ -54,7 +54,7 @@ returns-in_err-input g c = λ reports.
     let j = journal_under f after name (c.in_ok-ready.ensures.unchanged name) (c.in_ok-ready.ensures.counted name) refl
     (Ok c.in_ok-journal.journal) c.in_ok-journal.ensures in
     let r = c.from_residual-in_err-input.result in
-    at_exit (AnswersCommand _ _ reports (command_of_replay c.args.asked.now)) r _
+    at_exit (AnswersCommand _ _ reports (command.Replay c.args.asked.now)) r _
     (err_from_is_err_and r c.from_residual-in_err-input.ensures.1)
     (replay_no_input _ _ reports c.args.asked.now text known tree c.in_ok-ready.ready.code has_code j.0 j.1
     c.in_ok-journal.journal j.2 _ c.in_err-input.ensures)
@@ -69,7 +69,7 @@ returns-in_err-account g c = λ reports.
     let j = journal_under f after name (c.in_ok-ready.ensures.unchanged name) (c.in_ok-ready.ensures.counted name) refl
     (Ok c.in_ok-journal.journal) c.in_ok-journal.ensures in
     let r = c.from_residual-in_err-account.result in
-    at_exit (AnswersCommand _ _ reports (command_of_replay c.args.asked.now)) r _
+    at_exit (AnswersCommand _ _ reports (command.Replay c.args.asked.now)) r _
     (err_from_is_err_and r c.from_residual-in_err-account.ensures.1)
     (replay_unfit _ _ reports c.args.asked.now text known tree c.in_ok-ready.ready.code has_code j.0 j.1
     c.in_ok-journal.journal j.2 c.in_ok-input.input c.in_ok-input.ensures _

@@ -2,7 +2,7 @@ use Rattle.std.proofs.Common.{◌≡◌, inr, refl, sym, ◌∙◌, Ok, subst}
 use Rattle.std.proofs.lemmas.Result.{err_from_is_err_and}
 use Rattle.sp_code.specs.declared.code.Parts.{Parts}
 use Rattle.sp_code.specs.Sound.{HasDistinctBlocks}
-use Rattle.sp_words.specs.declared.command.View.TheVariants as view
+use Rattle.sp_words.specs.declared.requests.View.TheVariants as view
 use Rattle.superpascal.specs.Steps.{AccountsFor, TracesTo}
 use Rattle.superpascal.proofs.MarkFacts.{held_code, where_is}
 use Rattle.superpascal.proofs.Parts.{at_exit}

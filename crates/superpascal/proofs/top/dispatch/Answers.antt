@@ -7,10 +7,6 @@ pub run-requires-clause-range : goal.run-requires-clause-range
 run-requires-clause-range g c κs within = subst AreInRange c.in-Run.is
     (c.accepted_options_are_in_range.ensures.accepted c.requires.asked.0 c.args.command c.requires.asked.1)
 
-pub run-requires-in-Witness-clause-range : goal.run-requires-in-Witness-clause-range
-run-requires-in-Witness-clause-range g c κs within = subst AreInRange c.in-Witness.is
-    (c.accepted_options_are_in_range.ensures.accepted c.requires.asked.0 c.args.command c.requires.asked.1)
-
 pub run_generated-requires-clause-size : goal.run_generated-requires-clause-size
 run_generated-requires-clause-size g c κs within =
     (subst AreInRange c.in-Gen.is
@@ -50,10 +46,6 @@ returns-in-Format g c =
 
 pub returns-in-Run : goal.returns-in-Run
 returns-in-Run g c = command_by _ _ _ c.args.command _ c.run.result c.in-Run.is c.run.ensures
-
-pub returns-in-Witness : goal.returns-in-Witness
-returns-in-Witness g c =
-    command_by _ _ _ c.args.command _ c.run-in-Witness.result c.in-Witness.is c.run-in-Witness.ensures
 
 pub returns-in-Gen : goal.returns-in-Gen
 returns-in-Gen g c = command_by _ _ _ c.args.command _ c.run_generated.result c.in-Gen.is

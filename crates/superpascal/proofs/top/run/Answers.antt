@@ -1,7 +1,7 @@
 use Rattle.std.proofs.Common.{refl}
 use Rattle.std.proofs.lemmas.Result.{err_from_is_err_and}
+use Rattle.sp_words.specs.declared.command.Command.TheVariants as command
 use Rattle.superpascal.specs.Steps.{AnswersCommand}
-use Rattle.superpascal.specs.Texts.{command_of_run}
 use Rattle.superpascal.proofs.Parts.{at_exit, run_told, run_unread, run_unready, run_wanting}
 use Rattle.superpascal.proofs.top.run.Goals as goal
 
@@ -12,7 +12,7 @@ run_prepared-requires-clause-code g c κs within =
 
 pub returns-in_err-code : goal.returns-in_err-code
 returns-in_err-code g c =
-    at_exit (AnswersCommand _ _ _ (command_of_run c.args.asked.now)) c.from_residual.result _
+    at_exit (AnswersCommand _ _ _ (command.Run c.args.asked.now)) c.from_residual.result _
     (err_from_is_err_and c.from_residual.result c.from_residual.ensures.1)
     (run_unready _ _ _ c.args.asked.now (refl, refl) _ c.in_err-code.ensures.prepared)
 
@@ -20,7 +20,7 @@ pub returns-in_err-input : goal.returns-in_err-input
 returns-in_err-input g c =
     let (text, known, tree, has_code) = c.in_ok-code.ensures.prepared in
     let r = c.from_residual-in_err-input.result in
-    at_exit (AnswersCommand _ _ _ (command_of_run c.args.asked.now)) r _
+    at_exit (AnswersCommand _ _ _ (command.Run c.args.asked.now)) r _
     (err_from_is_err_and r c.from_residual-in_err-input.ensures.1)
     (run_unread _ _ _ c.args.asked.now text known tree c.in_ok-code.code has_code _ c.in_err-input.ensures)
 
@@ -28,7 +28,7 @@ pub returns-in_err-ran : goal.returns-in_err-ran
 returns-in_err-ran g c =
     let (text, known, tree, has_code) = c.in_ok-code.ensures.prepared in
     let r = c.from_residual-in_err-ran.result in
-    at_exit (AnswersCommand _ _ _ (command_of_run c.args.asked.now)) r _
+    at_exit (AnswersCommand _ _ _ (command.Run c.args.asked.now)) r _
     (err_from_is_err_and r c.from_residual-in_err-ran.ensures.1)
     (run_wanting _ _ _ c.args.asked.now text known tree c.in_ok-code.code has_code _ refl)
 
