@@ -41,6 +41,7 @@ KEPT = {
 OPEN = {
     "sp_code/proofs/CodePositions": "right_stands",
     "sp_code/specs/CodeOfTree": "RightAt",
+    "sp_code/specs/Ranks": "ways",
     "sp_codefile/proofs/InstrLaws": "operands_small",
     "sp_codegen/proofs/AssignSteps": "assign_makes",
     "sp_codegen/proofs/OperatorValues": "input_gives",
@@ -68,7 +69,6 @@ OPEN = {
     "sp_history/proofs/OutProcesses": "fewer_out",
     "sp_journal/proofs/Walk": "event_birth",
     "sp_journal/specs/Births": "births_after_event",
-    "sp_journal/specs/Texts": "CanHold",
     "sp_kernel/proofs/SortedWaiters": "with_more",
     "sp_kernel/specs/Ends": "left_in",
     "sp_lines/proofs/StatementMarks": "form_stands",

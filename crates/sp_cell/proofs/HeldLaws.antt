@@ -349,12 +349,12 @@ all_at P (s ∷ ss) a q (inr i) = all_at P ss a.1 q i
 pub join_keeps : (m : Map) (c : Plain) → AllHeld c.map c.moved → AllAway m c.moved
     → RejoinsPartition m (map_after_join m c) c
 join_keeps m c k away = record {
-  keeps = λ f g ws part same. (
-    λ p q sp sq e. part.0 p q (known p sp) (known q sq) e,
+  keeps = λ f g ws (apart, (_, agree_after), (_, agree_before, others)) same. (
+    λ p q sp sq e. apart p q (known p sp) (known q sq) e,
     all_meet (AgreeOnAll (parent_view m f)) (AgreeOnAll (parent_view c.map g))
         (AgreeOnAll (parent_view (map_after_join m c) f))
-        (back f g same) ws part.1.1 part.2.1,
-    part.2.2,
+        (back f g same) ws agree_after agree_before,
+    others,
   );
 }
   where

@@ -47,4 +47,4 @@ map_code = map.code spot_code content_code
 
 abbrev pub plain_code : Coded Plain
 plain_code = code_by (Map × (List ℕ × List Spot)) (coded× map_code (coded× (coded_list coded_ℕ) (coded_list spot_code)))
-    (λ p. (p.map, (p.own, p.moved))) (λ p. record { map = p.0; own = p.1.0; moved = p.1.1 }) (λ _. refl)
+    (λ p. (p.map, (p.own, p.moved))) (λ (map, (own, moved)). record { map = map; own = own; moved = moved }) (λ _. refl)

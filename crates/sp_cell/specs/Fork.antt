@@ -1,6 +1,7 @@
 -- Some of this belongs to what the program promises (docs/promise.txt).
 -- What `split` and `join` do to the plain map of a store. The contracts of `Store` and the steps of the system promise
 -- it. Each part goes by recursion on the spots of a plan, so that it computes for a plan that is known.
+use Rattle.std.specs.Option.{option_map_or}
 use Rattle.std.specs.Prelude.{◌≡◌, ℕ, zero, suc, ℤ, ◌⊎◌, List, [], ◌∷◌, ◌++◌, max, Option, None, Some, IsSome}
 use Rattle.std.specs.FinMap as map
 use Rattle.sp_cell.specs.declared.cell.Cell.TheVariants.{Ordinal}
@@ -11,8 +12,7 @@ use Rattle.sp_cell.specs.Frame.{least_above, frames}
 
 -- c with what was found at a spot, if anything was
 abbrev pub insert_if_found : Map → Spot → Option Content → Map
-insert_if_found c s None = c
-insert_if_found c s (Some h) = map.insert c s h
+insert_if_found c s h = option_map_or (map.insert c s) h c
 
 -- c with what m has at each of the spots
 abbrev pub with_contents : Map → List Spot → Map → Map
@@ -31,8 +31,7 @@ with_away m (s ∷ ss) = with_away (map.insert m s Away) ss
 
 -- c with the index of a forall, if there is one, in frame n
 abbrev pub with_index : Map → ℕ → Option (ℕ × ℤ) → Map
-with_index c n None = c
-with_index c n (Some i) = map.insert c (record { frame = n; variable = i.0 }) (Own (Ordinal i.1 ∷ []))
+with_index c n i = option_map_or (λ i. map.insert c (record { frame = n; variable = i.0 }) (Own (Ordinal i.1 ∷ []))) i c
 
 -- the number of the frame of a child's index
 abbrev pub index_frame : Handing → ℕ

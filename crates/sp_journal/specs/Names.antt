@@ -21,9 +21,8 @@ pub record Channel : Type 0 where
 
 abbrev pub same_name : Name → Name → Bool
 same_name [] [] = true
-same_name [] (b ∷ q) = false
-same_name (a ∷ p) [] = false
 same_name (a ∷ p) (b ∷ q) = ((a.0 == b.0) && (a.1 == b.1)) && same_name p q
+same_name _ _ = false
 
 abbrev pub same_channel : Channel → Channel → Bool
 same_channel a b = same_name a.owner b.owner && (a.nth == b.nth)

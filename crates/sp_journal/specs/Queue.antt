@@ -51,9 +51,8 @@ queue_after_event s l p event.Open = queue_with l (p ∷ [])
 queue_after_event s l p (event.Send c) = queue_after_offer l p c (l.pending c)
 queue_after_event s l p (event.Receive c) = queue_after_offer l p c (l.pending c)
 queue_after_event s l p event.End = queue_after_end l (s.birth p)
-queue_after_event s l p (event.Fault f) = l
-queue_after_event s l p event.Laid = l
 queue_after_event s l p event.Pause = queue_with l (p ∷ [])
+queue_after_event _ l _ _ = l
 
 -- further entries, each by the process that has been ready longest
 abbrev pub InTurnFrom : Births → QueueState → List Entry → Type 0

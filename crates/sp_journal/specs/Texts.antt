@@ -47,14 +47,7 @@ entries_text s (e ∷ es) = (entry_text s e ++ codes "\n") ++ entries_text (birt
 -- version 1 has no `pause`
 abbrev pub CanHold : Version → Event → Type 0
 CanHold version.One event.Pause = ⊥
-CanHold version.One (event.Fork n) = Unit {0}
-CanHold version.One event.Open = Unit {0}
-CanHold version.One (event.Send c) = Unit {0}
-CanHold version.One (event.Receive c) = Unit {0}
-CanHold version.One event.End = Unit {0}
-CanHold version.One (event.Fault f) = Unit {0}
-CanHold version.One event.Laid = Unit {0}
-CanHold version.Two e = Unit {0}
+CanHold _ _ = Unit {0}
 
 -- so for each entry
 abbrev pub AreHeld : Version → List Entry → Type 0

@@ -22,10 +22,10 @@ pub sorted_by : {X K : Type 0} {R : K → K → Ordering} (o : IsTotalOrder R) (
     {g : Mut F (Bor X × (Bor X × Unit {0})) Ordering} {f : F} (xs : List X)
     → ((lt : X → X → Bool) → IsStrictWeakOrder lt → ComparesAs g lt f → IsSortedBy lt xs)
     → ((a : Bor X × (Bor X × Unit {0})) (r : Ordering) (f' : F) → Called g f a r f'
-    → (r ≡ R (key a.0.now) (key a.1.0.now)) × (f' ≡ f)) → IsSortedByKey key R xs
+    → let (first, (second, _)) = a in (r ≡ R (key first.now) (key second.now)) × (f' ≡ f)) → IsSortedByKey key R xs
 sorted_by {R = R} o key {g = g} {f = f} xs up h =
     up (λ x y. is_lt (R (key x) (key y))) (ranks_by o key)
-    (always_returns_same g (λ a r. is_lt r ≡ is_lt (R (key a.0.now) (key a.1.0.now))) f
+    (always_returns_same g (λ (first, (second, _)) r. is_lt r ≡ is_lt (R (key first.now) (key second.now))) f
     (λ a r f' k. (ap is_lt (h a r f' k).0, (h a r f' k).1)))
 
 -- ---- those that wait, slot by slot

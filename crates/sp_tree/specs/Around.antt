@@ -1,6 +1,7 @@
 -- All of this belongs to what the program promises (docs/promise.txt).
 -- What stands around a place in a program: the scopes, the innermost first, and what variable parameters stand for.
 -- The meaning, the definition of code and the generator count static levels by it, so that all three count alike.
+use Rattle.std.specs.Prelude.{option_and_then, option_map}
 use Rattle.std.specs.Prelude.{ℕ, zero, suc, ◌==◌, List, [], ◌∷◌, Option, Some, None, Bool, false, if◌then◌else◌}
 use Rattle.std.specs.Prelude.{slice_get, length}
 use Rattle.sp_tree.specs.Plain.{Program, Block}
@@ -21,8 +22,7 @@ is_index x (OfBlock c) = false
 is_index x (OfIndex y) = x == y
 
 abbrev pub one_more : Option ℕ → Option ℕ
-one_more None = None
-one_more (Some n) = Some (suc n)
+one_more n = option_map suc n
 
 -- how many levels outward the first scope is that fits
 abbrev pub level : (Scope → Bool) → List Scope → Option ℕ
@@ -31,8 +31,7 @@ level fits (s ∷ sc) = if fits s then Some 0 else one_more (level fits sc)
 
 -- the block around a block
 abbrev pub parent_of : Option Block → Option ℕ
-parent_of None = None
-parent_of (Some k) = k.parent
+parent_of k = option_and_then (λ k. k.parent) k
 
 module _ (p : Program) where
   -- the scopes of a block's statement part: it, and those around it, no more than n

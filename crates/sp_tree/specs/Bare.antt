@@ -1,7 +1,8 @@
 -- All of this belongs to what the program promises (docs/promise.txt).
 -- How places are left out of a plain checked tree, which gives the plain tree that the meaning runs. Contracts on a
 -- checked tree in memory say by it what the tree means; places serve reports alone, so the meaning knows none.
-use Rattle.std.specs.Prelude.{map, Option, Some, None}
+use Rattle.std.specs.Prelude.{option_map}
+use Rattle.std.specs.Prelude.{map, Option}
 use Rattle.sp_tree.specs.declared.checked.Variable as memory
 use Rattle.sp_tree.specs.PlainChecked as p
 use Rattle.sp_tree.specs.Plain.{Expr, Typed, ExprForm, Number, Read, Unary, Binary, Apply, Standard, AtInput, Var}
@@ -44,8 +45,7 @@ abbrev mutual
   bare_actual (p.ByReference v) = ByReference (bare_variable v)
 
 abbrev pub bare_width : Option p.Expression → Option Expr
-bare_width None = None
-bare_width (Some e) = Some (bare_expression e)
+bare_width e = option_map bare_expression e
 
 abbrev mutual
   pub bare_statement : p.Statement → Stmt

@@ -1,8 +1,9 @@
 -- All of this belongs to what the program promises (docs/promise.txt).
 -- The cells of types and of blocks' frames, by tables in order of numbers, since a type rests on types before it. The
 -- rules of sizes, the meaning, the code and the generator share it.
+use Rattle.std.specs.Prelude.{unwrap_or}
 use Rattle.std.specs.Prelude.{ℕ, suc, ◌*◌, ◌==◌, ℤ, pos, ◌+ℤ◌, ◌-ℤ◌, nat_abs, if◌then◌else◌, List, [], ◌∷◌, ◌++◌}
-use Rattle.std.specs.Prelude.{Option, Some, None, slice_get, map, sum}
+use Rattle.std.specs.Prelude.{Option, slice_get, map, sum}
 use Rattle.sp_tree.specs.declared.checked.KindOf.{KindOf}
 use Rattle.sp_tree.specs.declared.checked.KindOf.TheVariants as kind
 use Rattle.sp_tree.specs.declared.checked.Role.{Role}
@@ -15,8 +16,7 @@ count low high = nat_abs ((high -ℤ low) +ℤ pos 1)
 
 -- what is there, or else d
 abbrev pub first_or : {A : Type 0} → A → Option A → A
-first_or d None = d
-first_or d (Some x) = x
+first_or d x = unwrap_or x d
 
 -- the results of a list, each by those before it
 abbrev pub table : {A : Type 0} → (List A → KindOf → A) → List A → List KindOf → List A

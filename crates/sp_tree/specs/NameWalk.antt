@@ -2,6 +2,7 @@
 -- All that stands in a program for the rules of names, with the declarations visible there. `join` puts together what
 -- is found at the sites: lists give all broken rules, `earlier_refusal` the first. The contracts of `sp_scope` follow
 -- its parts.
+use Rattle.std.specs.Option.{option_map_or}
 use Rattle.std.specs.Prelude.{ℕ, suc, ◌+◌, ◌&&◌, List, [], ◌∷◌, ◌++◌, map, Bool, true, false, if◌then◌else◌, Option}
 use Rattle.std.specs.Prelude.{Some, None}
 use Rattle.sp_base.specs.declared.place.Place.{Place}
@@ -187,13 +188,12 @@ module _ {M : Type 0} (none : M) (join : M → M → M) (site : Env → Site →
     expression_sites (ExpressionAt at form) = expression_form_sites form
 
     pub expression_form_sites : ExpressionForm → M
-    expression_form_sites (Number n) = none
-    expression_form_sites (Quoted t) = none
     expression_form_sites (Read v) = operand_sites v
     expression_form_sites (Apply f args) = join (site env (Computes f (count args)))
         (arguments_sites (references_of (find env f.text)) (rest_of (find env f.text)) args)
     expression_form_sites (Unary op a) = expression_sites a
     expression_form_sites (Binary op a b) = join (expression_sites a) (expression_sites b)
+    expression_form_sites _ = none
 
     -- a variable, constant or function in an expression
     pub operand_sites : Variable → M
@@ -314,8 +314,7 @@ module _ {M : Type 0} (none : M) (join : M → M → M) (site : Env → Site →
   heading_sites env (f ∷ fs) = join (site env (Uses f.kind AsKind)) (heading_sites env fs)
 
   abbrev pub answer_sites : Env → Option Name → M
-  answer_sites env None = none
-  answer_sites env (Some t) = site env (Uses t AsKind)
+  answer_sites env t = option_map_or (λ t. site env (Uses t AsKind)) t none
 
   -- the parameters
   abbrev pub formals_sites : List Scope → Local → List SynFormal → M
@@ -326,9 +325,8 @@ module _ {M : Type 0} (none : M) (join : M → M → M) (site : Env → Site →
 
   -- a constant in the definition of a type
   abbrev pub bound_sites : Env → Name → SynValue → M
-  bound_sites env own (value.Number n) = none
-  bound_sites env own (value.Quoted t) = none
   bound_sites env own (value.Named x) = site env (UsesIn own x AsConstant)
+  bound_sites _ _ _ = none
 
   -- fields of one type, behind others
   abbrev pub fields_sites : Env → List (List ℕ) → List Name → M

@@ -1,6 +1,7 @@
 -- All of this belongs to what the program promises (docs/promise.txt).
 -- The tree with numbers for names, by the declarations visible at each name. It is there for every syntax tree; where
 -- no rule of names is broken, each name has the number of its declaration. The contract of the resolution promises it.
+use Rattle.std.specs.Prelude.{option_map}
 use Rattle.std.specs.Prelude.{ℕ, suc, List, [], ◌∷◌, ◌++◌, length, Option, Some, None, codes}
 use Rattle.sp_base.specs.declared.place.Place.{Place}
 use Rattle.sp_tree.specs.declared.checked.Role.{Role}
@@ -253,8 +254,7 @@ answer_named env block x (Some t) = record {
 } ∷ []
 
 abbrev pub answer_of : ℕ → Option Name → Option NamedAnswer
-answer_of k None = None
-answer_of k (Some t) = Some (record { variable = k; at = t.at })
+answer_of k t = option_map (λ t. record { variable = k; at = t.at }) t
 
 -- the constants of an enumeration, from an ordinal on
 abbrev pub enumeration_constants : ℕ → ℕ → List Name → List NamedConstant

@@ -2,6 +2,7 @@
 -- The first of the broken rules so far, and what a phase answers. The walks over names, types and interference
 -- promise their answers in these words, each with memory's refusal left free. It is the order of broken rules that
 -- code carries on.
+use Rattle.std.specs.Option.{option_map_or}
 use Rattle.std.specs.Prelude.{◌≡◌, List, [], ◌∷◌, Bool, true, false, if◌then◌else◌, Option, Some, None, Result, Ok, Err}
 use Rattle.sp_base.specs.declared.place.Place.{Place}
 use Rattle.sp_base.specs.declared.rule.Rule.{Rule}
@@ -42,8 +43,7 @@ refusal_list (Some r) = r ∷ []
 
 -- the answer of a phase: the first broken rule, or what the text stands for
 abbrev pub phase_result : {A : Type 0} → FirstRefusal → A → Result A Refusal
-phase_result None x = Ok x
-phase_result (Some r) x = Err r
+phase_result r x = option_map_or Err r (Ok x)
 
 -- A call answers as the phase does, or memory was refused.
 abbrev pub Answers : {A : Type 0} → Result A Halt → Result A Refusal → Type 0

@@ -1,7 +1,8 @@
 -- All of this belongs to what the program promises (docs/promise.txt).
 -- The declarations that are visible at a place: those of the innermost block, and those of the blocks around it. The
 -- rules of names ask it, and the tables of `sp_scope` promise it.
-use Rattle.std.specs.Prelude.{ℕ, ◌+◌, nat_le, List, [], ◌∷◌, Option, Some, None, if◌then◌else◌, codes}
+use Rattle.std.specs.Option.{option_or}
+use Rattle.std.specs.Prelude.{ℕ, ◌+◌, nat_le, List, [], ◌∷◌, Option, None, if◌then◌else◌, codes}
 use Rattle.std.specs.Map.{lookup}
 use Rattle.std.specs.Str.{bytes_eq}
 use Rattle.sp_tree.specs.declared.checked.Role.{Role}
@@ -44,8 +45,7 @@ put [] name m = (name, m) ∷ []
 put (e ∷ es) name m = if bytes_eq name e.0 then (e.0, m) ∷ es else e ∷ put es name m
 
 abbrev pub or_else : {A : Type 0} → Option A → Option A → Option A
-or_else None b = b
-or_else (Some x) b = Some x
+or_else x b = option_or x b
 
 -- in the last of the blocks that declares it, or what is given
 abbrev pub find_in : List Scope → List ℕ → Option Meaning → Option Meaning

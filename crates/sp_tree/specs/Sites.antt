@@ -1,7 +1,8 @@
 -- All of this belongs to what the program promises (docs/promise.txt).
 -- Where the rules of interference look, by clauses on the tree with places: forks, loops, calls and what a function
 -- may not have. `Interferes.antt` tells the breaches at each site, and `sp_interfere` looks at the same ones.
-use Rattle.std.specs.Prelude.{ℕ, List, [], ◌∷◌, ◌++◌, Option, Some, None}
+use Rattle.std.specs.Option.{option_map_or}
+use Rattle.std.specs.Prelude.{ℕ, List, [], ◌∷◌, ◌++◌, Option}
 use Rattle.sp_base.specs.declared.place.Place.{Place}
 use Rattle.sp_tree.specs.PlainChecked.{Expression, ExpressionAt, ExpressionForm, Number, Read, Unary, Binary, Apply}
 use Rattle.sp_tree.specs.PlainChecked.{Standard}
@@ -50,8 +51,7 @@ abbrev mutual
   actuals_sites (Pass (ByReference v) rest) = variable_sites v ++ actuals_sites rest
 
 abbrev pub width_sites : Option Expression → List Site
-width_sites None = []
-width_sites (Some e) = expression_sites e
+width_sites e = option_map_or expression_sites e []
 
 abbrev mutual
   pub statement_sites : Statement → List Site

@@ -2,6 +2,7 @@
 -- What the phases of names and types give of every accepted tree beyond its use of names: its types are built of
 -- earlier ones, its blocks and variables fit together, and what stands in a statement is of the kinds that it should
 -- be. The code of a tree rests on it.
+use Rattle.std.specs.Option.{option_map_or}
 use Rattle.std.specs.Prelude.{◌≡◌, ◌≢◌, ℕ, suc, ◌≤◌, ℤ, int_le, List, [], ◌∷◌, Option, Some, None, Bool, true, false}
 use Rattle.std.specs.Prelude.{if◌then◌else◌, length, slice_get}
 use Rattle.sp_tree.specs.declared.checked.KindOf.TheVariants as kind
@@ -29,8 +30,7 @@ numbers_with_role fits (x ∷ xs) = if fits x.1.role then x.0 ∷ numbers_with_r
 
 -- none or one, as a list
 abbrev pub as_list : Option ℕ → List ℕ
-as_list None = []
-as_list (Some x) = x ∷ []
+as_list x = option_map_or (λ x. x ∷ []) x []
 
 -- the types of a record's fields come before type k
 abbrev pub AreBefore : ℕ → List (List ℕ × ℕ) → Type 0

@@ -3,7 +3,8 @@
 -- and the facts of code ask it by occurrence, so that each question is one relation on the tree. The index of a
 -- `forall` is taken out of what stands in the element statement, not out of what calls carry: a call never carries
 -- it.
-use Rattle.std.specs.Prelude.{◌≡◌, ◌≢◌, ◌⊎◌, ℕ, Option, Some, None}
+use Rattle.std.specs.Prelude.{IsSomeAnd}
+use Rattle.std.specs.Prelude.{◌≡◌, ◌≢◌, ◌⊎◌, ℕ, Option}
 use Rattle.sp_tree.specs.Plain.{Expr, Typed, ExprForm, Number, Read, Unary, Binary, Apply, Standard, AtInput, Var}
 use Rattle.sp_tree.specs.Plain.{Entire, Index, Field, Selectors, Whole, Select, ByValue, ByReference, Actuals, Nothing}
 use Rattle.sp_tree.specs.Plain.{Pass, Stmt, Empty, Assign, Call, Sequence, If, IfElse, While, Repeat, For, Case}
@@ -54,8 +55,7 @@ abbrev pub In_call : ℕ → Actuals → Use → Type 0
 In_call f args u = (u ≡ CallOf f args) ⊎ In_actuals args u
 
 abbrev pub In_width : Option Expr → Use → Type 0
-In_width None u = ⊥
-In_width (Some e) u = In_expr e u
+In_width e u = IsSomeAnd e (λ e. In_expr e u)
 
 -- it is not a position of this forall's index
 abbrev pub IsOther : ℕ → Use → Type 0

@@ -1,6 +1,8 @@
 -- All of this belongs to what the program promises (docs/promise.txt).
 -- The checked tree of a program. It is there for every tree with numbers for names; where no rule of types is broken,
 -- each part has its type. The contract of the phase of types promises it, and its walks follow it part by part.
+use Rattle.std.specs.Option.{option_map_or}
+use Rattle.std.specs.Prelude.{unwrap_or}
 use Rattle.std.specs.Prelude.{ℕ, ◌+◌, ℤ, pos, List, [], ◌∷◌, ◌++◌, Option, Some, None, slice_get, map}
 use Rattle.sp_base.specs.declared.place.Place.{Place}
 use Rattle.sp_tree.specs.declared.checked.Role.{Role}
@@ -31,16 +33,13 @@ use Rattle.sp_types.specs.TypeWalk.{starts_of, blocks_after}
 
 -- a type, 0 where it is missing
 abbrev pub or_zero : Option ℕ → ℕ
-or_zero None = 0
-or_zero (Some k) = k
+or_zero k = unwrap_or k 0
 
 abbrev pub field_number : Option (ℕ × ℕ) → ℕ
-field_number None = 0
-field_number (Some f) = f.0
+field_number f = option_map_or (λ f. f.0) f 0
 
 abbrev pub numbered_field : Env → Option ℕ → List ℕ → ℕ
-numbered_field env None name = 0
-numbered_field env (Some k) name = field_number (field_in name (kind_at env k))
+numbered_field env k name = option_map_or (λ k. field_number (field_in name (kind_at env k))) k 0
 
 -- an expression as a variable parameter, which has to be a variable
 abbrev pub variable_actual : c.Expression → c.Actual

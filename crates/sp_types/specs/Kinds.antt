@@ -1,6 +1,7 @@
 -- All of this belongs to what the program promises (docs/promise.txt).
 -- The types of expressions and variables, by their numbers. None: the part is broken, and has no type. The rules of
 -- types and the checked tree go by it, and the walks promise it of each part.
+use Rattle.std.specs.Prelude.{option_and_then, option_map}
 use Rattle.std.specs.Prelude.{ℕ, if◌then◌else◌, List, Option, Some, None}
 use Rattle.sp_tree.specs.declared.checked.KindOf.{KindOf}
 use Rattle.sp_tree.specs.declared.checked.KindOf.TheVariants as kind
@@ -20,28 +21,23 @@ element_of i k = None
 
 -- the same where the type may be unknown
 abbrev pub element_in : Option ℕ → Option KindOf → Option ℕ
-element_in i None = None
-element_in i (Some k) = element_of i k
+element_in i k = option_and_then (element_of i) k
 
 -- the elements of an array by its type's number
 abbrev pub element : Env → Option ℕ → Option ℕ → Option ℕ
-element env None i = None
-element env (Some k) i = element_in i (kind_at env k)
+element env k i = option_and_then (λ k. element_in i (kind_at env k)) k
 
 -- the type of a field that was found
 abbrev pub field_kind : Option (ℕ × ℕ) → Option ℕ
-field_kind None = None
-field_kind (Some f) = Some f.1
+field_kind f = option_map (λ f. f.1) f
 
 -- the type of a field by the record's number
 abbrev pub field : Env → Option ℕ → List ℕ → Option ℕ
-field env None name = None
-field env (Some k) name = field_kind (field_in name (kind_at env k))
+field env k name = option_and_then (λ k. field_kind (field_in name (kind_at env k))) k
 
 -- an ordinal's own type
 abbrev pub if_ordinal : Env → Option ℕ → Option ℕ
-if_ordinal env None = None
-if_ordinal env (Some k) = if ordinal env k then Some k else None
+if_ordinal env k = option_and_then (λ k. if ordinal env k then Some k else None) k
 
 -- what a standard function gives, by its parameter
 abbrev pub standard_gives : Env → StandardFn → Option ℕ → Option ℕ

@@ -1,6 +1,8 @@
 -- All of this belongs to what the program promises (docs/promise.txt).
 -- What a program declares, by numbers: its types, its constants, its variables and the headings of its blocks. The
 -- rules of types and the checked tree ask it, and the contracts of the tables promise it.
+use Rattle.std.specs.Option.{option_flatten, option_map_or}
+use Rattle.std.specs.Prelude.{option_and_then, option_map}
 use Rattle.std.specs.Prelude.{ℕ, ◌+◌, nat_eq, ℤ, pos, neg_ℤ, int_le, not, Bool, true, false, ◌&&◌, if◌then◌else◌, List}
 use Rattle.std.specs.Prelude.{[], ◌∷◌, ◌++◌, length, map, slice_get, slice_set, Option, Some, None}
 use Rattle.sp_tree.specs.declared.checked.KindOf.{KindOf}
@@ -52,8 +54,7 @@ char_of t = None
 
 -- an entry of a table, none where the number is none of the table's
 abbrev pub table_entry : {A : Type 0} → Option (Option A) → Option A
-table_entry None = None
-table_entry (Some x) = x
+table_entry x = option_flatten x
 
 -- a constant without its sign; none: it is a text that is no char
 abbrev pub value_by : List (Option Ordinal) → NamedValue → Option Ordinal
@@ -107,12 +108,10 @@ are_bounds known a b =
     && not (are_wrong (const_value known a) (const_value known b)))))
 
 abbrev pub type_or : ℕ → Option Ordinal → ℕ
-type_or d None = d
-type_or d (Some o) = o.kind
+type_or d o = option_map_or (λ o. o.kind) o d
 
 abbrev pub number_or : ℤ → Option Ordinal → ℤ
-number_or d None = d
-number_or d (Some o) = o.number
+number_or d o = option_map_or (λ o. o.number) o d
 
 -- An array whose bounds have a fault has no elements.
 abbrev pub array_of : List (Option Ordinal) → NamedConst → NamedConst → ℕ → KindOf
@@ -138,8 +137,7 @@ kinds_from numbers known [] = []
 kinds_from numbers known (k ∷ ks) = kinds_by numbers known k.form ++ kinds_from numbers known ks
 
 abbrev pub answer_variable : Option NamedAnswer → Option ℕ
-answer_variable None = None
-answer_variable (Some a) = Some a.variable
+answer_variable a = option_map (λ a. a.variable) a
 
 abbrev pub type_of : List ℕ → Role → ℕ → Option ℕ
 type_of numbers role.Index k = None
@@ -189,16 +187,14 @@ abbrev pub variable_kind : Env → ℕ → Option ℕ
 variable_kind env x = table_entry (slice_get env.variables x)
 
 abbrev pub ordinal_kind : Option Ordinal → Option ℕ
-ordinal_kind None = None
-ordinal_kind (Some o) = Some o.kind
+ordinal_kind o = option_map (λ o. o.kind) o
 
 -- the type of a declared constant
 abbrev pub constant_kind : Env → ℕ → Option ℕ
 constant_kind env k = ordinal_kind (table_entry (slice_get env.constants k))
 
 abbrev pub formals_in : Option Signature → List ℕ
-formals_in None = []
-formals_in (Some s) = s.formals
+formals_in s = option_map_or (λ s. s.formals) s []
 
 -- the parameters of a block
 abbrev pub formals_of : Env → ℕ → List ℕ
@@ -206,12 +202,10 @@ formals_of env f = formals_in (slice_get env.blocks f)
 
 -- the type of a variable, where there is one
 abbrev pub kind_of_variable : Env → Option ℕ → Option ℕ
-kind_of_variable env None = None
-kind_of_variable env (Some x) = variable_kind env x
+kind_of_variable env x = option_and_then (variable_kind env) x
 
 abbrev pub answer_in : Env → Option Signature → Option ℕ
-answer_in env None = None
-answer_in env (Some s) = kind_of_variable env s.answer
+answer_in env s = option_and_then (λ s. kind_of_variable env s.answer) s
 
 -- the type of a function's result
 abbrev pub answer_kind : Env → ℕ → Option ℕ

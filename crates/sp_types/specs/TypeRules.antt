@@ -1,6 +1,8 @@
 -- All of this belongs to what the program promises (docs/promise.txt).
 -- The rules of types at one node, by the types of its parts. None is a part that is broken: it has no type, and a rule
 -- that needs its type is not broken. The walk asks them at each node, and the functions of `rules` promise them.
+use Rattle.std.specs.Option.{option_map_or}
+use Rattle.std.specs.Prelude.{option_and_then}
 use Rattle.std.specs.Prelude.{ℕ, ◌+◌, nat_eq, nat_lt, int_le, not, Bool, true, false, ◌&&◌, ◌||◌, if◌then◌else◌, List}
 use Rattle.std.specs.Prelude.{[], ◌∷◌, length, slice_get, Option, Some, None}
 use Rattle.std.specs.List.{list_any}
@@ -56,8 +58,7 @@ channel env k = is_channel (kind_at env k)
 
 -- broken where the part has a type that is not taken
 abbrev pub unless : Rule → Place → (ℕ → Bool) → Option ℕ → FirstRefusal
-unless r at takes None = None
-unless r at takes (Some k) = refusal_if r at (not (takes k))
+unless r at takes k = option_and_then (λ k. refusal_if r at (not (takes k))) k
 
 -- two types are known, and they are different
 abbrev pub differ : Option ℕ → Option ℕ → Bool
@@ -66,9 +67,8 @@ differ j k = false
 
 -- what an operator takes and gives
 abbrev pub unary_takes : UnaryOp → ℕ
-unary_takes unary.Plus = integer
-unary_takes unary.Minus = integer
 unary_takes unary.Not = boolean
+unary_takes _ = integer
 
 -- the operator may stand between operands of this type
 abbrev pub binary_takes : Env → BinaryOp → ℕ → Bool
@@ -110,13 +110,11 @@ index_of_rule at index_at i (kind.Array low high index element) = unless rule.Y2
 index_of_rule at index_at i k = refusal_at rule.Y2 at
 
 abbrev pub index_kind_rule : Place → Place → Option ℕ → Option KindOf → FirstRefusal
-index_kind_rule at index_at i None = None
-index_kind_rule at index_at i (Some k) = index_of_rule at index_at i k
+index_kind_rule at index_at i k = option_and_then (index_of_rule at index_at i) k
 
 -- the rule at an index, by the array's type
 abbrev pub index_rule : Env → Place → Option ℕ → Place → Option ℕ → FirstRefusal
-index_rule env at None index_at i = None
-index_rule env at (Some k) index_at i = index_kind_rule at index_at i (kind_at env k)
+index_rule env at k index_at i = option_and_then (λ k. index_kind_rule at index_at i (kind_at env k)) k
 
 -- a field's number and type, where the type is a record
 abbrev pub field_in : List ℕ → Option KindOf → Option (ℕ × ℕ)
@@ -125,13 +123,11 @@ field_in name k = None
 
 -- Y3: a field of what is no record or has no such field, at the variable
 abbrev pub field_found : Place → Option (ℕ × ℕ) → FirstRefusal
-field_found at None = refusal_at rule.Y3 at
-field_found at (Some f) = None
+field_found at f = option_map_or (λ f. None) f (refusal_at rule.Y3 at)
 
 -- the rule at a field
 abbrev pub field_rule : Env → Place → Option ℕ → List ℕ → FirstRefusal
-field_rule env at None name = None
-field_rule env at (Some k) name = field_found at (field_in name (kind_at env k))
+field_rule env at k name = option_and_then (λ k. field_found at (field_in name (kind_at env k))) k
 
 -- Y4: a condition is not boolean
 abbrev pub condition_rule : Place → Option ℕ → FirstRefusal
@@ -197,13 +193,11 @@ messages_in k = None
 
 -- the message types of a channel, where its type is known
 abbrev pub messages : Env → Option ℕ → Option (List ℕ)
-messages env None = None
-messages env (Some k) = messages_in (kind_at env k)
+messages env k = option_and_then (λ k. messages_in (kind_at env k)) k
 
 -- Y9: a sent or received type is not among the channel's message types
 abbrev pub message_in_rule : Place → Option (List ℕ) → Option ℕ → FirstRefusal
-message_in_rule at None k = None
-message_in_rule at (Some ks) k = unless rule.Y9 at (λ j. list_any (nat_eq j) ks) k
+message_in_rule at ks k = option_and_then (λ ks. unless rule.Y9 at (λ j. list_any (nat_eq j) ks) k) ks
 
 -- the rule at a message, by the channel's type
 abbrev pub message_rule : Env → Place → Option ℕ → Option ℕ → FirstRefusal
@@ -231,8 +225,7 @@ is_same_ordinal a b = nat_eq a.kind b.kind && (int_le a.number b.number && int_l
 
 -- Y12: a case constant is repeated in one case statement, at the second
 abbrev pub repeat_rule : Place → List Ordinal → Option Ordinal → FirstRefusal
-repeat_rule at before None = None
-repeat_rule at before (Some o) = refusal_if rule.Y12 at (list_any (is_same_ordinal o) before)
+repeat_rule at before o = option_and_then (λ o. refusal_if rule.Y12 at (list_any (is_same_ordinal o) before)) o
 
 -- Y13: two bounds have different types, or the lower is above the upper, at the second
 abbrev pub bounds_rule : Place → Option Ordinal → Option Ordinal → FirstRefusal

@@ -1,6 +1,8 @@
 -- All of this belongs to what the program promises (docs/promise.txt).
 -- All that stands in a program for the rules of types. `join` puts together what is found at the nodes: lists give all
 -- broken rules, `earlier_refusal` the first. The contracts of this crate follow its parts.
+use Rattle.std.specs.Option.{option_map_or}
+use Rattle.std.specs.Prelude.{option_and_then}
 use Rattle.std.specs.Prelude.{ℕ, zero, suc, ◌+◌, nat_eq, nat_lt, ◌&&◌, ◌||◌, List, [], ◌∷◌, ◌++◌, Bool, false}
 use Rattle.std.specs.Prelude.{if◌then◌else◌, Option, Some, None, slice_get}
 use Rattle.sp_base.specs.declared.place.Place.{Place}
@@ -56,12 +58,10 @@ formals_behind [] = []
 formals_behind (x ∷ xs) = xs
 
 abbrev pub formal_role : Env → Option ℕ → Option Role
-formal_role env None = None
-formal_role env (Some x) = slice_get env.roles x
+formal_role env x = option_and_then (slice_get env.roles) x
 
 abbrev pub formal_kind : Env → Option ℕ → Option ℕ
-formal_kind env None = None
-formal_kind env (Some x) = variable_kind env x
+formal_kind env x = option_and_then (variable_kind env) x
 
 -- the arguments behind the first
 abbrev pub arguments_behind : Arguments → Arguments
@@ -209,8 +209,7 @@ places_of (k ∷ ks) = place_by k.at k.form ++ places_of ks
 
 -- the constants of a `case` statement up to and with one more
 abbrev pub with_constant : Option Ordinal → List Ordinal → List Ordinal
-with_constant None before = before
-with_constant (Some o) before = before ++ o ∷ []
+with_constant o before = option_map_or (λ o. before ++ o ∷ []) o before
 
 abbrev pub with_constants : Env → List NamedConst → List Ordinal → List Ordinal
 with_constants env [] before = before
@@ -309,13 +308,12 @@ module _ {M : Type 0} (none : M) (join : M → M → M) (site : FirstRefusal →
     messages_sites (AndArgument a rest) = join (channel_sites a) (each_sites (message_sites (argument_kind env a)) rest)
 
     abbrev pub perform_sites : StandardProcedure → Arguments → M
-    perform_sites procedure.Read args = each_sites read_sites args
-    perform_sites procedure.Readln args = each_sites read_sites args
     perform_sites procedure.Write args = each_sites write_sites args
     perform_sites procedure.Writeln args = each_sites write_sites args
     perform_sites procedure.Open args = each_sites channel_sites args
     perform_sites procedure.Send args = messages_sites args
     perform_sites procedure.Receive args = messages_sites args
+    perform_sites _ args = each_sites read_sites args
 
     abbrev pub condition_sites : Expression → M
     condition_sites e = join (expression_sites e) (site (condition_rule (place e) (expression_kind env e)))
@@ -412,13 +410,11 @@ module _ {M : Type 0} (none : M) (join : M → M → M) (site : FirstRefusal →
 
   -- the cells of new types, whose names stand at these places
   abbrev pub cells_sites : List Place → List ℕ → M
-  cells_sites [] cells = none
-  cells_sites (at ∷ places) [] = none
   cells_sites (at ∷ places) (n ∷ cells) = join (site (cells_rule at n)) (cells_sites places cells)
+  cells_sites _ _ = none
 
   abbrev pub answer_sites : Env → Option NamedAnswer → M
-  answer_sites env None = none
-  answer_sites env (Some a) = site (answer_rule env a.at (variable_kind env a.variable))
+  answer_sites env a = option_map_or (λ a. site (answer_rule env a.at (variable_kind env a.variable))) a none
 
   abbrev pub block_sites : List ℕ → List ℕ → List checked.Variable → ℕ → Env → Block → M
   block_sites numbers cells variables b env x =

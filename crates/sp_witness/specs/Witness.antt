@@ -2,8 +2,9 @@
 -- The witness of a race: the journal that leads to the contention of its two offers. It has what the processes of the
 -- two offers knew just before them, then the earlier offer, and then the fault of the later one. The contract of
 -- `witness` and the law of this crate cite it.
+use Rattle.std.specs.Option.{option_map_or}
 use Rattle.std.specs.Prelude.{ℕ, suc, Bool, true, false, ◌&&◌, ◌||◌, if◌then◌else◌, nat_lt, List, [], ◌∷◌, ◌++◌, take}
-use Rattle.std.specs.Prelude.{Option, Some, None, slice_get}
+use Rattle.std.specs.Prelude.{Option, slice_get}
 use Rattle.sp_base.specs.declared.fault.Fault.TheVariants as fault
 use Rattle.sp_journal.specs.Names.{Name, same_name, Happening, Faulted, Paused}
 use Rattle.sp_journal.specs.Names.{Occurrence}
@@ -11,8 +12,7 @@ use Rattle.sp_journal.specs.Past.{knowledge_of}
 
 -- whose entry this is
 abbrev pub who_of : Option Occurrence → Name
-who_of None = []
-who_of (Some e) = e.who
+who_of e = option_map_or (λ e. e.who) e []
 
 -- whose entry has this index
 abbrev pub who_at : List Occurrence → ℕ → Name
@@ -20,8 +20,7 @@ who_at es i = who_of (slice_get es i)
 
 -- the entry of this index alone
 abbrev pub entry_list : Option Occurrence → List Occurrence
-entry_list None = []
-entry_list (Some e) = e ∷ []
+entry_list e = option_map_or (λ e. e ∷ []) e []
 
 -- what the process of entry i knew just before it, as indices
 abbrev pub past_before : List Occurrence → ℕ → ℕ → Bool

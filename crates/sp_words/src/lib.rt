@@ -22,7 +22,8 @@
 //!   other failure `Refused`.
 //!
 //! To change:
-//! - A command: `CommandName` and `Command`, with what it asks for in `src/requests.rt`, `option_names`, `command_named`, the parser's subcommands, and `specs/`.
+//! - A command: `CommandName` and `Command`, with what it asks for in `src/requests.rt`, `option_names`,
+//!   `command_named`, the parser's subcommands, and `specs/`.
 //! - An option: `specs/Options.antt`, `specs/Parsers.antt`, `run_command` or, of a limit, `with_limits`, `RUN_OPTIONS`,
 //!   and of a limit `LIMIT_OPTIONS` and `WORKER_OPTIONS`, in `src/reader.rt`; its range and default also in
 //!   `specs/Ranges.antt` and `src/defaults.rt`.
