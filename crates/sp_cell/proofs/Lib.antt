@@ -4,4 +4,5 @@ pub mod Laws
 pub mod Order
 pub mod Partition
 pub mod Plan
+pub mod Sorting
 pub mod Steps

@@ -127,6 +127,37 @@ get_lent_in m (s ∷ ss) c q i = elim (in_or q ss) [
       ∙ elim i [ inl e ↦ rw e (get_here c s (Shared (cells_at m s))) | inr j ↦ absurd (not_both q ss j o) ]
 ]
 
+-- it makes no difference whether some of the spots are lent once more
+pub lent_again : (m : Map) (xs ys : List Spot) → ((q : Spot) → In q ys → In q xs)
+    → with_shared m ys (with_shared m xs map.empty) ≡ with_shared m xs map.empty
+lent_again m xs ys inside = same_map _ _ (λ q. elim (in_or q ys) [
+  | inl i ↦ get_lent_in m ys (with_shared m xs map.empty) q i ∙ sym (get_lent_in m xs map.empty q (inside q i))
+  | inr o ↦ get_lent_out m ys (with_shared m xs map.empty) q o
+])
+
+get_lent_before : (m : Map) (xs ys : List Spot) (c : Map) (q : Spot) → In q xs
+    → map.get (with_shared m ys (with_shared m xs c)) q ≡ Some (Shared (cells_at m q))
+get_lent_before m xs ys c q i = elim (in_or q ys) [
+  | inl j ↦ get_lent_in m ys (with_shared m xs c) q j
+  | inr o ↦ get_lent_out m ys (with_shared m xs c) q o ∙ get_lent_in m xs c q i
+]
+
+get_lent_after : (m : Map) (xs ys : List Spot) (c : Map) (q : Spot) → NotIn q xs
+    → map.get (with_shared m ys c) q ≡ map.get (with_shared m ys (with_shared m xs c)) q
+get_lent_after m xs ys c q n = elim (in_or q ys) [
+  | inl j ↦ get_lent_in m ys c q j ∙ sym (get_lent_in m ys (with_shared m xs c) q j)
+  | inr o ↦ get_lent_out m ys c q o
+      ∙ sym (get_lent_out m ys (with_shared m xs c) q o ∙ get_lent_out m xs c q n)
+]
+
+-- which of two lists is lent first makes no difference
+lent_either_first : (m : Map) (xs ys : List Spot) (c : Map)
+    → with_shared m xs (with_shared m ys c) ≡ with_shared m ys (with_shared m xs c)
+lent_either_first m xs ys c = same_map _ _ (λ q. elim (in_or q xs) [
+  | inl i ↦ get_lent_in m xs (with_shared m ys c) q i ∙ sym (get_lent_before m xs ys c q i)
+  | inr n ↦ get_lent_out m xs (with_shared m ys c) q n ∙ get_lent_after m xs ys c q n
+])
+
 -- ---- one child
 
 in_at : (ss : List Spot) (k : ℕ) (d : Spot) → k < length ss → In (get_or ss k d) ss
@@ -267,6 +298,11 @@ in_front q (x ∷ xs) ys (inr i) = inr (in_front q xs ys i)
 pub in_back : (q : Spot) (xs ys : List Spot) → In q ys → In q (xs ++ ys)
 in_back q [] ys i = i
 in_back q (x ∷ xs) ys i = inr (in_back q xs ys i)
+
+pub in_either : (q : Spot) (xs ys : List Spot) → In q (xs ++ ys) → In q xs ⊎ In q ys
+in_either q [] ys i = inr i
+in_either q (x ∷ xs) ys (inl e) = inl (inl e)
+in_either q (x ∷ xs) ys (inr i) = elim (in_either q xs ys i) [ inl j ↦ inl (inr j) | inr j ↦ inr j ]
 
 -- ---- the steps of the two loops
 
@@ -444,13 +480,16 @@ known_ready m ss p q k = elim (in_or q ss) [
   | inr o ↦ absurd (false≢true (rw (get_lent_out m ss map.empty q o, map.get-empty spot_cmp q) at k))
 ]
 
--- the step of the loop that prepares, for the handing at place i
-pub ready_step : (m : Map) (hs : List Handing) (i : ℕ) (g : Handing) → i < length hs → g ≡ get_or hs i g
-    → with_shared m g.shared (with_shared m (shared_of (take i hs)) map.empty)
-    ≡ with_shared m (shared_of (take (i + 1) hs)) map.empty
-ready_step m hs i g b e =
-    subst (λ (y : Handing). with_shared m y.shared (with_shared m (shared_of (take i hs)) map.empty)
-    ≡ with_shared m (shared_of (take (i + 1) hs)) map.empty) (sym e) (sym (lent_plan_step m hs i g map.empty b))
+-- the step of the loop that prepares, for the handing at place i, where some spots were lent before
+pub ready_step : (m : Map) (first : List Spot) (hs : List Handing) (i : ℕ) (g : Handing) → i < length hs
+    → g ≡ get_or hs i g
+    → with_shared m g.shared (with_shared m first (with_shared m (shared_of (take i hs)) map.empty))
+    ≡ with_shared m first (with_shared m (shared_of (take (i + 1) hs)) map.empty)
+ready_step m first hs i g b e =
+    lent_either_first m g.shared first (with_shared m (shared_of (take i hs)) map.empty)
+    ∙ ap (with_shared m first)
+    (subst (λ (y : Handing). with_shared m y.shared (with_shared m (shared_of (take i hs)) map.empty)
+    ≡ with_shared m (shared_of (take (i + 1) hs)) map.empty) (sym e) (sym (lent_plan_step m hs i g map.empty b)))
 
 pub children_step : (m : Map) (hs : List Handing) (i : ℕ) (g : Handing) → i < length hs → g ≡ get_or hs i g
     → children_so_far m (take i hs) 0 ++ prepared_child m g ∷ [] ≡ children_so_far m (take (i + 1) hs) 0

@@ -13,7 +13,7 @@
 //!   what the numbers mean (`View`), never of the numbers.
 //! - The definitions stand in `specs/Map.antt` (the map), `Frame.antt` (push and pop), `Fork.antt` (split and join)
 //!   and `Holders.antt` (all stores of a run side by side). The laws over them, which have no representation in view,
-//!   stand in `proofs/`: `Laws`, `FrameLaws`, `HeldLaws`, `Partition`, `Plan`, `Steps`.
+//!   stand in `proofs/`: `Laws`, `FrameLaws`, `HeldLaws`, `Partition`, `Plan`, `Sorting`, `Steps`.
 //!
 //! Lemmas for others, in `proofs`:
 //! - `FrameLaws`: laws of frame numbers, and of frames pushed and popped.
@@ -22,6 +22,7 @@
 //! - `Order`: the order of spots is total, and only equal spots tie: what a map by spots rests on.
 //! - `Partition`: what a fork leaves to whom, and that its joins give the map back.
 //! - `Plan`: whole plans: what the children get, one after another, and that no two of them get one spot.
+//! - `Sorting`: in which order a fork takes spots makes no difference.
 //! - `Steps`: one more spot of a fork or a join, as a loop takes it.
 //!
 //! To change:

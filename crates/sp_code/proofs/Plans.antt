@@ -9,7 +9,7 @@ use Rattle.sp_tree.specs.Interference.{IsMember, AllDifferent}
 use Rattle.sp_cell.specs.declared.spot.Spot.{Spot}
 use Rattle.sp_cell.specs.declared.spot.Handing.{Handing}
 use Rattle.sp_cell.specs.Fork.{moved_of, shared_of, HasIndex}
-use Rattle.sp_cell.proofs.Plan.{in_or, in_front, in_back}
+use Rattle.sp_cell.proofs.Plan.{in_or, in_front, in_back, in_either}
 use Rattle.sp_cell.specs.Spots.{In, NotIn, IsDistinct}
 use Rattle.sp_code.specs.declared.code.ForkTable.{ForkTable}
 use Rattle.sp_code.specs.declared.code.Layout.{Layout}
@@ -51,11 +51,6 @@ out_of a ss h = ⊎_elim (λ i. absurd (h i)) (λ d. d) (in_or a ss)
 pub none_distinct : (ss : List Spot) → ((a : Spot) → In a ss → ⊥) → IsDistinct ss
 none_distinct [] h = tt
 none_distinct (s ∷ ss) h = absurd (h s (inl refl))
-
-pub in_either : (a : Spot) (xs ys : List Spot) → In a (xs ++ ys) → In a xs ⊎ In a ys
-in_either a [] ys h = inr h
-in_either a (b ∷ xs) ys (inl e) = inl (inl e)
-in_either a (b ∷ xs) ys (inr h) = ⊎_elim (λ k. inl (inr k)) (λ k. inr k) (in_either a xs ys h)
 
 distinct_both : (xs ys : List Spot) → IsDistinct xs → IsDistinct ys → ((a : Spot) → In a xs → In a ys → ⊥)
     → IsDistinct (xs ++ ys)

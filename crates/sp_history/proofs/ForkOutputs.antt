@@ -12,7 +12,7 @@ use Rattle.sp_cell.specs.Map.{cells_at}
 use Rattle.sp_cell.specs.Fork.{with_shared, with_away, with_index, index_frame, child_map, moved_of, shared_of}
 use Rattle.sp_cell.specs.Fork.{map_after_fork}
 use Rattle.sp_cell.specs.Spots.{In, NotIn, IsDistinct}
-use Rattle.sp_cell.proofs.Plan.{in_or, not_both, in_front, in_back, distinct_back}
+use Rattle.sp_cell.proofs.Plan.{in_or, not_both, in_front, in_back, in_either, distinct_back}
 use Rattle.sp_cell.proofs.Partition.{parent_moved, parent_rest, child_moved}
 use Rattle.sp_journal.specs.declared.entry.Birth.{Birth}
 use Rattle.sp_journal.specs.Maps.{at_key}
@@ -24,7 +24,6 @@ use Rattle.sp_code.specs.Memory.{Memory, Frame}
 use Rattle.sp_code.specs.PlainStore.{plain}
 use Rattle.sp_code.specs.Sound.{CanSplit}
 use Rattle.sp_code.specs.System.{Condition, Working, Joins, store_in, store_of, handing_of, child_or, plan_from}
-use Rattle.sp_code.proofs.Plans.{in_either}
 use Rattle.sp_history.specs.OutputHolder.{Share, HoldsIt, LendsIt, LacksIt, StoreIs, IsPart, AimsIn, IsShared}
 use Rattle.sp_history.proofs.Queues.{number_or, at_same, at_other}
 use Rattle.sp_history.proofs.Outputs.{not_output, output_known}

@@ -2,4 +2,3 @@ mod Ends
 mod Frames
 mod Places
 mod OneCellPieces
-mod Sorting

@@ -68,7 +68,7 @@ fn keep_each(slots: &mut Slots, spots: &[Spot]) -> Result<(), Memory>
 }
 
 /// Adds every spot, with nothing there yet.
-#[tactic(auto, using(crate::proofs::Sorting::away_permuted))]
+#[tactic(auto, using(sp_cell::proofs::Sorting::away_permuted))]
 pub(crate) fn keep_room(alloc: Global, slots: &mut Slots, spots: &[Spot]) -> Result<(), Memory>
     ensures { OnOk result (slots.new ≡ with_away slots.old spots.now) }
 {
@@ -121,7 +121,7 @@ fn lend_each(
 }
 
 /// Shares the pieces at the spots.
-#[tactic(auto, using(crate::proofs::Sorting::lent_permuted, crate::proofs::Sorting::pieces_permuted))]
+#[tactic(auto, using(sp_cell::proofs::Sorting::lent_permuted, sp_cell::proofs::Sorting::pieces_permuted))]
 pub(crate) fn lend(
     alloc: Global,
     from: &Slots,

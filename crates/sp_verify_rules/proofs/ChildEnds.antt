@@ -12,7 +12,8 @@ use Rattle.sp_cell.specs.Fork.{with_contents}
 use Rattle.sp_cell.proofs.FrameLaws.{is_same}
 use Rattle.sp_cell.proofs.Laws.{known_of_held, held_not_away}
 use Rattle.sp_cell.specs.Map.{Map, Content, Away, Plain, IsHeld, IsOutput, output_spot}
-use Rattle.sp_cell.proofs.Plan.{in_or, not_both, get_taken_in, get_taken_out, in_front, in_back, distinct_back}
+use Rattle.sp_cell.proofs.Plan.{in_or, not_both, get_taken_in, get_taken_out, in_front, in_back, in_either}
+use Rattle.sp_cell.proofs.Plan.{distinct_back}
 use Rattle.sp_cell.specs.Spots.{In, NotIn, IsDistinct}
 use Rattle.sp_code.specs.Machine.{Config, At}
 use Rattle.sp_code.specs.Memory.{CodeRun, Home, Memory, position_in}
@@ -26,7 +27,7 @@ use Rattle.sp_verify_rules.specs.Systems.{without_first, MovedSpot, moved_to, Le
 use Rattle.sp_verify_rules.proofs.Holdings.{head}
 use Rattle.sp_verify_rules.proofs.StoreLaws.{KeepsLengths, all_keeps}
 use Rattle.sp_verify_rules.proofs.ForkSteps.{has_held}
-use Rattle.sp_code.proofs.Plans.{out_of, in_either}
+use Rattle.sp_code.proofs.Plans.{out_of}
 use Rattle.sp_history.proofs.ForkOutputs.{distinct_apart}
 
 module _ (g : CodeRun) {Area : Type 0} (H : Area → List Home) (E : Area → ℕ → Type 0) (T : List Area

@@ -1,7 +1,7 @@
 use Rattle.std.proofs.Common.{◌∙◌, ◌++◌, List, ap, subst}
 use Rattle.sp_cell.specs.declared.spot.Spot.{Spot}
 use Rattle.sp_cell.specs.Spots.{In}
-use Rattle.sp_store.proofs.Sorting.{more_of_plan, permuted_of_plan}
+use Rattle.sp_cell.proofs.Sorting.{more_of_plan, permuted_of_plan}
 use Rattle.sp_store.proofs.fork.shares_in_order.Goals as goal
 use Rattle.sp_store.proofs.fork.shares_in_order.Goals.{then-not-ends_with+in_ok-extend_from_slice, else-not-ends_with}
 use Rattle.sp_store.proofs.fork.shares_in_order.Goals.{then-rises, else-rises}

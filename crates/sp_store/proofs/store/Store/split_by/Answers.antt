@@ -1,16 +1,15 @@
-use Rattle.std.proofs.Common.{◌≡◌, ℕ, ◌<◌, List, length, get_or, take, subst, sym, ap, ◌∙◌, IsSome, inl, arith}
+use Rattle.std.proofs.Common.{◌≡◌, ℕ, ◌<◌, List, length, get_or, subst, sym, ap, ◌∙◌, IsSome, inl, arith}
 use Rattle.std.specs.FinMap as map
 use Rattle.sp_cell.specs.declared.spot.Spot.{Spot}
 use Rattle.sp_cell.specs.declared.spot.Handing.{Handing}
 use Rattle.sp_cell.specs.Map.{Map, Plain, IsPiece, spot_cmp, with_map}
 use Rattle.sp_cell.specs.Fork.{with_shared, with_contents, map_after_fork, moved_of, shared_of}
 use Rattle.sp_cell.proofs.Plan.{each_shared, each_moved, distinct_in, ready_step, children_step, known_ready, take_all}
-use Rattle.sp_cell.proofs.Plan.{merged, at_each, at_places, in_of_at, index_at}
+use Rattle.sp_cell.proofs.Plan.{merged, at_each, at_places, in_of_at, index_at, lent_again}
 use Rattle.sp_cell.specs.Spots.{In}
 use Rattle.sp_cell.proofs.FrameLaws.{known_below}
 use Rattle.sp_cell.proofs.Laws.{known_of_held, known_of_piece}
 use Rattle.sp_cell.proofs.Steps.{known_away}
-use Rattle.sp_store.proofs.Sorting.{lent_again, lent_either_first}
 use Rattle.sp_store.proofs.store.Store.split_by.Goals as goal
 
 pub loop-handing-init : goal.loop-handing-init
@@ -60,10 +59,8 @@ prepare-requires-clause-frames c index =
 pub loop-handing-preserved : goal.loop-handing-preserved
 loop-handing-preserved c = let m = c.self.inside.slots in record {
   ready = c.in_ok-child.ensures.ready ∙ ap (with_shared m c.handing-item.result.shared) c.loop-handing.invariant.ready
-      ∙ lent_either_first m c.handing-item.result.shared c.in_ok-first.first.items
-      (with_shared m (shared_of (take c.loop-handing.handing-index c.args.plan.now)) map.empty)
-      ∙ ap (with_shared m c.in_ok-first.first.items) (ready_step m c.args.plan.now c.loop-handing.handing-index
-      c.handing-item.result c.loop-handing-test.true c.handing-item.is);
+      ∙ ready_step m c.in_ok-first.first.items c.args.plan.now c.loop-handing.handing-index c.handing-item.result
+      c.loop-handing-test.true c.handing-item.is;
   lent = c.in_ok-child.ensures.lent;
   children = c.in_ok-push.ensures.items ∙ rw (c.in_ok-child.ensures.child, c.loop-handing.invariant.children)
       (children_step m c.args.plan.now c.loop-handing.handing-index c.handing-item.result c.loop-handing-test.true

@@ -1,18 +1,18 @@
 -- In which order a fork takes spots makes no difference.
 use Rattle.std.proofs.Common.{◌≡◌, ◌∙◌, sym, subst, ℕ, suc, ◌<◌, List, [], ◌∷◌, length, get_or, arith, inl, inr}
-use Rattle.std.proofs.Common.{◌++◌, Some}
+use Rattle.std.proofs.Common.{◌++◌}
 use Rattle.std.specs.List.Sorted.{IsPermutation}
 use Rattle.std.proofs.lemmas.List.Elements.{Contains-from_at, at_from_Contains, Contains-get_or}
 use Rattle.std.proofs.lemmas.List.Sorted.{Contains-permutation, IsPermutation-sym}
 use Rattle.std.specs.FinMap as map
 use Rattle.sp_cell.specs.declared.spot.Spot.{Spot}
 use Rattle.sp_cell.specs.declared.spot.Handing.{Handing}
-use Rattle.sp_cell.specs.Map.{Map, Shared, IsPiece, cells_at}
+use Rattle.sp_cell.specs.Map.{Map, IsPiece}
 use Rattle.sp_cell.specs.Fork.{with_shared, with_away, shared_of}
 use Rattle.sp_cell.specs.Spots.{In, NotIn, PieceAtEach}
 use Rattle.sp_cell.proofs.Laws.{same_map}
 use Rattle.sp_cell.proofs.Plan.{in_or, in_of_at, not_both, get_away_in, get_away_out, get_lent_in, get_lent_out}
-use Rattle.sp_cell.proofs.Plan.{at_each, each_shared}
+use Rattle.sp_cell.proofs.Plan.{in_either, at_each, each_shared}
 
 at_in : (q : Spot) (ss : List Spot) → In q ss → (k : ℕ) × (k < length ss) × ((d : Spot) → get_or ss k d ≡ q)
 at_in q [] i = absurd i
@@ -49,53 +49,17 @@ pieces_permuted m xs ys p h k d b =
     (Contains-permutation ys xs s (IsPermutation-sym xs ys p) (Contains-get_or ys k d b)) in
     subst (λ (t : Spot). IsPiece (map.get m t)) (r.2 s) (h r.0 s r.1)
 
--- ---- shares that are made ready first
-
-in_rest : (q : Spot) (xs ys : List Spot) → NotIn q xs → In q (xs ++ ys) → In q ys
-in_rest q [] ys o i = i
-in_rest q (x ∷ xs) ys o (inl e) = absurd (not_both q (x ∷ xs) (inl e) o)
-in_rest q (x ∷ xs) ys o (inr i) = in_rest q xs ys o.1 i
+-- ---- spots of a whole plan
 
 -- spots of the plan and those that one more child shares are spots of the plan
 pub more_of_plan : (hs : List Handing) (i : ℕ) (h : Handing) → i < length hs → h ≡ get_or hs i h → (ss : List Spot)
     → ((q : Spot) → In q ss → In q (shared_of hs)) → (q : Spot) → In q (ss ++ h.shared) → In q (shared_of hs)
-more_of_plan hs i h b is ss before q at = elim (in_or q ss) [
+more_of_plan hs i h b is ss before q at = elim (in_either q ss h.shared at) [
   | inl j ↦ before q j
-  | inr o ↦ at_each (λ s. In s (shared_of hs)) h.shared (each_shared (λ s. In s (shared_of hs)) hs i h b is
-      (λ s k. k)) q (in_rest q ss h.shared o at)
+  | inr j ↦ at_each (λ s. In s (shared_of hs)) h.shared (each_shared (λ s. In s (shared_of hs)) hs i h b is (λ s k. k))
+      q j
 ]
 
 pub permuted_of_plan : (hs : List Handing) (xs ys : List Spot) → IsPermutation xs ys
     → ((q : Spot) → In q xs → In q (shared_of hs)) → (q : Spot) → In q ys → In q (shared_of hs)
 permuted_of_plan hs xs ys p before q i = before q (in_permuted ys xs q (IsPermutation-sym xs ys p) i)
-
--- it makes no difference whether some of the spots are shared once more
-pub lent_again : (m : Map) (xs ys : List Spot) → ((q : Spot) → In q ys → In q xs)
-    → with_shared m ys (with_shared m xs map.empty) ≡ with_shared m xs map.empty
-lent_again m xs ys inside = same_map _ _ (λ q. elim (in_or q ys) [
-  | inl i ↦ get_lent_in m ys (with_shared m xs map.empty) q i ∙ sym (get_lent_in m xs map.empty q (inside q i))
-  | inr o ↦ get_lent_out m ys (with_shared m xs map.empty) q o
-])
-
-get_lent_before : (m : Map) (xs ys : List Spot) (c : Map) (q : Spot) → In q xs
-    → map.get (with_shared m ys (with_shared m xs c)) q ≡ Some (Shared (cells_at m q))
-get_lent_before m xs ys c q i = elim (in_or q ys) [
-  | inl j ↦ get_lent_in m ys (with_shared m xs c) q j
-  | inr o ↦ get_lent_out m ys (with_shared m xs c) q o ∙ get_lent_in m xs c q i
-]
-
-get_lent_after : (m : Map) (xs ys : List Spot) (c : Map) (q : Spot) → NotIn q xs
-    → map.get (with_shared m ys c) q ≡ map.get (with_shared m ys (with_shared m xs c)) q
-get_lent_after m xs ys c q n = elim (in_or q ys) [
-  | inl j ↦ get_lent_in m ys c q j ∙ sym (get_lent_in m ys (with_shared m xs c) q j)
-  | inr o ↦ get_lent_out m ys c q o
-      ∙ sym (get_lent_out m ys (with_shared m xs c) q o ∙ get_lent_out m xs c q n)
-]
-
--- which of two lists is shared first makes no difference
-pub lent_either_first : (m : Map) (xs ys : List Spot) (c : Map)
-    → with_shared m xs (with_shared m ys c) ≡ with_shared m ys (with_shared m xs c)
-lent_either_first m xs ys c = same_map _ _ (λ q. elim (in_or q xs) [
-  | inl i ↦ get_lent_in m xs (with_shared m ys c) q i ∙ sym (get_lent_before m xs ys c q i)
-  | inr n ↦ get_lent_out m xs (with_shared m ys c) q n ∙ get_lent_after m xs ys c q n
-])
