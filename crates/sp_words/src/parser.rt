@@ -20,6 +20,21 @@ pub(crate) static SHOWS: [&str; 7] = [
     "end", "timeline", "census", "tree", "waiting", "all", "journal",
 ];
 
+// The greatest limits that a command may ask for.
+const MOST_TICKS: u64 = 1_000_000_000;
+
+const MOST_DEPTH: u64 = 10_000;
+
+const MOST_CELLS: u64 = 67_108_864;
+
+const MOST_PROCESSES: u64 = 1_000_000;
+
+const MOST_CHANNELS: u64 = 1_000_000;
+
+const MOST_ENTRIES: u64 = 10_000_000;
+
+const MOST_OUTPUT: u64 = 268_435_456;
+
 // A word that is no option, which has to be there.
 fn word_arg<'a>(alloc: Global, name: &'a str) -> Arg<'a>
     ensures rule { rule_of result ≡ word_rule name.entry.now }
@@ -91,13 +106,13 @@ fn with_limits<'a>(
     ensures rules { ChangesApp (λ a. fold with_rule a (map option_rule limit_parsers)) command.entry result }
     ensures local { IfOk command.entry IsLocal → IfOk result IsLocal }
 {
-    let command = with_number(command, alloc, "ticks", 1, 1_000_000_000);
-    let command = with_number(command, alloc, "depth", 1, 10_000);
-    let command = with_number(command, alloc, "cells", 1, 67_108_864);
-    let command = with_number(command, alloc, "processes", 1, 1_000_000);
-    let command = with_number(command, alloc, "channels", 1, 1_000_000);
-    let command = with_number(command, alloc, "entries", 1, 10_000_000);
-    with_number(command, alloc, "output", 1, 268_435_456)
+    let command = with_number(command, alloc, "ticks", 1, MOST_TICKS);
+    let command = with_number(command, alloc, "depth", 1, MOST_DEPTH);
+    let command = with_number(command, alloc, "cells", 1, MOST_CELLS);
+    let command = with_number(command, alloc, "processes", 1, MOST_PROCESSES);
+    let command = with_number(command, alloc, "channels", 1, MOST_CHANNELS);
+    let command = with_number(command, alloc, "entries", 1, MOST_ENTRIES);
+    with_number(command, alloc, "output", 1, MOST_OUTPUT)
 }
 
 fn run_command<'a>(alloc: Global) -> Result<Command<'a>, AllocError>
