@@ -14,6 +14,7 @@ use Rattle.sp_code.specs.Memory.{Home}
 use Rattle.sp_verify_rules.specs.Areas.{Area, Body, Child, homes, child_of, instr_at, table_named}
 use Rattle.sp_verify_rules.specs.Reach.{IsIn}
 use Rattle.sp_verify_rules.specs.NameRules.{Names, is_in, has_variable, some_has}
+use Rattle.sp_verify_rules.proofs.RankLaws.{in_front}
 use Rattle.sp_verify_rules.proofs.Readiness.{in_split}
 use Rattle.sp_verify_areas.specs.declared.homes.Homes.{Homes}
 use Rattle.sp_verify_areas.specs.declared.tree.Frame.{Frame}
@@ -144,11 +145,6 @@ unknown_none ls xs hs n l known = record { yes = λ z. absurd (cc z); no = λ z 
         let w = slice_get_within xs g.0 x g.1 in
         known g.0 x (omega (arith, w, l)) g.1 (large, absent)
 
-in_left : (x : ℕ) (xs ys : List ℕ) → IsIn x xs → IsIn x (xs ++ ys)
-in_left x [] ys i = absurd i
-in_left x (y ∷ xs) ys (inl e) = inl e
-in_left x (y ∷ xs) ys (inr i) = inr (in_left x xs ys i)
-
 in_right : (x : ℕ) (xs ys : List ℕ) → IsIn x ys → IsIn x (xs ++ ys)
 in_right x [] ys i = i
 in_right x (y ∷ xs) ys i = inr (in_right x xs ys i)
@@ -157,7 +153,7 @@ module _ (ls : List Layout) (xs ys : List ℕ) (hs : List Home) where
   pub unknown_first : (t : Bool) → Decides t (HasUnknown ls xs hs) → t ≡ true
       → Decides true (HasUnknown ls (xs ++ ys) hs)
   unknown_first t d e = let (x, among, large, absent) = d.yes e in
-      record { yes = λ z. (x, in_left x xs ys among, large, absent); no = λ z. absurd (cc z) }
+      record { yes = λ z. (x, in_front x xs ys among, large, absent); no = λ z. absurd (cc z) }
 
   pub unknown_second : (s t : Bool) → Decides s (HasUnknown ls xs hs) → s ≡ false → Decides t (HasUnknown ls ys hs)
       → Decides t (HasUnknown ls (xs ++ ys) hs)

@@ -105,7 +105,7 @@ most_same f g (w ∷ ws) h = rw (h w (inl refl), most_same f g ws (λ v m. h v (
 -- ---- ways
 
 -- what is in the front part of a list is in the list
-in_front : (q : ℕ) (xs ys : List ℕ) → IsIn q xs → IsIn q (xs ++ ys)
+pub in_front : (q : ℕ) (xs ys : List ℕ) → IsIn q xs → IsIn q (xs ++ ys)
 in_front q [] ys h = absurd h
 in_front q (x ∷ xs) ys (inl e) = inl e
 in_front q (x ∷ xs) ys (inr m) = inr (in_front q xs ys m)
