@@ -1,6 +1,5 @@
 pub mod Firsts
 pub mod Walks
-pub mod Carried
 pub mod Fields
 pub mod Standard
 pub mod Files

@@ -8,7 +8,7 @@ ghost use Rattle.sp_tree.specs.NamedOf as named;
 ghost use Rattle.sp_tree.specs.PlainSyntax.{Proc};
 ghost use Rattle.sp_tree.specs.SyntaxOf.{block_of, part_of, parts};
 ghost use Rattle.sp_scope.specs.Walks.{seen_block, declared_by};
-ghost use Rattle.sp_scope.specs.Carried.{Keeps};
+ghost use Rattle.sp_tree.specs.Carried.{Keeps};
 ghost use Rattle.sp_scope.specs.Firsts.{parts_first, part_first, block_first, block_local, inner_first, inner_local};
 ghost use Rattle.sp_scope.specs.Firsts.{opened_first, opened_local, opened_named, inner_named};
 
@@ -19,9 +19,10 @@ use crate::parts::{name_constant, name_type, name_variables};
 use crate::scopes::Scopes;
 use crate::statements::name_statement;
 use crate::variables::declare_formals;
-use crate::walk::Walk;
 use sp_base::{Boxed, List};
-use sp_tree::{Name, Named, NamedAnswer, NamedBlock, NamedStmt, SynBlock, SynFormal, SynPart};
+use sp_tree::{
+    Name, Named, NamedAnswer, NamedBlock, NamedStmt, SynBlock, SynFormal, SynPart, Walk,
+};
 use std::alloc::Global;
 
 fn nothing(alloc: Global) -> Named

@@ -2,14 +2,15 @@
 
 ghost use Rattle.std.specs.Prelude.{◌≡◌};
 ghost use Rattle.sp_tree.specs.NamedTree.{named_value, named_const, named_constants};
-ghost use Rattle.sp_scope.specs.Carried.{Keeps};
+ghost use Rattle.sp_tree.specs.Carried.{Keeps};
 ghost use Rattle.sp_scope.specs.Firsts.{value_first, constants_first, bound_first};
 
 use crate::declarations::{check_constant, check_own_constant, constant_number};
 use crate::scopes::Scopes;
-use crate::walk::Walk;
 use sp_base::List;
-use sp_tree::{FirstRefusal, Name, NamedConst, NamedValue, SynConst, SynValue, earlier_refusal};
+use sp_tree::{
+    FirstRefusal, Name, NamedConst, NamedValue, SynConst, SynValue, Walk, earlier_refusal,
+};
 use std::alloc::Global;
 
 /// The first rule that is broken up to the end of a constant.

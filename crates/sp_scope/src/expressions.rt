@@ -3,7 +3,7 @@
 ghost use Rattle.std.specs.Prelude.{◌≡◌, map};
 ghost use Rattle.std.specs.Option.{option_copied};
 ghost use Rattle.sp_scope.specs.Walks.{width_of};
-ghost use Rattle.sp_scope.specs.Carried.{Keeps};
+ghost use Rattle.sp_tree.specs.Carried.{Keeps};
 ghost use Rattle.sp_tree.specs.PhaseResults.{earlier_refusal};
 ghost use Rattle.sp_tree.specs.NameRules.{broken_rule, Operand};
 ghost use Rattle.sp_tree.specs.Scopes.{find, Env};
@@ -26,11 +26,11 @@ use crate::rules::{
     bare_rule, function_rule, needs_variable, operand_rule, target_rule, width_rule,
 };
 use crate::scopes::Scopes;
-use crate::walk::Walk;
 use sp_base::{Boxed, List, Place};
 use sp_tree::{
     BinaryOp, FirstRefusal, Meaning, Name, NamedArg, NamedExpr, NamedExprForm, NamedSelector,
-    NamedVar, Passing, SynArg, SynExpr, SynExprForm, SynSelector, SynVar, UnaryOp, earlier_refusal,
+    NamedVar, Passing, SynArg, SynExpr, SynExprForm, SynSelector, SynVar, UnaryOp, Walk,
+    earlier_refusal,
 };
 use std::alloc::Global;
 

@@ -7,7 +7,7 @@ ghost use Rattle.sp_tree.specs.NameWalk.{references, block_meaning, title_local}
 ghost use Rattle.sp_tree.specs.NamedTree.{answer_named, answer_of};
 ghost use Rattle.sp_tree.specs.NamedOf as named;
 ghost use Rattle.sp_scope.specs.Walks.{seen_block, heading_named, declared_by};
-ghost use Rattle.sp_scope.specs.Carried.{Keeps};
+ghost use Rattle.sp_tree.specs.Carried.{Keeps};
 ghost use Rattle.sp_scope.specs.Flags.{flags, all_flags};
 ghost use Rattle.sp_scope.specs.Firsts.{answer_first, title_first};
 
@@ -18,10 +18,9 @@ use crate::have;
 use crate::numbers::{next_block, next_variable};
 use crate::scopes::Scopes;
 use crate::variables::{name_formals, numbers};
-use crate::walk::Walk;
 use sp_base::{Halt, List};
 use sp_tree::{
-    FirstRefusal, Meaning, Name, Named, NamedAnswer, Role, Sort, SynFormal, Variable,
+    FirstRefusal, Meaning, Name, Named, NamedAnswer, Role, Sort, SynFormal, Variable, Walk,
     earlier_refusal,
 };
 use std::alloc::Global;

@@ -11,9 +11,9 @@
 //! To know:
 //! - One pass consumes the syntax tree, gives each part with numbers for names, and carries the first broken rule so
 //!   far: `specs/Walks.antt` and `Firsts.antt`.
-//! - `Walk` of `src/walk.rt` is what the walk carries: the first broken rule so far, and whether memory was refused. A
-//!   walk that was refused memory is lost: it goes on to its end and lets nothing go on the way, and what it gives is
-//!   no answer. `specs/Carried.antt` is the form of its contracts.
+//! - `Walk` of `sp_tree` is what the walk carries: the first broken rule so far, and whether memory was refused. A walk
+//!   that was refused memory is lost: it goes on to its end and lets nothing go on the way, and what it gives is no
+//!   answer. `Keeps` of `sp_tree`'s `specs/Carried.antt` is the form of its contracts.
 //! - `src/scopes.rt` has the tables of declarations, one for each block. `src/rules.rt` and `declarations.rt` have the
 //!   rules, a function for each place at which a name may stand. `src/expressions.rt`, `statements.rt`, `parts.rt`,
 //!   `headings.rt` and `blocks.rt` are the walk, `program.rt` the tables of the program.
@@ -47,6 +47,5 @@ mod scopes;
 mod standard;
 mod statements;
 mod variables;
-mod walk;
 
 pub use program::resolve;

@@ -11,7 +11,7 @@ ghost use Rattle.sp_tree.specs.NamedOf as named;
 ghost use Rattle.sp_tree.specs.PlainSyntax.{Const, Kind, Var};
 ghost use Rattle.sp_tree.specs.NameRules.{Declares};
 ghost use Rattle.sp_tree.specs.NameFirst.{at_site};
-ghost use Rattle.sp_scope.specs.Carried.{Keeps};
+ghost use Rattle.sp_tree.specs.Carried.{Keeps};
 ghost use Rattle.sp_scope.specs.Firsts.{part_first, enumerated_first, kind_first, kind_constants_first};
 
 use crate::constants::check_value;
@@ -21,9 +21,10 @@ use crate::kinds::{check_kind_form, copy_const, name_enumerated, name_kind};
 use crate::numbers::{next_constant, next_kind};
 use crate::scopes::Scopes;
 use crate::variables::{declare_variables, push_variables};
-use crate::walk::Walk;
 use sp_base::{Halt, List};
-use sp_tree::{Meaning, Name, Named, NamedConstant, NamedKind, Role, Sort, SynConst, SynKind};
+use sp_tree::{
+    Meaning, Name, Named, NamedConstant, NamedKind, Role, Sort, SynConst, SynKind, Walk,
+};
 use std::alloc::Global;
 
 /// Declares a constant in the innermost block.

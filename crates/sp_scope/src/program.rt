@@ -12,18 +12,17 @@ ghost use Rattle.sp_tree.specs.SyntaxOf as plain;
 ghost use Rattle.sp_tree.specs.declared.checked.Role.TheVariants as role;
 ghost use Rattle.sp_scope.specs.Files.{files_flagged};
 ghost use Rattle.sp_scope.specs.Firsts.{files_first, block_first};
-ghost use Rattle.sp_scope.specs.Carried.{Keeps};
+ghost use Rattle.sp_tree.specs.Carried.{Keeps};
 ghost use Rattle.sp_scope.specs.Walks.{PassesTo, seen_block, standard_tables, own_tables};
 
 use crate::block_parts::{BlockParts, PassResult};
 use crate::blocks::{beside, block_in_front, name_block};
 use crate::have;
 use crate::scopes::Scopes;
-use crate::walk::Walk;
 use sp_base::{Halt, List, MAXINT, Place, Rule, Text};
 use sp_tree::{
     FirstRefusal, Name, Named, NamedConst, NamedConstant, NamedKind, NamedKindForm, NamedValue,
-    Role, SynBlock, Syntax, Variable, breaks, breaks_if, earlier_refusal,
+    Role, SynBlock, Syntax, Variable, Walk, breaks, breaks_if, earlier_refusal,
 };
 use std::alloc::Global;
 

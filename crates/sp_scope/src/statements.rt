@@ -2,7 +2,7 @@
 
 ghost use Rattle.std.specs.Prelude.{◌≡◌, map, false, option_map, Some};
 ghost use Rattle.std.specs.Option.{option_copied};
-ghost use Rattle.sp_scope.specs.Carried.{Keeps};
+ghost use Rattle.sp_tree.specs.Carried.{Keeps};
 ghost use Rattle.sp_tree.specs.Scopes.{find, inner_env, local_of_outer};
 ghost use Rattle.sp_tree.specs.NameWalk.{statement_local, form_local, statements_local, arms_local};
 ghost use Rattle.sp_tree.specs.NameWalk.{arm_local, branches_local, index_local};
@@ -28,11 +28,10 @@ use crate::numbers::next_variable;
 use crate::rules::{assign_rule, loop_rule, procedure_rule};
 use crate::scopes::Scopes;
 use crate::variables::declare_variable;
-use crate::walk::Walk;
 use sp_base::{Boxed, List, Place};
 use sp_tree::{
     Meaning, Name, NamedArg, NamedArm, NamedBranch, NamedExpr, NamedForm, NamedStmt, NamedVar,
-    Role, Sort, SynArg, SynArm, SynBranch, SynExpr, SynForm, SynStmt, SynVar,
+    Role, Sort, SynArg, SynArm, SynBranch, SynExpr, SynForm, SynStmt, SynVar, Walk,
 };
 use std::alloc::Global;
 

@@ -6,16 +6,15 @@ ghost use Rattle.sp_tree.specs.Scopes.{inner_env, with_declaration, variable};
 ghost use Rattle.sp_tree.specs.declared.meaning.Sort.TheVariants as sort;
 ghost use Rattle.sp_tree.specs.NameWalk.{names_local, formals_local, role_of};
 ghost use Rattle.sp_tree.specs.NamedTree.{variables_named, formals_named, numbers};
-ghost use Rattle.sp_scope.specs.Carried.{Keeps};
+ghost use Rattle.sp_tree.specs.Carried.{Keeps};
 ghost use Rattle.sp_scope.specs.Firsts.{names_first, formals_first, heading_first};
 
 use crate::declarations::{check_declares, check_kind, kind_number};
 use crate::have;
 use crate::numbers::{more, next_variable};
 use crate::scopes::Scopes;
-use crate::walk::Walk;
 use sp_base::{Halt, List};
-use sp_tree::{Meaning, Name, Role, Sort, SynFormal, Variable};
+use sp_tree::{Meaning, Name, Role, Sort, SynFormal, Variable, Walk};
 use std::alloc::Global;
 
 /// Declares a variable of a role in the innermost block.

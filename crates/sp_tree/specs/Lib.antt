@@ -29,6 +29,7 @@ pub mod PlainNamed
 pub mod NamedOf
 pub mod Scopes
 pub mod PhaseResults
+pub mod Carried
 pub mod NameRules
 pub mod NameWalk
 pub mod NamedTree

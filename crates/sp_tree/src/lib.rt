@@ -14,6 +14,9 @@
 //!   at one place that of the earlier row.
 //! - `PhaseResults` (a refusal or none): `earlier_refusal` is the first of two, `breaks` and `refusal_if` make one.
 //!   `PassResult`: a part of a tree with the first rule broken up to its end.
+//! - `Walk`: what a walk over a tree carries from part to part: the first broken rule, and whether memory was refused.
+//!   `note` takes one more rule; `after`, `take`, `push`, `boxed`, `join`, `list`, `text`, `number` and `integer` lose
+//!   the walk where memory was refused. `specs/Carried.antt` is the form of what a walk promises.
 //! - `lower`: the lower case of a letter, any other byte itself.
 //! - `MAX_TEXT`, `MAX_NAME`, `MAX_NESTING`: how many bytes a text and a name may have, how deep parts may lie.
 //!
@@ -83,6 +86,7 @@ mod profile;
 pub mod sign;
 mod syntax;
 mod token;
+mod walk;
 pub mod word;
 
 pub use breach_order::{FirstRefusal, PassResult, before, breaks, breaks_if, earlier_refusal, row};
@@ -103,3 +107,4 @@ pub use syntax::{
     SynGroup, SynKind, SynPart, SynSelector, SynStmt, SynValue, SynVar, Syntax,
 };
 pub use token::{Kind, Token};
+pub use walk::Walk;

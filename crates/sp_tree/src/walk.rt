@@ -1,11 +1,11 @@
 //! What a walk carries from part to part: the first broken rule so far, and whether memory was refused.
 
-ghost use Rattle.std.specs.Prelude.{◌≡◌, ◌++◌, ◌∷◌, [], ℕ, List, Ok, Some};
+ghost use Rattle.std.specs.Prelude.{◌≡◌, ◌++◌, ◌∷◌, [], ℕ, ℤ, List, Ok, Some};
 ghost use Rattle.sp_tree.specs.PhaseResults.{Answers, FirstRefusal, earlier_refusal};
-ghost use Rattle.sp_scope.specs.Carried.{Keeps};
+ghost use Rattle.sp_tree.specs.Carried.{Keeps};
 
+use crate::breach_order::{FirstRefusal, earlier_refusal};
 use sp_base::{Boxed, Halt, List, Text};
-use sp_tree::{FirstRefusal, earlier_refusal};
 use std::alloc::Global;
 
 /// The first broken rule so far, and whether memory was refused. A walk that was refused memory is lost: what it gives
@@ -46,6 +46,19 @@ impl Walk {
     /// The number. If there is none it loses the walk and gives 0.
     pub fn number(&mut self, found: Result<u32, Halt>) -> u32
         ensures { (n : ℕ) → Answers found (Ok n) → Keeps self.old self.new self.old.first (result ≡ n) }
+    {
+        match found {
+            Ok(number) => number,
+            Err(_) => {
+                self.is_lost = true;
+                0
+            }
+        }
+    }
+
+    /// The number, in the same way.
+    pub fn integer(&mut self, found: Result<i64, Halt>) -> i64
+        ensures { (n : ℤ) → Answers found (Ok n) → Keeps self.old self.new self.old.first (result ≡ n) }
     {
         match found {
             Ok(number) => number,
