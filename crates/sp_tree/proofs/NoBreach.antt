@@ -7,12 +7,13 @@ use Rattle.sp_base.specs.declared.rule.Rule.TheVariants as rule
 use Rattle.sp_tree.specs.PlainChecked as p
 use Rattle.sp_tree.specs.Plain.{Program, Block}
 use Rattle.sp_tree.specs.Bare.{bare_statement, bare_statements, bare_actuals, bare_block, without_places}
-use Rattle.sp_tree.specs.Uses.{Use, Target, Seen, In_stmt, In_stmts}
+use Rattle.sp_tree.specs.Uses.{Use, Target, Seen, CallOf, In_stmt, In_stmts}
 use Rattle.sp_tree.specs.Sets.{Reach, IsTarget, IsUsed, Implicit}
 use Rattle.sp_tree.specs.Interference.{refs, IsMember, AllDifferent, KeepsI1, KeepsI5, IsIndexOf, IsFreeUse}
 use Rattle.sp_tree.specs.Sites.{Site, SplitsAt, SpreadsAt, LoopsAt, CallsAt, StopsAt, statement_sites}
 use Rattle.sp_tree.specs.Interferes.{IsSite, place_of, ClashesIn, SplitBreaks, Repeats, CallRepeats, PassesImplicit}
 use Rattle.sp_tree.specs.Interferes.{Interferes}
+use Rattle.sp_tree.proofs.Closure.{called_in}
 use Rattle.sp_tree.proofs.UseSites.{KeepsSite, AllKeep, statement_kept}
 
 module _ (g : Program) where
@@ -24,9 +25,9 @@ module _ (g : Program) where
     where
       none : IsUsed g (In_stmts (bare_statements p.NoStatement)) x → ⊥
       none (inl ([], r)) = r
-      none (inl (b ∷ bs, r)) = r.1
+      none (inl (b ∷ bs, step)) = step.is_called
       none (inr ([], r)) = r
-      none (inr (b ∷ bs, r)) = r.1
+      none (inr (b ∷ bs, step)) = step.is_called
   clash s (p.AndThen t rest) calm x = let later = clash s rest (λ at c. calm at (inr c)) x in
       (one later.0, other later.1)
     where
@@ -34,8 +35,13 @@ module _ (g : Program) where
           → Reach g (In_stmt (bare_statement t)) bs u ⊎ Reach g (In_stmts (bare_statements rest)) bs u
       one_of u [] (inl h) = inl h
       one_of u [] (inr h) = inr h
-      one_of u (b ∷ bs) (args, inl h, k, at, passes, r) = inl (args, h, k, at, passes, r)
-      one_of u (b ∷ bs) (args, inr h, k, at, passes, r) = inr (args, h, k, at, passes, r)
+      one_of u (b ∷ bs) step = go step.is_called
+        where
+          go : In_stmt (bare_statement t) (CallOf b step.actuals)
+              ⊎ In_stmts (bare_statements rest) (CallOf b step.actuals)
+              → Reach g (In_stmt (bare_statement t)) (b ∷ bs) u ⊎ Reach g (In_stmts (bare_statements rest)) (b ∷ bs) u
+          go (inl h) = inl (called_in g step h)
+          go (inr h) = inr (called_in g step h)
 
       aimed : (r : IsTarget g (In_stmts (bare_statements (p.AndThen t rest))) x)
           → IsTarget g (In_stmt (bare_statement t)) x ⊎ IsTarget g (In_stmts (bare_statements rest)) x

@@ -256,18 +256,19 @@ module _ (p : Program) (claims : List Claim) where
     pub reached_target : (bs : List ℕ) (x b : ℕ) (k : Block) → slice_get p.blocks b ≡ Some k
         → Reach p (In_stmt k.body) bs (Target x) → IsFree p b x → has (T b) x ≡ true
     reached_target [] x b k e r f = covered b x (T b) (closed_use b k e (Target x) r) f
-    reached_target (c ∷ bs) x b k e (args, call, body, block, free, r) f =
-        let inner : has (T c) x ≡ true = reached_target bs x c body block r free in
+    reached_target (c ∷ bs) x b k e step f =
+        let inner : has (T c) x ≡ true =
+        reached_target bs x c step.block step.is_block step.rest step.is_of_callers in
         covered b x (T b) (each_has (covers b (T b)) (T c) x
-        (first_true _ (each (covers b (S b)) (S c)) (closed_use b k e (CallOf c args) call)) inner) f
+        (first_true _ (each (covers b (S b)) (S c)) (closed_use b k e (CallOf c step.actuals) step.is_called)) inner) f
 
     pub reached_seen : (bs : List ℕ) (x b : ℕ) (k : Block) → slice_get p.blocks b ≡ Some k
         → Reach p (In_stmt k.body) bs (Seen x) → IsFree p b x → has (S b) x ≡ true
     reached_seen [] x b k e r f = covered b x (S b) (closed_use b k e (Seen x) r) f
-    reached_seen (c ∷ bs) x b k e (args, call, body, block, free, r) f =
-        let inner : has (S c) x ≡ true = reached_seen bs x c body block r free in
+    reached_seen (c ∷ bs) x b k e step f =
+        let inner : has (S c) x ≡ true = reached_seen bs x c step.block step.is_block step.rest step.is_of_callers in
         covered b x (S b) (each_has (covers b (S b)) (S c) x
-        (second_true (each (covers b (T b)) (T c)) _ (closed_use b k e (CallOf c args) call)) inner) f
+        (second_true (each (covers b (T b)) (T c)) _ (closed_use b k e (CallOf c step.actuals) step.is_called)) inner) f
 
     aimed_here : (us : List Use) (x : ℕ) → Among (Target x) us → has (aims_of us) x ≡ true
     aimed_here [] x a = absurd a
@@ -340,16 +341,16 @@ module _ (p : Program) (claims : List Claim) where
     pub target_has : (Here : Use → Type 0) (us : List Use) → ((u : Use) → Here u → Among u us) → (x : ℕ)
         → IsTarget p Here x → has (aims_of us) x ≡ true
     target_has Here us m x ([], r) = aimed_here us x (m (Target x) r)
-    target_has Here us m x (c ∷ bs, (args, call, body, block, free, r)) =
-        aimed_called us x c args (m (CallOf c args) call)
-        (reached_target bs x c body block r free)
+    target_has Here us m x (c ∷ bs, step) =
+        aimed_called us x c step.actuals (m (CallOf c step.actuals) step.is_called)
+        (reached_target bs x c step.block step.is_block step.rest step.is_of_callers)
 
     seen_has : (Here : Use → Type 0) (us : List Use) → ((u : Use) → Here u → Among u us) → (x : ℕ) → IsSeen p Here x
         → has (sees_of us) x ≡ true
     seen_has Here us m x ([], r) = seen_here us x (m (Seen x) r)
-    seen_has Here us m x (c ∷ bs, (args, call, body, block, free, r)) =
-        seen_called us x c args (m (CallOf c args) call)
-        (reached_seen bs x c body block r free)
+    seen_has Here us m x (c ∷ bs, step) =
+        seen_called us x c step.actuals (m (CallOf c step.actuals) step.is_called)
+        (reached_seen bs x c step.block step.is_block step.rest step.is_of_callers)
 
     I1_kept : (ss : Stmts) → keeps_I1 ss ≡ true → KeepsI1 p ss
     I1_kept No h = tt

@@ -15,7 +15,7 @@ use Rattle.sp_tree.specs.PlainChecked as p
 use Rattle.sp_tree.specs.Plain.{Program, Block, Actuals}
 use Rattle.sp_tree.specs.Bare.{bare_statement, bare_statements, bare_actuals, bare_block, without_places}
 use Rattle.sp_tree.specs.Uses.{Use, Target, Seen, CallOf, ParallelOf, ForallOf, Stop, In_stmt, In_stmts}
-use Rattle.sp_tree.specs.Sets.{IsBelow, Reach, IsTarget, IsUsed, ImplicitTarget, Implicit}
+use Rattle.sp_tree.specs.Sets.{IsBelow, IsTarget, IsUsed, ImplicitTarget, Implicit}
 use Rattle.sp_tree.specs.Interference.{refs, IsMember, AllDifferent, KeepsI1, KeepsI5, IsCalledInside, IsFunction}
 use Rattle.sp_tree.specs.Sites.{Site, SplitsAt, SpreadsAt, LoopsAt, CallsAt, StopsAt, statement_sites}
 use Rattle.sp_tree.specs.Interferes.{IsSite, ClashesIn, SplitBreaks, Repeats, CallRepeats, PassesImplicit, SiteBreaks}
@@ -24,6 +24,7 @@ use Rattle.sp_tree.proofs.UsesOf.{Among, stmt_uses, stmt_among}
 use Rattle.sp_tree.proofs.SetCertificates.{Claim, has, each, each_has, all_uses, use_passes, member_has, T, S}
 use Rattle.sp_tree.proofs.SetCertificates.{aims_of, keeps}
 use Rattle.sp_tree.proofs.SetCertificates.{bodies, reached_target, reached_seen, target_has, use_kept}
+use Rattle.sp_tree.proofs.Closure.{target_part, used_part}
 use Rattle.sp_tree.proofs.CallClosure.{IsClosedUnderCalls, complete}
 use Rattle.sp_tree.proofs.NoBreach.{block_at}
 
@@ -85,37 +86,25 @@ run_has (Stop ∷ us) f args (inr a) = run_has us f args a
 -- where a site keeps the rules, no place breaks them
 module _ (g : Program) where
   -- what is reached from a statement is reached from the list in which it stands
-  behind : (s : p.Statement) (rest : p.Statements) (u : Use) (bs : List ℕ)
-      → Reach g (In_stmts (bare_statements rest)) bs u → Reach g (In_stmts (bare_statements (p.AndThen s rest))) bs u
-  behind s rest u [] h = inr h
-  behind s rest u (b ∷ bs) (args, h, k, at, passes, r) = (args, inr h, k, at, passes, r)
+  in_list : (s : p.Statement) (rest : p.Statements) (u : Use) → In_stmt (bare_statement s) u
+      → In_stmts (bare_statements (p.AndThen s rest)) u
+  in_list s rest u h = inl h
 
-  first : (s : p.Statement) (rest : p.Statements) (u : Use) (bs : List ℕ) → Reach g (In_stmt (bare_statement s)) bs u
-      → Reach g (In_stmts (bare_statements (p.AndThen s rest))) bs u
-  first s rest u [] h = inl h
-  first s rest u (b ∷ bs) (args, h, k, at, passes, r) = (args, inl h, k, at, passes, r)
-
-  used_first : (s : p.Statement) (rest : p.Statements) (x : ℕ) → IsUsed g (In_stmt (bare_statement s)) x
-      → IsUsed g (In_stmts (bare_statements (p.AndThen s rest))) x
-  used_first s rest x (inl (bs, r)) = inl (bs, first s rest (Target x) bs r)
-  used_first s rest x (inr (bs, r)) = inr (bs, first s rest (Seen x) bs r)
-
-  used_behind : (s : p.Statement) (rest : p.Statements) (x : ℕ) → IsUsed g (In_stmts (bare_statements rest)) x
-      → IsUsed g (In_stmts (bare_statements (p.AndThen s rest))) x
-  used_behind s rest x (inl (bs, r)) = inl (bs, behind s rest (Target x) bs r)
-  used_behind s rest x (inr (bs, r)) = inr (bs, behind s rest (Seen x) bs r)
+  in_longer : (s : p.Statement) (rest : p.Statements) (u : Use) → In_stmts (bare_statements rest) u
+      → In_stmts (bare_statements (p.AndThen s rest)) u
+  in_longer s rest u h = inr h
 
   no_clash : (s : p.Statement) (rest : p.Statements) (at : Place)
       → ((x : ℕ) → IsTarget g (In_stmt (bare_statement s)) x → IsUsed g (In_stmts (bare_statements rest)) x → ⊥)
       → ((x : ℕ) → IsUsed g (In_stmt (bare_statement s)) x → IsTarget g (In_stmts (bare_statements rest)) x → ⊥)
       → ClashesIn g s rest at → ⊥
   no_clash s p.NoStatement at one other h = h
-  no_clash s (p.AndThen t rest) at one other (inl (e, (x, inl (a, u)))) = one x a (used_first t rest x u)
-  no_clash s (p.AndThen t rest) at one other (inl (e, (x, inr (u, (bs, r))))) =
-      other x u (bs, first t rest (Target x) bs r)
+  no_clash s (p.AndThen t rest) at one other (inl (e, (x, inl (a, u)))) = one x a (used_part g (in_list t rest) x u)
+  no_clash s (p.AndThen t rest) at one other (inl (e, (x, inr (u, a)))) =
+      other x u (target_part g (in_list t rest) x a)
   no_clash s (p.AndThen t rest) at one other (inr h) =
-      no_clash s rest at (λ x a u. one x a (used_behind t rest x u))
-      (λ x u a. other x u (a.0, behind t rest (Target x) a.0 a.1)) h
+      no_clash s rest at (λ x a u. one x a (used_part g (in_longer t rest) x u))
+      (λ x u a. other x u (target_part g (in_longer t rest) x a)) h
 
   no_split : (ss : p.Statements) (at : Place) → KeepsI1 g (bare_statements ss) → SplitBreaks g ss at → ⊥
   no_split p.NoStatement at k h = h

@@ -22,11 +22,19 @@ module _ (p : Program) where
   IsUseOfCallers b Stop = Unit
   IsUseOfCallers _ _ = ⊥
 
+  -- a call of block b is among the uses Here, those who call it have the use as well, and Rest is so of the block
+  pub record CallStep (Here : Use → Type 0) (b : ℕ) (u : Use) (Rest : Block → Type 0) : Type 0 where
+    pub actuals : Actuals
+    pub is_called : Here (CallOf b actuals)
+    pub block : Block
+    pub is_block : slice_get p.blocks b ≡ Some block
+    pub is_of_callers : IsUseOfCallers b u
+    pub rest : Rest block
+
   -- by a path of calls from where the uses Here stand, this use
   abbrev pub Reach : (Use → Type 0) → List ℕ → Use → Type 0
   Reach Here [] u = Here u
-  Reach Here (b ∷ bs) u = (args : Actuals) × Here (CallOf b args) × (k : Block) × (slice_get p.blocks b ≡ Some k)
-      × IsUseOfCallers b u × Reach (In_stmt k.body) bs u
+  Reach Here (b ∷ bs) u = CallStep Here b u (λ k. Reach (In_stmt k.body) bs u)
 
   -- target and expression variables
   abbrev pub IsTarget : (Use → Type 0) → ℕ → Type 0
