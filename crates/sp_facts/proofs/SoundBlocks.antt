@@ -22,6 +22,7 @@ use Rattle.sp_types.specs.TypeWalk as w
 use Rattle.sp_types.specs.TypeWalk.{with_first_number, starts_of, statement_after, places_of}
 use Rattle.sp_types.specs.CheckedTree.{checked_statement, checked_block, checked_blocks}
 use Rattle.sp_tree.specs.Bare.{bare_block, bare_statement}
+use Rattle.sp_tree.proofs.CallClosure.{from_call, stop_is}
 use Rattle.sp_facts.specs.MatchingTables.{TablesMatch}
 use Rattle.sp_facts.specs.TypedBlocks.{AreBlocksTyped}
 use Rattle.sp_facts.specs.ScopeFacts.{IsInForall}
@@ -193,7 +194,10 @@ module _ (s : syntax.Program) (calm : broken_name_rules s ≡ []) (no_types : ty
       by : (b : Bool) → IsCallable (NeverStops p_) b f → b ≡ false → (In_stmt c.body Stop → ⊥)
           × ((g : ℕ) (args : Actuals) → In_stmt c.body (CallOf g args) → NeverStops p_ g)
       by true h e = absurd (cc e)
-      by false h e = ((λ i. h (c, at, [], i)), λ g args i (k, kat, bs, r). h (c, at, g ∷ bs, (args, i, k, kat, tt, r)))
+      by false h e = (
+        (λ i. h (c, at, [], i)),
+        λ g args i leads. h (c, at, from_call p_ (In_stmt c.body) g args Stop i (stop_is p_ g leads)),
+      )
 
   pub block_fine : (f q : ℕ) (c : plain.Block) → slice_get p_.blocks f ≡ Some c
       → IsSoundBlock p_ moves shares (NeverStops p_) f q c

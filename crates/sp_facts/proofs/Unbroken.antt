@@ -55,10 +55,11 @@ module _ (g : c.Program) (calm : KeepsInterference g) where
   function_is_silent f x b at ans (k, kat, [], r) =
       let m = block_at g.blocks f k kat in
       silent_use f m.0 m.1 (b, x, at, ans) Stop (subst (λ (z : plain.Block). In_stmt z.body Stop) (sym m.2) r)
-  function_is_silent f x b at ans (k, kat, d ∷ ds, (args, h, next, nat, passes, r)) =
+  function_is_silent f x b at ans (k, kat, d ∷ ds, step) =
       let m = block_at g.blocks f k kat in
-      silent_use f m.0 m.1 (b, x, at, ans) (CallOf d args)
-      (subst (λ (z : plain.Block). In_stmt z.body (CallOf d args)) (sym m.2) h) (next, nat, ds, r)
+      silent_use f m.0 m.1 (b, x, at, ans) (CallOf d step.actuals)
+      (subst (λ (z : plain.Block). In_stmt z.body (CallOf d step.actuals)) (sym m.2) step.is_called)
+      (step.block, step.is_block, ds, step.rest)
 
 module _ (s : syntax.Program) (calm : broken_name_rules s ≡ [])
     (kept : KeepsInterference (program_checked (program_named s))) where
