@@ -15,6 +15,7 @@ use Rattle.sp_tree.specs.Uses.{Use, Target, Seen, CallOf, ParallelOf, ForallOf, 
 use Rattle.sp_tree.specs.Sets.{IsTarget, IsSeen}
 use Rattle.sp_tree.specs.Interference.{IsMember, AllDifferent}
 use Rattle.sp_tree.proofs.UsesOf.{Among, stmt_uses, stmt_among}
+use Rattle.sp_tree.proofs.CallClosure.{from_call}
 use Rattle.sp_code.specs.Scopes.{is_given}
 use Rattle.sp_varsets.specs.declared.sets.Sets.{Sets}
 use Rattle.sp_varsets.specs.AreSets.{AreSets, implicit_targets_of, implicit_expressions_of}
@@ -156,8 +157,7 @@ module _ (tree : c.Program) (sets : Sets) where
     use_targets_is s x (CallOf b args) h e =
         let two = and_parts (is_given (slice_get tree.blocks b)) (has (implicit_targets_of sets b) x) e in
         let k = block_given tree b two.0 in
-        let (called, found, free, (calls, reach)) = ((are.blocks b k.0 k.1).targets x).0 two.1 in
-        (b ∷ calls, (args, h, called, found, free, reach))
+        from_call (without_places tree) (In_stmt s) b args (Target x) h (((are.blocks b k.0 k.1).targets x).0 two.1)
     use_targets_is s x (ParallelOf ss) h e = absurd (true≢false (sym e))
     use_targets_is s x (ForallOf y t) h e = absurd (true≢false (sym e))
     use_targets_is s x Stop h e = absurd (true≢false (sym e))
@@ -171,11 +171,12 @@ module _ (tree : c.Program) (sets : Sets) where
     unfolding is_target use_targets
     target_tells s x ([], h) = use_finds (use_targets x) (stmt_uses s) (Target x) (stmt_among s (Target x) h)
         (eq-eqb x x refl)
-    target_tells s x (b ∷ bs, (args, h, k, e, free, reach)) =
-        let m = given_block tree b k e in
-        use_finds (use_targets x) (stmt_uses s) (CallOf b args) (stmt_among s (CallOf b args) h)
+    target_tells s x (b ∷ bs, step) =
+        let m = given_block tree b step.block step.is_block in
+        use_finds (use_targets x) (stmt_uses s) (CallOf b step.actuals)
+        (stmt_among s (CallOf b step.actuals) step.is_called)
         (ap (λ (g : Bool). g && has (implicit_targets_of sets b) x) (ap is_given m.1)
-        ∙ ((are.blocks b m.0 m.1).targets x).1 (k, e, free, (bs, reach)))
+        ∙ ((are.blocks b m.0 m.1).targets x).1 (step.block, step.is_block, step.is_of_callers, (bs, step.rest)))
 
     use_reads_is : (s : Stmt) (x : ℕ) (u : Use) → In_stmt s u → use_reads x u ≡ true → IsSeen (without_places tree)
         (In_stmt s) x
@@ -185,8 +186,7 @@ module _ (tree : c.Program) (sets : Sets) where
     use_reads_is s x (CallOf b args) h e =
         let two = and_parts (is_given (slice_get tree.blocks b)) (has (implicit_expressions_of sets b) x) e in
         let k = block_given tree b two.0 in
-        let (called, found, free, (calls, reach)) = ((are.blocks b k.0 k.1).expressions x).0 two.1 in
-        (b ∷ calls, (args, h, called, found, free, reach))
+        from_call (without_places tree) (In_stmt s) b args (Seen x) h (((are.blocks b k.0 k.1).expressions x).0 two.1)
     use_reads_is s x (ParallelOf ss) h e = absurd (true≢false (sym e))
     use_reads_is s x (ForallOf y t) h e = absurd (true≢false (sym e))
     use_reads_is s x Stop h e = absurd (true≢false (sym e))
@@ -199,11 +199,12 @@ module _ (tree : c.Program) (sets : Sets) where
     pub seen_tells : (s : Stmt) (x : ℕ) → IsSeen (without_places tree) (In_stmt s) x → is_seen s x ≡ true
     unfolding is_seen use_reads
     seen_tells s x ([], h) = use_finds (use_reads x) (stmt_uses s) (Seen x) (stmt_among s (Seen x) h) (eq-eqb x x refl)
-    seen_tells s x (b ∷ bs, (args, h, k, e, free, reach)) =
-        let m = given_block tree b k e in
-        use_finds (use_reads x) (stmt_uses s) (CallOf b args) (stmt_among s (CallOf b args) h)
+    seen_tells s x (b ∷ bs, step) =
+        let m = given_block tree b step.block step.is_block in
+        use_finds (use_reads x) (stmt_uses s) (CallOf b step.actuals)
+        (stmt_among s (CallOf b step.actuals) step.is_called)
         (ap (λ (g : Bool). g && has (implicit_expressions_of sets b) x) (ap is_given m.1)
-        ∙ ((are.blocks b m.0 m.1).expressions x).1 (k, e, free, (bs, reach)))
+        ∙ ((are.blocks b m.0 m.1).expressions x).1 (step.block, step.is_block, step.is_of_callers, (bs, step.rest)))
 
 -- ---- lists of the numbers that fit
 
