@@ -350,7 +350,14 @@ module _ (p : Program) (q : Name) (W R : Loc → Type 0) (low : ℕ) (own : (n x
 
         outer_use : (bs : List ℕ) (u : Use) (x : ℕ) (l : Loc) → Reach p (In_stmt k.body) bs u
             → Touches p (fresh ∷ fs) u x l → IsFree p b x → Reach p (In_call b args) (b ∷ bs) u
-        outer_use bs u x l r t f = (args, inl refl, k, is_block_b, passes_of p (fresh ∷ fs) u x l b t f, r)
+        outer_use bs u x l r t f = record {
+          actuals = args;
+          is_called = inl refl;
+          block = k;
+          is_block = is_block_b;
+          is_of_callers = passes_of p (fresh ∷ fs) u x l b t f;
+          rest = r;
+        }
 
         may : (bs : List ℕ) (u : Use) (x : ℕ) (l : Loc) → Reach p (In_stmt k.body) bs u → Touches p (fresh ∷ fs) u x l
             → BodyLocation x l → Right p W R u l

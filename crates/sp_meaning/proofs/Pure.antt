@@ -150,5 +150,5 @@ module _ (p : Program) where
   pub no_target : AreFunctionsPure → {Here : Use → Type 0} → ((u : Use) → Here u → PureUse u) → (bs : List ℕ) (x : ℕ)
       → Reach p Here bs (Target x) → ⊥
   no_target pure uses [] x r = uses (Target x) r
-  no_target pure uses (b ∷ bs) x (args, here, body, is_body, is_of_callers, inside) =
-      pure b (uses (CallOf b args) here) x (body, is_body, is_of_callers, (bs, inside))
+  no_target pure uses (b ∷ bs) x step = pure b (uses (CallOf b step.actuals) step.is_called) x
+      (step.block, step.is_block, step.is_of_callers, (bs, step.rest))

@@ -10,21 +10,13 @@ use Rattle.sp_meaning.specs.Actions.{push, push_all, children, indexed_children,
 use Rattle.sp_tree.specs.Uses.{Use, Target, Seen, CallOf, ParallelOf, ForallOf, Stop, In_stmt, In_stmts, In_arms}
 use Rattle.sp_tree.specs.Uses.{IsOther}
 use Rattle.sp_tree.specs.Sets.{Reach, IsTarget, IsUsed}
+use Rattle.sp_tree.proofs.Closure.{called_in, target_part, used_part}
 use Rattle.sp_tree.specs.Interference.{KeepsI1, IsFreeUse}
 use Rattle.sp_meaning.specs.Rights.{Linked, frames_below, last_of, location_by, location_at, location_of, Touches}
 use Rattle.sp_meaning.specs.Rights.{Sound, Fit, AreClear}
 use Rattle.sp_meaning.specs.Rights.{IsClearOf, Born}
-use Rattle.sp_meaning.proofs.Within.{reach_part, part}
+use Rattle.sp_meaning.proofs.Within.{part}
 use Rattle.sp_meaning.proofs.Keys.{number_or}
-
-pub used_part : (p : Program) {Here Above : Use → Type 0} → ((u : Use) → Here u → Above u) → (x : ℕ) → IsUsed p Here x
-    → IsUsed p Above x
-used_part p i x (inl h) = inl (h.0, reach_part p i h.0 (Target x) h.1)
-used_part p i x (inr h) = inr (h.0, reach_part p i h.0 (Seen x) h.1)
-
-pub target_part : (p : Program) {Here Above : Use → Type 0} → ((u : Use) → Here u → Above u) → (x : ℕ)
-    → IsTarget p Here x → IsTarget p Above x
-target_part p i x h = (h.0, reach_part p i h.0 (Target x) h.1)
 
 -- two variables in use are two locations
 uses_apart : {p : Program} {W R : Loc → Type 0} {fs : List Frame} {Here : Use → Type 0} → Sound p W R fs Here
@@ -113,8 +105,7 @@ module _ {p : Program} {W R : Loc → Type 0} {fs : List Frame} (x : ℕ) (from 
       → Reach p (In_stmt (Forall x from to s)) bs u
   lifted [] u r y l t = ⊎_elim (λ (h : (y : ℕ) (l : Loc) → Touches p fs u y l → ⊥). absurd (h y l t))
       (λ (o : IsOther x u). inr (inr (inr (inl (r, o))))) (other_or u)
-  lifted (b ∷ bs) u (args, here, body, is_body, is_of_callers, inside) y l t =
-      (args, inr (inr (inr (inl (here, tt)))), body, is_body, is_of_callers, inside)
+  lifted (b ∷ bs) u step y l t = called_in p step (inr (inr (inr (inl (step.is_called, tt)))))
 
   rules : (u : Use) → In_stmt s u → IsFreeUse p u
   rules (Target y) h = tt

@@ -33,7 +33,7 @@ use Rattle.sp_meaning.specs.Eval.{place_by}
 use Rattle.sp_meaning.specs.Eval.{place_of, input_left, value, form_value, place, component_place, actuals, address}
 use Rattle.sp_meaning.specs.Eval.{ordinal_of}
 use Rattle.sp_tree.specs.Uses.{Use, Target, Seen, In_expr, In_form, In_target, In_selectors, In_actuals, In_call}
-use Rattle.sp_tree.specs.Sets.{Reach}
+use Rattle.sp_tree.proofs.Closure.{reach_part}
 use Rattle.sp_tree.specs.Interference.{IsFreeOfInterference}
 use Rattle.sp_meaning.specs.Rights.{frame_found, cell_of, spot_of, reference_of, console, location_by, location_at}
 use Rattle.sp_meaning.specs.Rights.{location_of, Sound}
@@ -62,12 +62,6 @@ within_then W R F G (ReadThen l more) g w h k = (h.0, λ v. within_then W R F G 
 within_then W R F G (WriteThen l v more) g w h k = (h.0, within_then W R F G more g w h.1 k)
 
 -- what stands in a part is sound where the whole is
-pub reach_part : (p : Program) {Here Above : Use → Type 0} → ((u : Use) → Here u → Above u) → (bs : List ℕ) (u : Use)
-    → Reach p Here bs u → Reach p Above bs u
-reach_part p i [] u r = i u r
-reach_part p i (b ∷ bs) u (args, here, body, is_body, is_of_callers, inside) =
-    (args, i _ here, body, is_body, is_of_callers, inside)
-
 pub part : {p : Program} {W R : Loc → Type 0} {fs : List Frame} {Here Above : Use → Type 0}
     → ((u : Use) → Here u → Above u) → Sound p W R fs Above → Sound p W R fs Here
 part {p} i s = record {
