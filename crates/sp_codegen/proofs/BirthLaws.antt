@@ -116,8 +116,8 @@ module _ (g : RunInput) (moves shares : Stmt → List ℕ) (pause : ℕ) (tree :
   reached_formed : (bs : List ℕ) (Here : Use → Type 0) (u : Use) → ((u : Use) → Here u → IsFormedUse g.program u)
       → Reach g.program Here bs u → IsFormedUse g.program u
   reached_formed [] Here u formed r = formed u r
-  reached_formed (f ∷ bs) Here u formed (_, _, block, known, _, reached) =
-      reached_formed bs (In_stmt block.body) u (tree.formed.uses f block known) reached
+  reached_formed (f ∷ bs) Here u formed step =
+      reached_formed bs (In_stmt step.block.body) u (tree.formed.uses f step.block step.is_block) step.rest
 
   -- nothing reads the output
   unread : {Here : Use → Type 0} → ((u : Use) → Here u → IsFormedUse g.program u) → IsUsed g.program Here 1
