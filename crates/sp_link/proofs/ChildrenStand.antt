@@ -59,8 +59,7 @@ pub reached_formed : (G : RunContext) {Here : Use → Type 0} (bs : List ℕ)
     → ((u : Use) → Here u → IsFormedUse G.g.program u)
     → (u : Use) → Reach G.g.program Here bs u → IsFormedUse G.g.program u
 reached_formed G [] here u r = here u r
-reached_formed G (b ∷ bs) here u (_, _, block, block_is, _, inside) =
-    reached_formed G bs (G.formed.uses b block block_is) u inside
+reached_formed G (b ∷ bs) here u step = reached_formed G bs (G.formed.uses b step.block step.is_block) u step.rest
 
 same_role : (i v : Variable) → Some i ≡ Some v → i.role ≡ role.Index → v.role ≡ role.Index
 same_role i v e h = let same : i ≡ v = cc e in ap (λ (y : Variable). y.role) (sym same) ∙ h

@@ -251,11 +251,11 @@ module _ (G : RunContext) where
       → (v : Variable) × (slice_get G.g.program.variables y ≡ Some v)
       × (v.role ≡ role.Index → Here (Seen y) × ((up : ℕ) × (level (is_index y) sc ≡ Some up)))
   seen {Here = Here} sc direct [] y r = let d = direct (Seen y) r in (d.0, d.1, λ iv. (r, d.2 iv))
-  seen {Here = Here} sc direct (b ∷ bs) y (_, _, block, block_is, _, inside) =
-      let z = G.blocks b block block_is in
-      let w = seen {Here = λ a. In_stmt block.body a} (scopes_of G.g.program b)
+  seen {Here = Here} sc direct (b ∷ bs) y step =
+      let z = G.blocks b step.block step.is_block in
+      let w = seen {Here = λ a. In_stmt step.block.body a} (scopes_of G.g.program b)
       (λ u a. stmt G.g.program G.free G.moves G.shares (CodeAt G.code) (HasFork G.code) (HasWords G.code) G.callable
-      block.body true (scopes_of G.g.program b) z.layout.entry (z.stands.body true tt) u a) bs y inside in (
+      step.block.body true (scopes_of G.g.program b) z.layout.entry (z.stands.body true tt) u a) bs y step.rest in (
         w.0,
         w.1,
         λ iv. (let (_, (up, level_is)) = w.2 iv in absurd

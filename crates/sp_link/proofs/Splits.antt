@@ -20,7 +20,8 @@ use Rattle.sp_meaning.specs.Model.{Name}
 use Rattle.sp_meaning.specs.LocalWork.{Loc, Input, Output, LocalState, Identity}
 use Rattle.sp_meaning.specs.Run.{Store}
 use Rattle.sp_meaning.proofs.Rights.{OwnLocation}
-use Rattle.sp_meaning.proofs.SoundParts.{list_of, used_part, target_part}
+use Rattle.sp_tree.proofs.Closure.{target_part, used_part}
+use Rattle.sp_meaning.proofs.SoundParts.{list_of}
 use Rattle.sp_code.specs.declared.code.ChildTable.{ChildTable}
 use Rattle.sp_code.specs.declared.code.ForkTable.{ForkTable}
 use Rattle.sp_code.specs.TreeCode.{child_table, children_tables}
