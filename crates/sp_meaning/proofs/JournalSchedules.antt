@@ -1,5 +1,5 @@
 -- Along a journal without a fault goes a lawful schedule of that length.
-use Rattle.std.proofs.Common.{◌≡◌, ℕ, zero, suc, ◌+◌, Bool, true, false, List, [], ◌∷◌, length, Option, Some, None}
+use Rattle.std.proofs.Common.{◌≡◌, ℕ, suc, ◌+◌, Bool, List, [], ◌∷◌, length, Option, Some, None}
 use Rattle.std.proofs.Common.{refl, sym, ap, ◌∙◌, subst, arith}
 use Rattle.std.proofs.lemmas.Option.{same_Some}
 use Rattle.sp_base.specs.declared.fault.Fault.{Fault}
@@ -12,9 +12,10 @@ use Rattle.sp_meaning.specs.SuperPascal.{superpascal}
 use Rattle.sp_meaning.specs.Entries.{Happening, Opened, Forked, Offered, Ended, Faulted, Laid, Paused, Occurrence}
 use Rattle.sp_meaning.specs.Runs.{StateOf, total_limits, running_process, next_state, Lawful, happening_of}
 use Rattle.sp_meaning.specs.Runs.{happening_at}
-use Rattle.sp_meaning.specs.Along.{Either, is_due_after, Turn, JournalState, KernelStep, EntryStep, Along, IsCleanly}
+use Rattle.sp_meaning.specs.Along.{Turn, JournalState, KernelStep, EntryStep, Along, IsCleanly}
 use Rattle.sp_meaning.specs.Along.{IsClean}
 use Rattle.sp_meaning.proofs.Frames.{all_in, fault_frame}
+use Rattle.sp_meaning.proofs.TurnWalks.{turn_folds}
 
 abbrev IsCleanStep : Option Happening → Type 0
 IsCleanStep None = Unit {0}
@@ -64,31 +65,18 @@ module _ (g : RunInput) where
   turned : (turn since : ℕ) (q : Name) (k : ℕ) (s m : StateOf g) (paused : Bool) (n : ℕ) (t : StateOf g)
       → Turn g turn since q k s m paused → s.fault ≡ None → (m.fault ≡ None → FaultFreeSchedule m n t)
       → FaultFreeSchedule s (k + n) t
-  turned turn since q zero s m paused n t h f go =
-      subst (λ z. FaultFreeSchedule s z t) zero_add (subst (λ z. FaultFreeSchedule z n t) h.0
-      (go (ap (λ (z : StateOf g). z.fault) (sym (sym h.0)) ∙ f)))
+  turned turn since q k s m paused n t turns f go =
+      turn_folds g (λ i z. z.fault ≡ None → FaultFreeSchedule z (i + n) t) turn since q m
+      (λ still. subst (λ z. FaultFreeSchedule m z t) zero_add (go still))
+      (λ i z own next runs enters_none steps later no_fault. subst (λ y. FaultFreeSchedule z y t) (suc_add i)
+      (first z q next (i + n) t no_fault steps
+      (later (no_fault_step z q own next None runs enters_none tt steps no_fault)))) k s paused turns f
     where
       zero_add : n ≡ 0 + n
       zero_add = omega arith
-  turned turn since q (suc k) s m paused n t (own, runs, enters_none, next, steps, ahead) f go =
-      let still = no_fault_step s q own next None runs enters_none tt steps f in
-      subst (λ z. FaultFreeSchedule s z t) suc_add (first s q next (k + n) t f steps
-      (rest (is_due_after g turn since s own q next) ahead still
-      (λ x. turned turn since q k next m paused n t x still go)))
-    where
-      suc_add : suc (k + n) ≡ suc k + n
-      suc_add = omega arith
 
-      rest : (b : Bool) → Either b ((k ≡ 0) × (m ≡ next) × (paused ≡ true)) (Turn g turn since q k next m paused)
-          → next.fault ≡ None → (Turn g turn since q k next m paused → FaultFreeSchedule next (k + n) t)
-          → FaultFreeSchedule next (k + n) t
-      rest true x still later = subst (λ z. FaultFreeSchedule next (z + n) t) (sym x.0)
-          (subst (λ z. FaultFreeSchedule next z t) zero_add
-          (subst (λ z. FaultFreeSchedule z n t) x.1 (go (ap (λ (z : StateOf g). z.fault) x.1 ∙ still))))
-        where
-          zero_add : n ≡ 0 + n
-          zero_add = omega arith
-      rest false x still later = later x
+      suc_add : (i : ℕ) → suc (i + n) ≡ suc i + n
+      suc_add i = omega arith
 
   kernel_goes : (left : JournalState → StateOf g → ℕ
       → Type 0) (c : JournalState) (m : StateOf g) (paused : Bool) (q : Name)
@@ -96,10 +84,10 @@ module _ (g : RunInput) where
       → ((c1 : JournalState) (u : StateOf g) (r : ℕ) → left c1 u r → u.fault ≡ None → FaultFreeSchedule u r t)
       → m.fault ≡ None
       → FaultFreeSchedule m n t
-  kernel_goes left c m paused q w n t ok (_, _, after, rest, size, (own, runs, enters, steps), others) next_goes f =
-      let still = no_fault_step m q own after (Some w) runs enters ok steps f in
-      subst (λ z. FaultFreeSchedule m z t) (sym size) (first m q after rest t f steps
-      (next_goes _ after rest others still))
+  kernel_goes left c m paused q w n t ok (_, k) next_goes f =
+      let still = no_fault_step m q k.makes.process k.next (Some w) k.makes.runs k.makes.happens ok k.makes.steps f in
+      subst (λ z. FaultFreeSchedule m z t) (sym k.size) (first m q k.next k.rest t f k.makes.steps
+      (next_goes _ k.next k.rest k.ahead still))
 
   entered_goes : (left : JournalState → StateOf g → ℕ
       → Type 0) (c : JournalState) (m : StateOf g) (paused : Bool) (q : Name)
@@ -123,7 +111,8 @@ module _ (g : RunInput) where
     leads = a.1;
     still = ap (λ (z : StateOf g). z.fault) a.1 ∙ f;
   }
-  along_goes turn (e ∷ es) c s n t (_, steps, rest, m, paused, size, turns, entry) clean f =
-      subst (λ z. FaultFreeSchedule s z t) (sym size) (turned turn (c.since e.who) e.who steps s m paused rest t turns f
-      (entered_goes _ c m paused e.who e.what rest t clean.0 entry
+  along_goes turn (e ∷ es) c s n t a clean f =
+      subst (λ z. FaultFreeSchedule s z t) (sym a.size) (turned turn (c.since e.who) e.who a.steps s a.middle a.paused
+      a.rest t a.turns f
+      (entered_goes _ c a.middle a.paused e.who e.what a.rest t clean.0 a.enters
       (λ c1 u r b still. along_goes turn es c1 u r t b clean.1 still)))

@@ -16,6 +16,7 @@ pub mod EnoughSteps
 pub mod LocalSteps
 pub mod Sound
 pub mod StepLaws
+pub mod TurnWalks
 pub mod JournalSchedules
 pub mod LawProofs
 mod Faults

@@ -56,26 +56,53 @@ module _ (g : RunInput) where
   abbrev pub is_due_after : ℕ → (since : ℕ) → StateOf g → Process → Name → StateOf g → Bool
   is_due_after turn since s own q t = pauses_next g own s.store && nat_le (since + turn) (ticks_of t q)
 
+  -- q makes no local step: t is s, q has not paused, and its next step is a kernel step
+  pub record TurnEnd (q : Name) (s t : StateOf g) (paused : Bool) : Type 0 where
+    pub stays : t ≡ s
+    pub unpaused : paused ≡ false
+    pub process : Process
+    pub runs : running_process g s q ≡ Some process
+    pub what : Happening
+    pub happens : happening_at g s q process ≡ Some what
+
+  -- q makes a local step at s, with n more to come. If q is then due, there are none: t is the next state, and q has
+  -- paused. If not, Rest says how the turn goes on from the next state
+  pub record LocalStep (turn since : ℕ) (q : Name) (n : ℕ) (s t : StateOf g) (paused : Bool)
+      (Rest : StateOf g → Type 0) : Type 0 where
+    pub process : Process
+    pub runs : running_process g s q ≡ Some process
+    pub enters_none : happening_at g s q process ≡ None
+    pub next : StateOf g
+    pub steps : next_state g s q ≡ Some next
+    pub ahead : Either (is_due_after turn since s process q next) ((n ≡ 0) × (t ≡ next) × (paused ≡ true)) (Rest next)
+
   -- n local steps of q lead from s to t: up to the first moment at which it is due, or its next step is a kernel step
   abbrev pub Turn : ℕ → ℕ → Name → ℕ → StateOf g → StateOf g → Bool → Type 0
-  Turn turn since q zero s t paused = (t ≡ s) × (paused ≡ false) × (own : Process) × (running_process g s q ≡ Some own)
-      × (what : Happening) × (happening_at g s q own ≡ Some what)
-  Turn turn since q (suc n) s t paused =
-      (own : Process) × (running_process g s q ≡ Some own) × (happening_at g s q own ≡ None) × (m : StateOf g)
-      × (next_state g s q ≡ Some m)
-      × Either (is_due_after turn since s own q m) ((n ≡ 0) × (t ≡ m) × (paused ≡ true))
-      (Turn turn since q n m t paused)
+  Turn turn since q zero s t paused = TurnEnd q s t paused
+  Turn turn since q (suc n) s t paused = LocalStep turn since q n s t paused (λ m. Turn turn since q n m t paused)
 
   -- the entry's step at s: it makes this entry
-  abbrev pub MakesEntry : StateOf g → Name → Happening → StateOf g → Type 0
-  MakesEntry s q what t = (own : Process) × (running_process g s q ≡ Some own) × (happening_at g s q own ≡ Some what)
-      × (next_state g s q ≡ Some t)
+  pub record MakesEntry (s : StateOf g) (q : Name) (what : Happening) (t : StateOf g) : Type 0 where
+    pub process : Process
+    pub runs : running_process g s q ≡ Some process
+    pub happens : happening_at g s q process ≡ Some what
+    pub steps : next_state g s q ≡ Some t
+
+  -- a kernel step of q at m, where q is not due: it makes the entry and leads to the next state. It is one of n steps,
+  -- and left says how it goes on by the rest
+  pub record KernelEntry (left : JournalState → StateOf g → ℕ → Type 0) (c : JournalState) (m : StateOf g)
+      (paused : Bool) (q : Name) (what : Happening) (n : ℕ) : Type 0 where
+    pub unpaused : paused ≡ false
+    pub next : StateOf g
+    pub rest : ℕ
+    pub size : n ≡ suc rest
+    pub makes : MakesEntry m q what next
+    pub ahead : left (course_after q what (ticks_of next q) c) next rest
 
   -- a kernel step: only where no fault stands, and where the process is not due
   abbrev pub KernelStep : (JournalState → StateOf g → ℕ → Type 0) → JournalState → StateOf g → Bool → Name → Happening
       → ℕ → Type 0
-  KernelStep left c m paused q what n = (c.faulted ≡ false) × (paused ≡ false) × (u : StateOf g) × (rest : ℕ)
-      × (n ≡ suc rest) × MakesEntry m q what u × left (course_after q what (ticks_of u q) c) u rest
+  KernelStep left c m paused q what n = (c.faulted ≡ false) × KernelEntry left c m paused q what n
 
   -- what the entry's process does after its local steps, which led to m, and what is then left. Laid comes only after a
   -- fault
@@ -90,13 +117,23 @@ module _ (g : RunInput) where
   EntryStep left c m paused q happenings.Ended n = KernelStep left c m paused q happenings.Ended n
   EntryStep left c m paused q (Faulted f) n = KernelStep left c m paused q (Faulted f) n
 
+  -- the entry e from s on: its process is not laid. It makes local steps up to a middle state, and there the entry. All
+  -- steps are n, and left says how it goes on after the entry
+  pub record AlongEntry (turn : ℕ) (c : JournalState) (s : StateOf g) (e : Occurrence) (n : ℕ)
+      (left : JournalState → StateOf g → ℕ → Type 0) : Type 0 where
+    pub not_laid : c.laid e.who ≡ false
+    pub steps : ℕ
+    pub rest : ℕ
+    pub middle : StateOf g
+    pub paused : Bool
+    pub size : n ≡ steps + rest
+    pub turns : Turn turn (c.since e.who) e.who steps s middle paused
+    pub enters : EntryStep left c middle paused e.who e.what rest
+
   -- the entries in order lead from s to t by n steps in all, where a process pauses after so many ticks
   abbrev pub Along : ℕ → JournalState → StateOf g → List Occurrence → ℕ → StateOf g → Type 0
   Along turn c s [] n t = (n ≡ 0) × (t ≡ s)
-  Along turn c s (e ∷ es) n t =
-      (c.laid e.who ≡ false) × (k rest : ℕ) × (m : StateOf g) × (paused : Bool) × (n ≡ k + rest)
-      × Turn turn (c.since e.who) e.who k s m paused
-      × EntryStep (λ c1 u r. Along turn c1 u es r t) c m paused e.who e.what rest
+  Along turn c s (e ∷ es) n t = AlongEntry turn c s e n (λ c1 u r. Along turn c1 u es r t)
 
   -- along a journal from the start
   abbrev pub IsAlong : ℕ → List Occurrence → ℕ → StateOf g → Type 0

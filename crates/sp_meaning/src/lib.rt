@@ -58,6 +58,7 @@
 //! - `LocalSteps`: a local step of the model is the run of the process's own step on the store.
 //! - `Sound`: every step keeps what is known of the state, a faulting one too.
 //! - `StepLaws`: what every step keeps: names, counts of forks, light items; and ticks never fall.
+//! - `TurnWalks`: what each local step keeps, a turn keeps; and who makes a turn is running.
 //! - `JournalSchedules`: along a journal without a fault goes a lawful schedule of that length.
 //! - `LawProofs`: the laws, as the contracts of `laws.rt` state them.
 //! - `Static`: static links: what is visible from a frame is the same seen from the frames inside it.
