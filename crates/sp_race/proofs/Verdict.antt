@@ -1,5 +1,5 @@
 -- Along an ordered journal goes an ordered schedule, so each schedule ends as it does.
-use Rattle.std.proofs.Common.{◌≡◌, ◌⊎◌, ⊎_elim, ℕ, zero, suc, ◌+◌, Bool, true, false, List, [], ◌∷◌, ◌++◌, length}
+use Rattle.std.proofs.Common.{◌≡◌, ◌⊎◌, ⊎_elim, ℕ, suc, ◌+◌, Bool, List, [], ◌∷◌, ◌++◌, length}
 use Rattle.std.proofs.Common.{Option, Some, None, refl, sym, ap, ◌∙◌, subst, arith}
 use Rattle.std.proofs.lemmas.Bool.{false≢true}
 use Rattle.std.proofs.lemmas.Option.{none-some, same_Some}
@@ -14,7 +14,7 @@ use Rattle.sp_meaning.specs.SuperPascal.{superpascal, root, first_store}
 use Rattle.sp_meaning.specs.Entries.{Happening, Opened, Forked, Offered, Ended, Faulted, Laid, Paused, Occurrence}
 use Rattle.sp_meaning.specs.Runs.{StateOf, start, total_limits, running_process, next_state, system_of, Lawful}
 use Rattle.sp_meaning.specs.Runs.{happening_of, happening_at, IsDisjointRun}
-use Rattle.sp_meaning.specs.Along.{Either, is_due_after, Turn, JournalState, before_entries, KernelStep, EntryStep}
+use Rattle.sp_meaning.specs.Along.{Turn, JournalState, before_entries, KernelStep, EntryStep}
 use Rattle.sp_meaning.specs.Along.{Along, IsAlong}
 use Rattle.sp_meaning.specs.Along.{IsCleanly}
 use Rattle.sp_meaning.specs.Along.{IsClean}
@@ -23,6 +23,7 @@ use Rattle.sp_meaning.proofs.Status.{Makes}
 use Rattle.sp_meaning.proofs.StepInvariants.{sound_kept}
 use Rattle.sp_meaning.proofs.Instance.{superpascal_keeps}
 use Rattle.sp_meaning.proofs.JournalSchedules.{no_fault_step}
+use Rattle.sp_meaning.proofs.TurnWalks.{turn_folds}
 use Rattle.sp_meaning.proofs.LawProofs.{done_idle}
 use Rattle.sp_race.specs.Notes.{Event, JudgeNotes, no_notes, IsKnowledge, KnowsBefore}
 use Rattle.sp_race.specs.RunNotes.{notes_after}
@@ -158,40 +159,30 @@ module _ (g : RunInput) where
       → Turn g turn since q k s m paused → KnownAfterEntries s v j done n label
       → ((w : JudgeNotes) → KnownAfterEntries m w j done n label → OrderedSchedule m w r t)
       → OrderedSchedule s v (k + r) t
-  turned turn since q zero s m paused r t v j done n label h at go =
-      subst (λ z. OrderedSchedule s v z t) zero_add (subst (λ z. OrderedSchedule z v r t) h.0
-      (go v (subst (λ z. KnownAfterEntries z v j done n label) (sym h.0) at)))
+  turned turn since q k s m paused r t v j done n label turns at go =
+      turn_folds g (λ i z. (w : JudgeNotes) → KnownAfterEntries z w j done n label → OrderedSchedule z w (i + r) t)
+      turn since q m (λ w known. subst (λ y. OrderedSchedule m w y t) zero_add (go w known)) back k s paused turns v at
     where
       zero_add : r ≡ 0 + r
       zero_add = omega arith
-  turned turn since q (suc k) s m paused r t v j done n label (own, runs, silent, u, goes, onward) at go =
-      let x = stepped s q own u runs goes (no_fault_step g s q own u None runs silent tt goes at.no_fault) in
-      let mv = local_moves s q own u x silent in
-      let at1 = next_at s v j done n label q own u at x j done n label
-      (moves_linked s v q x.cs at.sound at.known x.makes j done n label at.linked mv.next_own mv.writes mv.move_is) in
-      let knows = subst (λ z. KnowsBefore (superpascal g) v q ((superpascal g).next z s.store)) x.process_is
-      (moves_know s x.makes.own v q mv) in
-      subst (λ z. OrderedSchedule s v z t) suc_add (first s v q own u (k + r) t at.no_fault runs goes knows
-      (rest (notes_after s v q ((superpascal g).next own s.store)) u (is_due_after g turn since s own q u) onward at1
-      (λ y a. turned turn since q k u m paused r t (notes_after s v q ((superpascal g).next own s.store)) j done n
-      label y a go)))
-    where
-      suc_add : suc (k + r) ≡ suc k + r
-      suc_add = omega arith
 
-      rest : (w : JudgeNotes) (u : StateOf g) (b : Bool)
-          → Either b ((k ≡ 0) × (m ≡ u) × (paused ≡ true)) (Turn g turn since q k u m paused)
-          → KnownAfterEntries u w j done n label
-          → (Turn g turn since q k u m paused → KnownAfterEntries u w j done n label → OrderedSchedule u w (k + r) t)
-          → OrderedSchedule u w (k + r) t
-      rest w u true y a later = subst (λ z. OrderedSchedule u w (z + r) t) (sym y.0)
-          (subst (λ z. OrderedSchedule u w z t) zero_add
-          (subst (λ z. OrderedSchedule z w r t) y.1
-          (go w (subst (λ z. KnownAfterEntries z w j done n label) (sym y.1) a))))
-        where
-          zero_add : r ≡ 0 + r
-          zero_add = omega arith
-      rest w u false y a later = later y a
+      suc_add : (i : ℕ) → suc (i + r) ≡ suc i + r
+      suc_add i = omega arith
+
+      back : (i : ℕ) (z : StateOf g) (own : Process) (u : StateOf g) → running_process g z q ≡ Some own
+          → happening_at g z q own ≡ None → next_state g z q ≡ Some u
+          → ((w : JudgeNotes) → KnownAfterEntries u w j done n label → OrderedSchedule u w (i + r) t)
+          → (w : JudgeNotes) → KnownAfterEntries z w j done n label → OrderedSchedule z w (suc i + r) t
+      back i z own u runs enters_none goes later w at =
+          let x = stepped z q own u runs goes (no_fault_step g z q own u None runs enters_none tt goes at.no_fault) in
+          let mv = local_moves z q own u x enters_none in
+          let known = next_at z w j done n label q own u at x j done n label
+          (moves_linked z w q x.cs at.sound at.known x.makes j done n label at.linked mv.next_own mv.writes
+          mv.move_is) in
+          let knows = subst (λ y. KnowsBefore (superpascal g) w q ((superpascal g).next y z.store)) x.process_is
+          (moves_know z x.makes.own w q mv) in
+          subst (λ y. OrderedSchedule z w y t) (suc_add i) (first z w q own u (i + r) t at.no_fault runs goes knows
+          (later (notes_after z w q ((superpascal g).next own z.store)) known))
 
   -- after an entry
   abbrev With : List Occurrence → Name → Happening → List Occurrence
@@ -265,12 +256,15 @@ module _ (g : RunInput) where
       → KnownAfterEntries m v j done n label → KnowsOffers j done q w
       → Goes_on left t (knowledge_after j n q w) (With done q w) (suc n)
       → OrderedSchedule m v r t
-  kernel_goes left c m paused q w r t v j done n label ok (_, _, u, rest, rest_is, (own, runs, says, goes), after) at
-      knows go =
-      let x = stepped m q own u runs goes (no_fault_step g m q own u (Some w) runs says ok goes at.no_fault) in
-      let y = enters m v q own u j done n label w at x says knows in
-      subst (λ z. OrderedSchedule m v z t) (sym rest_is) (first m v q own u rest t at.no_fault runs goes y.knows
-      (go _ u rest after (notes_after m v q ((superpascal g).next own m.store)) y.label y.at))
+  kernel_goes left c m paused q w r t v j done n label ok (_, k) at knows go =
+      let own : Process = k.makes.process in
+      let u : StateOf g = k.next in
+      let x = stepped m q own u k.makes.runs k.makes.steps (no_fault_step g m q own u (Some w) k.makes.runs
+      k.makes.happens ok k.makes.steps at.no_fault) in
+      let y = enters m v q own u j done n label w at x k.makes.happens knows in
+      subst (λ z. OrderedSchedule m v z t) (sym k.size) (first m v q own u k.rest t at.no_fault k.makes.runs
+      k.makes.steps y.knows
+      (go _ u k.rest k.ahead (notes_after m v q ((superpascal g).next own m.store)) y.label y.at))
 
   entered_goes : (left : JournalState → StateOf g → ℕ
       → Type 0) (c : JournalState) (m : StateOf g) (paused : Bool) (q : Name)
@@ -309,11 +303,10 @@ module _ (g : RunInput) where
         still = ap (λ (z : StateOf g). z.fault) a.1 ∙ at.no_fault;
         ordered = tt;
       }
-  along_goes turn (e ∷ es) c s r t v j done n label (_, steps, rest, between, paused, count_is, locals, enters) clean
-      at k =
-      subst (λ z. OrderedSchedule s v z t) (sym count_is)
-      (turned turn (c.since e.who) e.who steps s between paused rest t v j done n label locals at
-      (λ w at1. entered_goes _ c between paused e.who e.what rest t w j done n label clean.0 enters at1 k.0
+  along_goes turn (e ∷ es) c s r t v j done n label a clean at k =
+      subst (λ z. OrderedSchedule s v z t) (sym a.size)
+      (turned turn (c.since e.who) e.who a.steps s a.middle a.paused a.rest t v j done n label a.turns at
+      (λ w at1. entered_goes _ c a.middle a.paused e.who e.what a.rest t w j done n label clean.0 a.enters at1 k.0
       (λ c1 u d b x lb at2. along_goes turn es c1 u d t x (knowledge_after j n e.who e.what) (With done e.who e.what)
       (suc n)
       lb b clean.1 at2
