@@ -1,5 +1,5 @@
 -- An ordered run that has an end ends alike in every schedule; and a journal and an end have one verdict alone.
-use Rattle.std.proofs.Common.{◌≡◌, ◌⊎◌, inl, inr, ⊎_elim, ℕ, zero, suc, Bool, true, false, cond, List, [], ◌∷◌, ◌++◌}
+use Rattle.std.proofs.Common.{◌≡◌, ◌⊎◌, inl, inr, ⊎_elim, ℕ, Bool, true, false, cond, List, [], ◌∷◌, ◌++◌}
 use Rattle.std.proofs.Common.{append-nil, Option, Some, None, refl, sym, ap, ◌∙◌, subst, arith}
 use Rattle.std.proofs.lemmas.Option.{none-some, same_Some}
 use Rattle.sp_base.specs.declared.fault.Fault.{Fault}
@@ -24,7 +24,7 @@ use Rattle.sp_meaning.specs.SuperPascal.{superpascal, root, first_store}
 use Rattle.sp_meaning.specs.Entries.{Happening, Opened, Forked, Offered, Faulted, Laid, Paused, Occurrence}
 use Rattle.sp_journal.specs.Names as happenings
 use Rattle.sp_meaning.specs.Runs.{StateOf, start, total_limits, running_process, next_state, happening_of, happening_at}
-use Rattle.sp_meaning.specs.Along.{Either, is_due_after, Turn, JournalState, before_entries, with_fault, EntryStep}
+use Rattle.sp_meaning.specs.Along.{JournalState, before_entries, with_fault, EntryStep}
 use Rattle.sp_meaning.specs.Along.{Along, IsAlong}
 use Rattle.sp_meaning.specs.Along.{IsCleanly}
 use Rattle.sp_meaning.specs.Along.{IsClean}
@@ -32,6 +32,7 @@ use Rattle.sp_meaning.specs.Ends.{IsDone, EndIs}
 use Rattle.sp_meaning.proofs.Status.{working_lives}
 use Rattle.sp_meaning.proofs.Parallel.{ancestors_live}
 use Rattle.sp_meaning.proofs.Sound.{step_sound}
+use Rattle.sp_meaning.proofs.TurnWalks.{turn_keeps}
 use Rattle.sp_meaning.proofs.RuleKeepers.{disjoint}
 use Rattle.sp_race.proofs.GoodSteps.{sound_opening}
 use Rattle.sp_race.proofs.Verdict.{each_ends_alike}
@@ -114,23 +115,6 @@ module _ (g : RunInput) where
     stays_broken own m run e st = subst (λ (z : StateOf g). Broken z) (resulted s q own m run st)
         (by_act (L.next own s.store) (limit_fault (total_limits g) s.totals (cost (L.next own s.store))) e)
 
-  -- what each local step keeps, a row of them keeps
-  turn_keeps : (P : StateOf g → Type 0) → ((s : StateOf g) (q : Name) (own : Process) (m : StateOf g) → P s
-      → running_process g s q ≡ Some own → happening_at g s q own ≡ None → next_state g s q ≡ Some m → P m)
-      → (turn since : ℕ) (q : Name) (k : ℕ) (s m : StateOf g) (paused : Bool) → Turn g turn since q k s m paused → P s
-      → P m
-  turn_keeps P step turn since q zero s m paused h p = subst P (sym h.0) p
-  turn_keeps P step turn since q (suc k) s m paused (own, runs, silent, next, goes, onward) p =
-      let one = step s q own next p runs silent goes in
-      rest (is_due_after g turn since s own q next) onward one
-      (λ y. turn_keeps P step turn since q k next m paused y one)
-    where
-      rest : (b : Bool) → Either b ((k ≡ 0) × (m ≡ next) × (paused ≡ true)) (Turn g turn since q k next m paused) → P
-          next
-          → (Turn g turn since q k next m paused → P m) → P m
-      rest true y one later = subst P (sym y.1) one
-      rest false y one later = later y
-
   -- after a fault: processes are laid, and nothing else happens
   laid_on : (left : JournalState → StateOf g → ℕ → Type 0) (c : JournalState) (m : StateOf g) (paused : Bool) (q : Name)
       (w : Happening) (r : ℕ) (A : Type 0) → c.faulted ≡ true → EntryStep g left c m paused q w r
@@ -146,11 +130,12 @@ module _ (g : RunInput) where
   along_broken : (turn : ℕ) (es : List Occurrence) (c : JournalState) (s : StateOf g) (r : ℕ) (t : StateOf g)
       → c.faulted ≡ true → Along g turn c s es r t → Broken s → Broken t
   along_broken turn [] c s r t f a b = subst (λ (z : StateOf g). Broken z) (sym a.1) b
-  along_broken turn (e ∷ es) c s r t f (_, steps, rest, between, paused, _, locals, enters) b =
-      laid_on (λ c1 u d. Along g turn c1 u es d t) c between paused e.who e.what rest (Broken t) f enters (λ more.
-      along_broken turn es (with_fault e.who c) between rest t refl more
-      (turn_keeps Broken (λ s q own m b run says_none st. stays_broken s q b own m run says_none st) turn
-      (c.since e.who) e.who steps s between paused locals b))
+  along_broken turn (e ∷ es) c s r t f a b =
+      laid_on (λ c1 u d. Along g turn c1 u es d t) c a.middle a.paused e.who e.what a.rest (Broken t) f a.enters
+      (λ more. along_broken turn es (with_fault e.who c) a.middle a.rest t refl more
+      (turn_keeps g Broken e.who (λ z own next runs enters_none goes broken.
+      stays_broken z e.who broken own next runs enters_none goes) turn (c.since e.who) a.steps s a.middle a.paused
+      a.turns b))
 
   -- an entry before a fault, by what comes of the rest
   module _ (left : JournalState → StateOf g → ℕ → Type 0) (c : JournalState) (m : StateOf g) (paused : Bool) (q : Name)
@@ -171,28 +156,27 @@ module _ (g : RunInput) where
 
     entered_clean : (w : Happening) (r : ℕ) → c.faulted ≡ false → EntryStep g left c m paused q w r → Rest → Laid_rest
         → Clean_or w
-    entered_clean Opened r f (_, _, u, rest, _, (_, _, _, goes), after) go laid = with_first Opened tt
-        (go _ u rest f (step_sound (total_limits g) m q u sound goes) after)
-    entered_clean (Forked i) r f (_, _, u, rest, _, (_, _, _, goes), after) go laid =
-        with_first (Forked i) tt (go _ u rest f (step_sound (total_limits g) m q u sound goes) after)
-    entered_clean (Offered w d) r f (_, _, u, rest, _, (_, _, _, goes), after) go laid =
-        with_first (Offered w d) tt (go _ u rest f (step_sound (total_limits g) m q u sound goes) after)
-    entered_clean happenings.Ended r f (_, _, u, rest, _, (_, _, _, goes), after) go laid =
-        with_first happenings.Ended tt (go _ u rest f (step_sound (total_limits g) m q u sound goes) after)
-    entered_clean (Faulted x) r f (_, _, u, rest, _, (own, runs, says, goes), after) go laid =
-        inr (laid _ u rest refl (failed m q own sound runs x u says goes) after)
+    entered_clean Opened r f (_, k) go laid = with_first Opened tt
+        (go _ k.next k.rest f (step_sound (total_limits g) m q k.next sound k.makes.steps) k.ahead)
+    entered_clean (Forked i) r f (_, k) go laid = with_first (Forked i) tt
+        (go _ k.next k.rest f (step_sound (total_limits g) m q k.next sound k.makes.steps) k.ahead)
+    entered_clean (Offered w d) r f (_, k) go laid = with_first (Offered w d) tt
+        (go _ k.next k.rest f (step_sound (total_limits g) m q k.next sound k.makes.steps) k.ahead)
+    entered_clean happenings.Ended r f (_, k) go laid = with_first happenings.Ended tt
+        (go _ k.next k.rest f (step_sound (total_limits g) m q k.next sound k.makes.steps) k.ahead)
+    entered_clean (Faulted x) r f (_, k) go laid = inr (laid _ k.next k.rest refl
+        (failed m q k.makes.process sound k.makes.runs x k.next k.makes.happens k.makes.steps) k.ahead)
     entered_clean Laid r f h go laid = absurd (not_true_and_false c.faulted h.0 f)
     entered_clean Paused r f h go laid = with_first Paused tt (go _ m r f sound h.2)
 
   along_clean : (turn : ℕ) (es : List Occurrence) (c : JournalState) (s : StateOf g) (r : ℕ) (t : StateOf g)
       → c.faulted ≡ false → Along g turn c s es r t → Sound s → IsClean es ⊎ Broken t
   along_clean turn [] c s r t f a sound = inl tt
-  along_clean turn (e ∷ es) c s r t f (_, steps, rest, between, paused, _, locals, enters) sound =
-      let there : Sound between = turn_keeps (λ (z : StateOf g). Sound z)
-      (λ s q own m b run says_none st. step_sound (total_limits g) s q m b st) turn (c.since e.who) e.who steps s
-      between paused locals
-      sound in
-      entered_clean (λ c1 u d. Along g turn c1 u es d t) c between paused e.who es t there e.what rest f enters
+  along_clean turn (e ∷ es) c s r t f a sound =
+      let there : Sound a.middle = turn_keeps g (λ (z : StateOf g). Sound z) e.who
+      (λ z own next runs enters_none goes before. step_sound (total_limits g) z e.who next before goes) turn
+      (c.since e.who) a.steps s a.middle a.paused a.turns sound in
+      entered_clean (λ c1 u d. Along g turn c1 u es d t) c a.middle a.paused e.who es t there e.what a.rest f a.enters
       (λ c1 u d f1 sound1 more. along_clean turn es c1 u d t f1 more sound1)
       (λ c1 u d f1 broken more. along_broken turn es c1 u d t f1 more broken)
 

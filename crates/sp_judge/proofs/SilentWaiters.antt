@@ -1,5 +1,5 @@
 -- Waiters of a run along a journal are silent: who makes an entry is running, and whose offer is pending waits.
-use Rattle.std.proofs.Common.{◌≡◌, ℕ, zero, suc, Bool, true, false, cond, ◌==◌, List, [], ◌∷◌, Option, Some, None, refl}
+use Rattle.std.proofs.Common.{◌≡◌, ℕ, suc, Bool, true, false, cond, ◌==◌, List, [], ◌∷◌, Option, Some, None, refl}
 use Rattle.std.proofs.Common.{sym, ap, ◌∙◌, subst}
 use Rattle.std.proofs.lemmas.Option.{none-some, same_Some}
 use Rattle.sp_base.specs.declared.fault.Fault.{Fault}
@@ -19,11 +19,12 @@ use Rattle.sp_meaning.specs.SuperPascal.{superpascal, root, first_store}
 use Rattle.sp_meaning.specs.Entries.{Happening, Opened, Forked, Offered, Faulted, Laid, Paused, Occurrence}
 use Rattle.sp_journal.specs.Names as happenings
 use Rattle.sp_meaning.specs.Runs.{StateOf, start, total_limits, running_process, next_state, happening_of, happening_at}
-use Rattle.sp_meaning.specs.Along.{Either, is_due_after, Turn, JournalState, before_entries, KernelStep, EntryStep}
+use Rattle.sp_meaning.specs.Along.{JournalState, before_entries, KernelStep, EntryStep}
 use Rattle.sp_meaning.specs.Along.{Along, IsAlong}
 use Rattle.sp_meaning.proofs.Frames.{IsOn, all_in, pending_frame}
 use Rattle.sp_meaning.proofs.Status.{waits_stands, working_stands}
 use Rattle.sp_meaning.proofs.Sound.{step_sound}
+use Rattle.sp_meaning.proofs.TurnWalks.{turn_keeps, turn_runs}
 use Rattle.sp_race.proofs.GoodSteps.{sound_opening}
 use Rattle.sp_judge.specs.Prefixes.{WaitsForNone, WaitersSilentFrom, WaitersAreSilent}
 
@@ -134,25 +135,6 @@ module _ (g : RunInput) where
               (step_fits a (limit_fault (total_limits g) s.totals (cost a)) c ∙ ap (λ (z : StateOf g). z.pending c) is);
         }
 
-  -- local steps
-  turned : (turn since : ℕ) (q : Name) (k : ℕ) (s m : StateOf g) (paused : Bool) (j : Knowledge)
-      → Turn g turn since q k s m paused → Matches s j → Matches m j
-  turned turn since q zero s m paused j h match = subst (λ z. Matches z j) (sym h.0) match
-  turned turn since q (suc k) s m paused j (own, runs, silent, next, goes, onward) match =
-      let one = stepped s j q 0 match own next None runs silent goes in
-      rest (is_due_after g turn since s own q next) onward one (λ y. turned turn since q k next m paused j y one)
-    where
-      rest : (b : Bool) → Either b ((k ≡ 0) × (m ≡ next) × (paused ≡ true)) (Turn g turn since q k next m paused)
-          → Matches next j → (Turn g turn since q k next m paused → Matches m j) → Matches m j
-      rest true y one later = subst (λ z. Matches z j) (sym y.1) one
-      rest false y one later = later y
-
-  -- who makes the local steps of an entry is running
-  turn_runs : (turn since : ℕ) (q : Name) (k : ℕ) (s m : StateOf g) (paused : Bool) → Turn g turn since q k s m paused
-      → (own : Process) × (running_process g s q ≡ Some own)
-  turn_runs turn since q zero s m paused (_, _, own, runs, _, _) = (own, runs)
-  turn_runs turn since q (suc k) s m paused (own, runs, _, _, _, _) = (own, runs)
-
   abbrev Goes_on : (JournalState → StateOf g → ℕ → Type 0) → Knowledge → Type 0 → Type 0
   Goes_on left j A = (c : JournalState) (u : StateOf g) (r : ℕ) → left c u r → Matches u j → A
 
@@ -160,8 +142,9 @@ module _ (g : RunInput) where
       → Type 0) (c : JournalState) (m : StateOf g) (paused : Bool) (q : Name)
       (w : Happening) (r : ℕ) (j : Knowledge) (n : ℕ) (A : Type 0) → KernelStep g left c m paused q w r → Matches m j
       → Goes_on left (knowledge_after j n q w) A → A
-  kernel_on left c m paused q w r j n A (_, _, u, rest, _, (own, runs, says, goes), after) match go =
-      go _ u rest after (stepped m j q n match own u (Some w) runs says goes)
+  kernel_on left c m paused q w r j n A (_, k) match go =
+      go _ k.next k.rest k.ahead
+      (stepped m j q n match k.makes.process k.next (Some w) k.makes.runs k.makes.happens k.makes.steps)
 
   entered_on : (left : JournalState → StateOf g → ℕ
       → Type 0) (c : JournalState) (m : StateOf g) (paused : Bool) (q : Name)
@@ -182,13 +165,15 @@ module _ (g : RunInput) where
       (j : Knowledge)
       (n : ℕ) → Along g turn c s es r t → Matches s j → WaitersSilentFrom j n es
   along_silent turn [] c s r t j n a match = tt
-  along_silent turn (e ∷ es) c s r t j n (_, steps, rest, between, paused, _, locals, enters) match =
-      let run = turn_runs turn (c.since e.who) e.who steps s between paused locals in (
+  along_silent turn (e ∷ es) c s r t j n a match =
+      let run = turn_runs g turn (c.since e.who) e.who a.steps s a.middle a.paused a.turns in (
         waits_for_none s j e.who run.0 match run.1,
-        entered_on _ c between paused e.who e.what rest j n
+        entered_on _ c a.middle a.paused e.who e.what a.rest j n
             (WaitersSilentFrom (knowledge_after j n e.who e.what) (suc n)
-            es) enters
-            (turned turn (c.since e.who) e.who steps s between paused j locals match)
+            es) a.enters
+            (turn_keeps g (λ z. Matches z j) e.who (λ z own next runs enters_none goes matches.
+            stepped z j e.who 0 matches own next None runs enters_none goes) turn (c.since e.who) a.steps s a.middle
+            a.paused a.turns match)
             (λ c1 u d b more. along_silent turn es c1 u d t (knowledge_after j n e.who e.what) (suc n) b more),
       )
 
