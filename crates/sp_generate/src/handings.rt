@@ -6,14 +6,14 @@ ghost use Rattle.sp_generate.specs.Handings.{members, is_shared, moved_of, share
 
 use crate::numbers::sum;
 use sp_base::{List, Memory};
-use sp_varsets::{Sets, VarSet};
+use sp_varsets::{MOST_WORDS, Sets, VarSet};
 use std::alloc::Global;
 
 /// The variables of a set, in order of their numbers.
 fn members(alloc: Global, set: &VarSet) -> Result<List<u32>, Memory>
     ensures { IfOk result (λ xs. xs ≡ members set.now) }
 {
-    if set.words() > 67_108_864 {
+    if set.words() > MOST_WORDS {
         return Err(Memory);
     }
     let mut out = Vec::new(alloc);

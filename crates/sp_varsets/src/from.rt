@@ -3,7 +3,7 @@
 ghost use Rattle.std.specs.Prelude.{◌≡◌, ◌↔◌, ℕ, ◌^◌, ◌≤◌, true, IsTrue};
 ghost use Rattle.sp_varsets.specs.Members.{has};
 
-use crate::var_set::VarSet;
+use crate::var_set::{MOST_WORDS, VarSet};
 
 impl VarSet {
     /// Whether the set has a variable of this number or of a greater one.
@@ -21,7 +21,7 @@ impl VarSet {
         ensures { IsTrue result ↔ ((x : ℕ) × (2 ^ 32 ≤ x) × (has self.now x ≡ true)) }
     {
         let words = self.words.items();
-        'words: for k in 67_108_864..words.len() {
+        'words: for k in MOST_WORDS..words.len() {
             if words[k] != 0 {
                 return true;
             }

@@ -50,4 +50,4 @@ mod walk;
 pub use find::sets_of;
 pub use sets::Sets;
 pub use union::VarUnion;
-pub use var_set::VarSet;
+pub use var_set::{MOST_WORDS, VarSet};

@@ -8,6 +8,9 @@ use sp_base::{List, Memory};
 use std::alloc::Global;
 use std::mem;
 
+/// How many words hold all numbers of 32 bits. A variable in a word behind them has no number.
+pub const MOST_WORDS: usize = 67_108_864;
+
 /// A set of variables, by their numbers. Its bits stand in words of 64, none where it is empty.
 #[derive(Drop)]
 pub struct VarSet {
@@ -95,7 +98,7 @@ impl VarSet {
         let words = self.words.items();
         'words: for k in at as usize + 1..words.len() {
             if words[k] != 0 {
-                if k >= 67_108_864 {
+                if k >= MOST_WORDS {
                     return None;
                 }
                 return Some(k as u32 * 64 + words[k].trailing_zeros());

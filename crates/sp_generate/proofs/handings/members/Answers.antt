@@ -20,6 +20,6 @@ returns c =
     let set = c.args.set.now in
     c.of.ensures
     ∙ sym (none_fits (has set) c.loop-x.out.items (64 * length set.words) c.loop-x.from
-    (none_from (has set) c.words.result c.loop-x.from c.if-words-gt67108864.false c.words.ensures
+    (none_from (has set) c.words.result c.loop-x.from c.if-words-gt-MOST_WORDS.false c.words.ensures
     c.in_default.ensures))
     ∙ c.loop-x.invariant

@@ -6,10 +6,10 @@ use Rattle.sp_varsets.specs.Members.{in_words}
 use Rattle.sp_varsets.proofs.Words.{next_later, below_words, in_word_zero}
 use Rattle.sp_varsets.proofs.var_set.VarSet.next_after.Goals as goal
 
-pub returns-then-k-ge67108864 : goal.returns-then-k-ge67108864
-returns-then-k-ge67108864 c x low high =
+pub returns-then-k-ge-MOST_WORDS : goal.returns-then-k-ge-MOST_WORDS
+returns-then-k-ge-MOST_WORDS c x low high =
     false_from_ne_true _ (λ m.
-    let large = c.if-k-ge67108864.true in
+    let large = c.if-k-ge-MOST_WORDS.true in
     let z = subst (λ ws. get_or ws (x / 64) 0 ≡ 0) c.items-words.ensures
     (c.words.invariant (x / 64) (omega arith) (omega arith)) in
     in_word_zero c.args.self.now.words x z m)
