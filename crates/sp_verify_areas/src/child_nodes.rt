@@ -17,7 +17,7 @@ use crate::order::order;
 use crate::owners::{Owner, table_number};
 use crate::tree::{Frame, Grown, Jump, Node, node_at, put};
 use sp_base::{List, Memory};
-use sp_code::{ChildTable, Code};
+use sp_code::{ChildTable, Code, MAX_CODE};
 
 // The node of this number.
 fn node(nodes: &List<Node>, number: usize) -> Node
@@ -202,7 +202,7 @@ fn hurry(
 {
     for q in order.items() {
         let q = *q;
-        if q < 1_048_576 {
+        if q < MAX_CODE {
             let _new = have!(hang(code, blocks, owners, of_blocks, grown, q as u32));
         }
     }

@@ -8,7 +8,7 @@ use crate::have;
 use crate::owners::Owner;
 use crate::ways::free_ways;
 use sp_base::{List, Memory};
-use sp_code::Code;
+use sp_code::{Code, MAX_CODE};
 use sp_writer::Writer;
 use std::alloc::Global;
 
@@ -109,7 +109,7 @@ impl Search {
     // Closes the component that was opened with an instruction.
     fn close(&mut self, p: u32) {
         self.last_component = self.last_component.saturating_add(1);
-        for _member in 0..1_048_576 {
+        for _member in 0..MAX_CODE {
             match self.open.items.pop() {
                 None => return,
                 Some(q) => {
