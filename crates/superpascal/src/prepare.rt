@@ -17,7 +17,7 @@ use std::alloc::Global;
 use std::thread::Threads;
 
 /// The longest text that is loaded, in bytes.
-const LONGEST: u32 = 1_048_576;
+const LONGEST_TEXT: u32 = 1_048_576;
 
 /// The longest text of a journal that is loaded, in bytes.
 const LONGEST_JOURNAL: u32 = 67_108_864;
@@ -65,7 +65,13 @@ pub(crate) fn load_text<L: Library>(
     ensures counted { (other : List ℕ) → L.faults library.old other ≤ L.faults library.new other }
     ensures unchanged { (other : List ℕ) → L.held library.new other ≡ L.held library.old other }
 {
-    load(alloc, library, file, LONGEST, Ending::Refused(TOO_LONG))
+    load(
+        alloc,
+        library,
+        file,
+        LONGEST_TEXT,
+        Ending::Refused(TOO_LONG),
+    )
 }
 
 /// The code of a text, or the first of all rules that it breaks.
