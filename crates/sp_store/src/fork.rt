@@ -1,6 +1,6 @@
 //! What a fork makes ready before it changes anything.
 
-ghost use Rattle.std.specs.Prelude.{◌≡◌, ◌+◌, ◌<◌, IfOk, OnOk};
+ghost use Rattle.std.specs.Prelude.{◌≡◌, ◌+◌, ◌<◌, IfOk, OnOk, []};
 ghost use Rattle.std.specs.List.Sorted.{IsPermutation};
 ghost use Rattle.std.specs.FinMap as map;
 ghost use Rattle.sp_cell.specs.Map.{Shared, IsPiece, cells_at};
@@ -46,14 +46,18 @@ fn rises(spots: &[Spot]) -> bool {
     true
 }
 
-/// The same spots in their order. Added so, each goes to the end of slots; one that goes between others moves all
-/// behind it.
-fn in_order(alloc: Global, spots: &[Spot]) -> Result<Vec<Spot>, Memory>
-    ensures { IfOk result (λ sorted. IsPermutation spots.now sorted.items) }
+/// The same spots in their order: as they are, or as a sorted copy that is put into `room`. Added so, each goes to the
+/// end of slots; one that goes between others moves all that come after it.
+fn in_order<'a>(spots: &'a [Spot], room: &'a mut Vec<Spot>) -> Result<&'a [Spot], Memory>
+    requires { room.old.items ≡ [] }
+    ensures { IfOk result (λ sorted. IsPermutation spots.now sorted.now) }
 {
-    let mut sorted = Vec::from_slice(alloc, spots)?;
-    sorted.sort_unstable();
-    Ok(sorted)
+    if rises(spots) {
+        return Ok(spots);
+    }
+    room.extend_from_slice(spots)?;
+    room.sort_unstable();
+    Ok(room.as_slice())
 }
 
 /// Adds every spot, with nothing there yet, one after another.
@@ -72,11 +76,9 @@ fn keep_each(slots: &mut Slots, spots: &[Spot]) -> Result<(), Memory>
 pub(crate) fn keep_room(alloc: Global, slots: &mut Slots, spots: &[Spot]) -> Result<(), Memory>
     ensures { OnOk result (slots.new ≡ with_away slots.old spots.now) }
 {
-    if rises(spots) {
-        return keep_each(slots, spots);
-    }
-    let sorted = in_order(alloc, spots)?;
-    keep_each(slots, &sorted)
+    let mut room = Vec::new(alloc);
+    let sorted = in_order(spots, &mut room)?;
+    keep_each(slots, sorted)
 }
 
 /// One more holder of the cells at the spot. The first one copies the piece, which the parent goes on to own.
@@ -135,11 +137,9 @@ pub(crate) fn lend(
     ensures ready { OnOk result (ready.new ≡ with_shared from.now spots.now ready.old) }
     ensures lent { OnOk result (IsLent from.now ready.new) }
 {
-    if rises(spots) {
-        return lend_each(alloc, from, ready, to, spots);
-    }
-    let sorted = in_order(alloc, spots)?;
-    lend_each(alloc, from, ready, to, &sorted)
+    let mut room = Vec::new(alloc);
+    let sorted = in_order(spots, &mut room)?;
+    lend_each(alloc, from, ready, to, sorted)
 }
 
 /// Spots that the plan shares, in their order, where the children ask for them in another order; else none. The
@@ -158,23 +158,4 @@ pub(crate) fn shares_in_order(alloc: Global, plan: &[Handing]) -> Result<Vec<Spo
     }
     spots.sort_unstable();
     Ok(spots)
-}
-
-/// Makes the pieces at the spots ready to be shared, before the first child asks for one.
-#[tactic(auto, using(sp_cell::proofs::Steps::lent_step, sp_cell::proofs::Steps::lent_lent))]
-pub(crate) fn make_ready(
-    alloc: Global,
-    from: &Slots,
-    ready: &mut Slots,
-    spots: &[Spot],
-) -> Result<(), Memory>
-    requires pieces { PieceAtEach from.now spots.now }
-    requires lent { IsLent from.now ready.old }
-    ensures ready { OnOk result (ready.new ≡ with_shared from.now spots.now ready.old) }
-    ensures lent { OnOk result (IsLent from.now ready.new) }
-{
-    for spot in spots {
-        one_more(alloc, from, ready, *spot)?;
-    }
-    Ok(())
 }

@@ -389,7 +389,9 @@ impl Store {
         let alloc = *self.own.allocator();
         let mut ready = Slots::new(alloc);
         let first = fork::shares_in_order(alloc, plan)?;
-        fork::make_ready(alloc, &self.slots, &mut ready, &first)?;
+        // Lent once before the first child, so that `ready` gets them in their order.
+        let mut spare = Slots::new(alloc);
+        fork::lend(alloc, &self.slots, &mut ready, &mut spare, &first)?;
         let mut children = Vec::new(alloc);
         for handing in plan {
             let child = Store::prepare(alloc, &self.slots, &mut ready, handing)?;

@@ -14,22 +14,22 @@ use Rattle.sp_store.proofs.store.Store.split_by.Goals as goal
 
 pub loop-handing-init : goal.loop-handing-init
 loop-handing-init c = record {
-  ready = c.in_ok-make_ready.ensures.ready
+  ready = c.in_ok-lend.ensures.ready
       ∙ ap (λ (ss : List Spot). with_shared c.self.inside.slots ss c.new-ready.result) c.deref.ensures.value
       ∙ ap (with_shared c.self.inside.slots c.in_ok-first.first.items) c.new-ready.ensures;
-  lent = c.in_ok-make_ready.ensures.lent;
+  lent = c.in_ok-lend.ensures.lent;
   children = c.new-children.ensures.items;
 }
 
-pub make_ready-requires-clause-pieces : goal.make_ready-requires-clause-pieces
-make_ready-requires-clause-pieces c =
+pub lend-requires-clause-pieces : goal.lend-requires-clause-pieces
+lend-requires-clause-pieces c =
     let slots = ap (λ (p : Plain). p.map) c.self.view_is in
     at_places (λ q. IsPiece (map.get c.self.inside.slots q)) c.deref.result.now
     (λ q i. subst (λ (y : Map). IsPiece (map.get y q)) (sym slots)
     (c.requires.pieces q (c.in_ok-first.ensures q (subst (In q) c.deref.ensures.value i))))
 
-pub make_ready-requires-clause-lent : goal.make_ready-requires-clause-lent
-make_ready-requires-clause-lent c q = inl (rw c.new-ready.ensures (map.get-empty spot_cmp q))
+pub lend-requires-clause-lent : goal.lend-requires-clause-lent
+lend-requires-clause-lent c q = inl (rw c.new-ready.ensures (map.get-empty spot_cmp q))
 
 pub prepare-requires-clause-pieces : goal.prepare-requires-clause-pieces
 prepare-requires-clause-pieces c =
