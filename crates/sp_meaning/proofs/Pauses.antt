@@ -28,43 +28,79 @@ abbrev own_at : ℕ → Process
 own_at n = own_by (running_process loop (at n) [])
 
 pauses : IsAlong loop 2 (record { who = []; what = Paused } ∷ record { who = []; what = Ended } ∷ []) 5 (at 5)
-pauses = (
-  refl,
-  3,
-  2,
-  at 3,
-  true,
-  refl,
-  (
-    own_at 0,
+pauses = record {
+  not_laid = refl;
+  steps = 3;
+  rest = 2;
+  middle = at 3;
+  paused = true;
+  size = refl;
+  turns = record {
+    process = own_at 0;
+    runs = refl;
+    enters_none = refl;
+    next = at 1;
+    steps = refl;
+    ahead = record {
+      process = own_at 1;
+      runs = refl;
+      enters_none = refl;
+      next = at 2;
+      steps = refl;
+      ahead = record {
+        process = own_at 2;
+        runs = refl;
+        enters_none = refl;
+        next = at 3;
+        steps = refl;
+        ahead = (refl, refl, refl);
+      };
+    };
+  };
+  enters = (
     refl,
     refl,
-    at 1,
-    refl,
-    (
-      own_at 1,
-      refl,
-      refl,
-      at 2,
-      refl,
-      (own_at 2, refl, refl, at 3, refl, (refl, refl, refl)),
-    ),
-  ),
-  (
-    refl,
-    refl,
-    (
-      refl,
-      1,
-      1,
-      at 4,
-      false,
-      refl,
-      (own_at 3, refl, refl, at 4, refl, (refl, refl, own_at 4, refl, Ended, refl)),
-      (refl, refl, at 5, 0, refl, (own_at 4, refl, refl, refl), (refl, refl)),
-    ),
-  ),
-)
+    record {
+      not_laid = refl;
+      steps = 1;
+      rest = 1;
+      middle = at 4;
+      paused = false;
+      size = refl;
+      turns = record {
+        process = own_at 3;
+        runs = refl;
+        enters_none = refl;
+        next = at 4;
+        steps = refl;
+        ahead = record {
+          stays = refl;
+          unpaused = refl;
+          process = own_at 4;
+          runs = refl;
+          what = Ended;
+          happens = refl;
+        };
+      };
+      enters = (
+        refl,
+        record {
+          unpaused = refl;
+          next = at 5;
+          rest = 0;
+          size = refl;
+          makes = record {
+            process = own_at 4;
+            runs = refl;
+            happens = refl;
+            steps = refl;
+          };
+          ahead = (refl, refl);
+        },
+      );
+    },
+  );
+}
 
 done : IsDone loop (at 5)
 done = refl
