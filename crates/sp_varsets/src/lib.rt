@@ -13,6 +13,7 @@
 //!   set, one of this number or a greater one.
 //! - `VarSet::new`, `next`, `words`: the empty set; the least variable from a number on; a count of words, below 64
 //!   times which all variables are.
+//! - `MOST_WORDS`: how many words hold all variables that have a number of 32 bits.
 //! - `VarUnion::new`, `add`, `meets`: the union of sets that are added one by one, without memory, of the 8,256
 //!   variables from number `64 * first` on, and whether it has one of these in common with a set.
 //!

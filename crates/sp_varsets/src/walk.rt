@@ -251,7 +251,7 @@ impl Walk {
             (sends number at (expression_of channel.now) (map expression_of values.now))) }
     {
         let mut through = Uses::new(self.alloc);
-        self.sends_through(into, &mut through, number, at, channel, values)
+        self.sends_through(into, &mut through, number, channel, values)
     }
 
     // The same, with sets of the channel's own, which are empty: a long channel is walked through once.
@@ -260,11 +260,11 @@ impl Walk {
         into: &mut Uses,
         through: &mut Uses,
         number: u32,
-        at: Place,
         channel: &Expr,
         values: &[Expr],
     ) -> Result<(), Memory>
-        ensures { AreEmpty through.old → OnOk result (WalksStatements self.old self.new into.old into.new
+        ensures { (at : APlace) → AreEmpty through.old
+            → OnOk result (WalksStatements self.old self.new into.old into.new
             (sends number at (expression_of channel.now) (map expression_of values.now))) }
     {
         through.expression(channel)?;
@@ -324,7 +324,7 @@ impl Walk {
             (receives number at (expression_of channel.now) (map variable_of variables.now))) }
     {
         let mut through = Uses::new(self.alloc);
-        self.receives_through(into, &mut through, number, at, channel, variables)
+        self.receives_through(into, &mut through, number, channel, variables)
     }
 
     // The same, with sets of the channel's own, which are empty: a long channel is walked through once.
@@ -333,11 +333,11 @@ impl Walk {
         into: &mut Uses,
         through: &mut Uses,
         number: u32,
-        at: Place,
         channel: &Expr,
         variables: &[Var],
     ) -> Result<(), Memory>
-        ensures { AreEmpty through.old → OnOk result (WalksStatements self.old self.new into.old into.new
+        ensures { (at : APlace) → AreEmpty through.old
+            → OnOk result (WalksStatements self.old self.new into.old into.new
             (receives number at (expression_of channel.now) (map variable_of variables.now))) }
     {
         through.expression(channel)?;

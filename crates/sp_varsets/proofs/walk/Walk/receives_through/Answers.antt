@@ -6,15 +6,15 @@ use Rattle.sp_varsets.proofs.StatementRecords.{walked_both, walked_no_statements
 use Rattle.sp_varsets.proofs.walk.Walk.receives_through.Goals as goal
 
 pub loop-i-preserved : goal.loop-i-preserved
-loop-i-preserved c v z start e f w =
-    let on = receives_on c.args.variables.now c.loop-i.i c.args.number c.args.at (expression_of c.args.channel.now)
+loop-i-preserved c at v z start e f w =
+    let on = receives_on c.args.variables.now c.loop-i.i c.args.number at (expression_of c.args.channel.now)
     c.index-variables-i.result c.loop-i-test.true c.index-variables-i.is in
     let one = subst (λ n. WalksStatement c.loop-i.self c.receive.new.self c.loop-i.into c.receive.new.into
-    (Does n c.args.at (Receive (expression_of c.args.channel.now) (variable_of c.index-variables-i.result))))
-    c.in_ok-number_from.ensures (c.in_ok-receive.ensures c.args.at (expression_of c.args.channel.now) start e f) in
-    c.loop-i.invariant v z start e f (rw on (walked_both one w))
+    (Does n at (Receive (expression_of c.args.channel.now) (variable_of c.index-variables-i.result))))
+    c.in_ok-number_from.ensures (c.in_ok-receive.ensures at (expression_of c.args.channel.now) start e f) in
+    c.loop-i.invariant at v z start e f (rw on (walked_both one w))
 
 pub returns : goal.returns
-returns c empty = c.loop-i.invariant c.loop-i.self c.loop-i.into c.args.through.now empty c.in_ok-expression.ensures
-    (rw (receives_end c.args.variables.now c.loop-i.i (c.args.number + c.loop-i.i) c.args.at
+returns c at empty = c.loop-i.invariant at c.loop-i.self c.loop-i.into c.args.through.now empty c.in_ok-expression.ensures
+    (rw (receives_end c.args.variables.now c.loop-i.i (c.args.number + c.loop-i.i) at
     (expression_of c.args.channel.now) c.loop-i-test.false) (walked_no_statements c.loop-i.self c.loop-i.into))

@@ -6,16 +6,16 @@ use Rattle.sp_varsets.proofs.StatementRecords.{walked_both, walked_no_statements
 use Rattle.sp_varsets.proofs.walk.Walk.sends_through.Goals as goal
 
 pub loop-i-preserved : goal.loop-i-preserved
-loop-i-preserved c v z start e f w =
-    let on = sends_on c.args.values.now c.loop-i.i c.args.number c.args.at (expression_of c.args.channel.now)
+loop-i-preserved c at v z start e f w =
+    let on = sends_on c.args.values.now c.loop-i.i c.args.number at (expression_of c.args.channel.now)
     c.index-values-i.result c.loop-i-test.true c.index-values-i.is in
     let one = subst (λ n. WalksStatement c.loop-i.self c.send.new.self c.loop-i.into c.send.new.into
-    (Does n c.args.at (Send (expression_of c.args.channel.now) (expression_of c.index-values-i.result))))
-    c.in_ok-number_from.ensures (c.in_ok-send.ensures c.args.at (expression_of c.args.channel.now) start e f) in
-    c.loop-i.invariant v z start e f (rw on (walked_both one w))
+    (Does n at (Send (expression_of c.args.channel.now) (expression_of c.index-values-i.result))))
+    c.in_ok-number_from.ensures (c.in_ok-send.ensures at (expression_of c.args.channel.now) start e f) in
+    c.loop-i.invariant at v z start e f (rw on (walked_both one w))
 
 pub returns : goal.returns
-returns c empty = c.loop-i.invariant c.loop-i.self c.loop-i.into c.args.through.now empty c.in_ok-expression.ensures
-    (rw (sends_end c.args.values.now c.loop-i.i (c.args.number + c.loop-i.i) c.args.at
+returns c at empty = c.loop-i.invariant at c.loop-i.self c.loop-i.into c.args.through.now empty c.in_ok-expression.ensures
+    (rw (sends_end c.args.values.now c.loop-i.i (c.args.number + c.loop-i.i) at
     (expression_of c.args.channel.now) c.loop-i-test.false)
     (walked_no_statements c.loop-i.self c.loop-i.into))
