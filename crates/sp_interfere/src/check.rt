@@ -10,6 +10,7 @@ ghost use Rattle.sp_interfere.specs.Rules.{is_reference, is_function, formal_rul
 ghost use Rattle.sp_interfere.specs.Rules.{blocks_first, rules_first};
 ghost use Rattle.sp_interfere.specs.Verdict.{IsVerdict};
 
+use crate::block_context::BlockContext;
 use crate::set_tests::is_any;
 use crate::statements::statement_first;
 use sp_base::{Refusal, Rule};
@@ -80,7 +81,13 @@ fn block_first(b: u32, k: &Block, c: &Checked, s: &Sets, first: FirstRefusal) ->
     ensures { result ≡ blocks_first s.now (program_of c.now) b (block_of k.now ∷ []) first }
 {
     let first = heading_first(b, k, c, s, first);
-    statement_first(&k.body, c, s, is_function(k.answer), b, first)
+    let block = BlockContext {
+        checked: c,
+        sets: s,
+        is_function: is_function(k.answer),
+        number: b,
+    };
+    statement_first(&k.body, &block, first)
 }
 
 fn rules_first(c: &Checked, s: &Sets) -> FirstRefusal

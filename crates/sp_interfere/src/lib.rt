@@ -18,6 +18,7 @@
 //! - A rule: its clause in `specs/Rules.antt`, its function in `src/sites.rt` or `src/check.rt`.
 #![tactic(auto)]
 
+mod block_context;
 mod check;
 mod expressions;
 mod parts;

@@ -5,8 +5,10 @@ ghost use Rattle.std.specs.Option.{option_copied, option_map};
 ghost use Rattle.sp_tree.specs.CheckedOf.{actuals, actual_of, block_of, statement_of, statements, program_of};
 ghost use Rattle.sp_tree.specs.Sites.{CallsAt, LoopsAt, SpreadsAt, SplitsAt, StopsAt};
 ghost use Rattle.sp_interfere.specs.Rules.{is_among, parent_of, stands_in, inside_rule, called_first, passed_first};
-ghost use Rattle.sp_interfere.specs.Rules.{repeats_first, references, site_first};
+ghost use Rattle.sp_interfere.specs.Rules.{repeats_first, references};
+ghost use Rattle.sp_interfere.specs.BlockRules.{rules_in};
 
+use crate::block_context::BlockContext;
 use crate::parts::parts_first;
 use crate::set_tests::{has_declared, has_implicit, is_any};
 use sp_base::{List, Place, Rule};
@@ -111,64 +113,54 @@ fn passed_first(f: u32, args: &[Actual], s: &Sets, first: FirstRefusal) -> First
     first
 }
 
-/// I5, I6 and I9 at a call in block `d`.
+/// I5, I6 and I9 at a call in a block.
 fn called_first(
     k: Option<&Block>,
     f: u32,
     at: Place,
     args: &[Actual],
-    c: &Checked,
-    s: &Sets,
-    in_function: bool,
-    d: u32,
+    block: &BlockContext,
     first: FirstRefusal,
 ) -> FirstRefusal
-    ensures { result ≡ called_first s.now (program_of c.now) in_function d f at (actuals (map actual_of args.now))
+    ensures { result ≡ called_first block.now.sets.now (program_of block.now.checked.now)
+        block.now.is_function block.now.number f at (actuals (map actual_of args.now))
         (option_map block_of (option_copied k.entry)) first }
 {
     match k {
         None => first,
         Some(k) => {
-            let first = passed_first(f, args, s, first);
-            let first = earlier_refusal(first, inside_rule(d, f, k.at, c, s));
-            earlier_refusal(first, breaks_if(Rule::I9, at, in_function && s.stops(f)))
+            let first = passed_first(f, args, block.sets, first);
+            let inside = inside_rule(block.number, f, k.at, block.checked, block.sets);
+            let first = earlier_refusal(first, inside);
+            let stops = block.is_function && block.sets.stops(f);
+            earlier_refusal(first, breaks_if(Rule::I9, at, stops))
         }
     }
 }
 
-/// A call in block `d`, which is a function or not.
+/// A call in a block.
 #[tactic(auto, using(crate::proofs::BlockLevels::block_there))]
 pub fn call_first(
     f: u32,
     at: Place,
     args: &List<Actual>,
-    c: &Checked,
-    s: &Sets,
-    in_function: bool,
-    d: u32,
+    block: &BlockContext,
     first: FirstRefusal,
 ) -> FirstRefusal
-    ensures { result ≡ site_first s.now (program_of c.now) in_function d
+    ensures { result ≡ rules_in block.now
         (CallsAt f at (actuals (map actual_of args.now))) first }
 {
-    let first = repeats_first(args.items(), s, first);
-    let k = c.blocks.get(f as usize);
-    called_first(k, f, at, args.items(), c, s, in_function, d, first)
+    let first = repeats_first(args.items(), block.sets, first);
+    let k = block.checked.blocks.get(f as usize);
+    called_first(k, f, at, args.items(), block, first)
 }
 
 /// A parallel statement.
-pub fn split_first(
-    parts: &List<Stmt>,
-    c: &Checked,
-    s: &Sets,
-    in_function: bool,
-    d: u32,
-    first: FirstRefusal,
-) -> FirstRefusal
-    ensures { result ≡ site_first s.now (program_of c.now) in_function d
+pub fn split_first(parts: &List<Stmt>, block: &BlockContext, first: FirstRefusal) -> FirstRefusal
+    ensures { result ≡ rules_in block.now
         (SplitsAt (statements (map statement_of parts.now))) first }
 {
-    parts_first(parts.items(), s, first)
+    parts_first(parts.items(), block.sets, first)
 }
 
 /// A forall statement with this element statement.
@@ -176,15 +168,15 @@ pub fn spread_first(
     at: Place,
     x: u32,
     t: &Stmt,
-    c: &Checked,
-    s: &Sets,
-    in_function: bool,
-    d: u32,
+    block: &BlockContext,
     first: FirstRefusal,
 ) -> FirstRefusal
-    ensures { result ≡ site_first s.now (program_of c.now) in_function d (SpreadsAt at x (statement_of t.now)) first }
+    ensures { result ≡ rules_in block.now (SpreadsAt at x (statement_of t.now)) first }
 {
-    earlier_refusal(first, breaks_if(Rule::I2, at, is_any(s.targets(t.number))))
+    earlier_refusal(
+        first,
+        breaks_if(Rule::I2, at, is_any(block.sets.targets(t.number))),
+    )
 }
 
 /// A `for` statement with this variable and this body.
@@ -192,30 +184,20 @@ pub fn loop_first(
     x: u32,
     at: Place,
     t: &Stmt,
-    c: &Checked,
-    s: &Sets,
-    in_function: bool,
-    d: u32,
+    block: &BlockContext,
     first: FirstRefusal,
 ) -> FirstRefusal
-    ensures { result ≡ site_first s.now (program_of c.now) in_function d (LoopsAt x at (statement_of t.now)) first }
+    ensures { result ≡ rules_in block.now (LoopsAt x at (statement_of t.now)) first }
 {
     earlier_refusal(
         first,
-        breaks_if(Rule::I3, at, s.targets(t.number).contains(x)),
+        breaks_if(Rule::I3, at, block.sets.targets(t.number).contains(x)),
     )
 }
 
 /// A statement that a function may not have.
-pub fn stop_first(
-    at: Place,
-    c: &Checked,
-    s: &Sets,
-    in_function: bool,
-    d: u32,
-    first: FirstRefusal,
-) -> FirstRefusal
-    ensures { result ≡ site_first s.now (program_of c.now) in_function d (StopsAt at) first }
+pub fn stop_first(at: Place, block: &BlockContext, first: FirstRefusal) -> FirstRefusal
+    ensures { result ≡ rules_in block.now (StopsAt at) first }
 {
-    earlier_refusal(first, breaks_if(Rule::I9, at, in_function))
+    earlier_refusal(first, breaks_if(Rule::I9, at, block.is_function))
 }
