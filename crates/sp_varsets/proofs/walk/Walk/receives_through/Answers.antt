@@ -15,6 +15,6 @@ loop-i-preserved c at v z start e f w =
     c.loop-i.invariant at v z start e f (rw on (walked_both one w))
 
 pub returns : goal.returns
-returns c at empty = c.loop-i.invariant at c.loop-i.self c.loop-i.into c.args.through.now empty c.in_ok-expression.ensures
-    (rw (receives_end c.args.variables.now c.loop-i.i (c.args.number + c.loop-i.i) at
+returns c at empty = c.loop-i.invariant at c.loop-i.self c.loop-i.into c.args.through.now empty
+    c.in_ok-expression.ensures (rw (receives_end c.args.variables.now c.loop-i.i (c.args.number + c.loop-i.i) at
     (expression_of c.args.channel.now) c.loop-i-test.false) (walked_no_statements c.loop-i.self c.loop-i.into))

@@ -15,7 +15,7 @@ loop-i-preserved c at v z start e f w =
     c.loop-i.invariant at v z start e f (rw on (walked_both one w))
 
 pub returns : goal.returns
-returns c at empty = c.loop-i.invariant at c.loop-i.self c.loop-i.into c.args.through.now empty c.in_ok-expression.ensures
-    (rw (sends_end c.args.values.now c.loop-i.i (c.args.number + c.loop-i.i) at
+returns c at empty = c.loop-i.invariant at c.loop-i.self c.loop-i.into c.args.through.now empty
+    c.in_ok-expression.ensures (rw (sends_end c.args.values.now c.loop-i.i (c.args.number + c.loop-i.i) at
     (expression_of c.args.channel.now) c.loop-i-test.false)
     (walked_no_statements c.loop-i.self c.loop-i.into))
