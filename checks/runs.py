@@ -82,7 +82,7 @@ OPEN = {
     "sp_replay/proofs/LiveRoots": "awaits",
     "sp_report/specs/Census": "is_counted",
     "sp_verify_rules/proofs/AnswerRow": "ends_there is_straight straight_on",
-    "sp_verify_rules/proofs/Effects": "stored_p",
+    "sp_verify_rules/proofs/Effects": "stored_have",
     "sp_verify_rules/proofs/Safety": "received_room",
     "sp_verify_rules/proofs/Turns": "one_fits",
     "sp_verify_rules/specs/Verdict": "is_stop",

@@ -6,13 +6,14 @@ use Rattle.std.specs.Prelude.{slice_get}
 use Rattle.std.proofs.lemmas.Bool.{and_parts}
 use Rattle.std.proofs.lemmas.Option.{same_Some}
 use Rattle.sp_base.proofs.Facts.{not_true_and_false}
+use Rattle.sp_tree.specs.Interference.{IsMember}
 use Rattle.sp_code.specs.declared.instr.Instr.{Instr}
 use Rattle.sp_code.specs.declared.instr.Instr.TheVariants as i
 use Rattle.sp_code.specs.declared.code.Layout.{Layout}
 use Rattle.sp_code.specs.declared.code.ChildTable.{ChildTable}
 use Rattle.sp_verify_rules.specs.Areas.{Area, Body, instr_at, child_of, table_at, table_named, leads_by}
 use Rattle.sp_verify_rules.specs.Shapes.{Shape}
-use Rattle.sp_verify_rules.specs.Reach.{nexts, IsIn}
+use Rattle.sp_verify_rules.specs.Reach.{nexts}
 use Rattle.sp_verify_rules.specs.NameRules.{names_there, level_fits, ends_well, in_range, names_well, loops_well}
 use Rattle.sp_verify_rules.specs.NameRules.{has_sizes}
 use Rattle.sp_verify_rules.specs.NameRules.{is_program, Declared, InLayout, OfChild, IsBefore, declaration_at, LiesIn}
@@ -51,7 +52,7 @@ misplaced well e p (a, l, f) = not_true_and_false (well a (instr_at product_as_i
     a l.0) f
 
 -- no instruction goes on past the last one
-ends_there : (p : ℕ) → 9 ≤ p + 1 → IsIn (p + 1) (nexts p (instr_at product_as_int p)) → ⊥
+ends_there : (p : ℕ) → 9 ≤ p + 1 → IsMember (p + 1) (nexts p (instr_at product_as_int p)) → ⊥
 ends_there zero h m = omega (arith, h)
 ends_there (suc zero) h m = omega (arith, h)
 ends_there (suc (suc zero)) h m = omega (arith, h)
@@ -128,7 +129,7 @@ is_straight (Some (i.Nextup var to)) = false
 is_straight (Some (i.Nextdown var to)) = false
 is_straight o = true
 
-straight_on : (p q : ℕ) (o : Option Instr) → is_straight o ≡ true → IsIn q (free_nexts p o) → q ≡ p + 1
+straight_on : (p q : ℕ) (o : Option Instr) → is_straight o ≡ true → IsMember q (free_nexts p o) → q ≡ p + 1
 straight_on p q None e m = absurd m
 straight_on p q (Some (i.Jump to)) e m = absurd (cc e)
 straight_on p q (Some (i.Jumpf to)) e m = absurd (cc e)

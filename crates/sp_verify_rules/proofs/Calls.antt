@@ -51,7 +51,7 @@ module _ (ls : List Layout) (ha : List Home) (k : ℕ) (l : Layout) (fs : List F
   hb = OfBlock l.block ∷ drop k ha
 
   pub chain_new : Chain hb (f ∷ fs)
-  chain_new = (refl, up_length k fs, subst (Chain (drop k ha)) (sym (last_up k fs)) (chain_up ls k ha fs chain))
+  chain_new = (refl, up_length k fs, subst (Chain (drop k ha)) (sym (last_up k fs)) (chain_up k ha fs chain))
 
   not_own : (y : ℕ) → IsMember y (all_variables ls (drop k ha)) → IsMember y (variables_in ls (OfBlock l.block)) → ⊥
   not_own y m n = different_apart y l.variables (all_variables ls (drop k ha)) distinct

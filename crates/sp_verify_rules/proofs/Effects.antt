@@ -16,179 +16,195 @@ use Rattle.sp_code.specs.Machine.{layout_of}
 use Rattle.sp_code.specs.Memory.{Home, OfBlock, OfIndex}
 use Rattle.sp_cell.proofs.FrameLaws.{is_same}
 use Rattle.sp_verify_rules.specs.Areas.{Area, Body, Child, VariableInfo, on_option, variable_at, homes, with_home}
-use Rattle.sp_verify_rules.specs.Areas.{instr_at}
-use Rattle.sp_verify_rules.specs.Areas.{child_at}
-use Rattle.sp_verify_rules.specs.Areas.{child_of, table_at, table_named, index_of_child}
+use Rattle.sp_verify_rules.specs.Areas.{instr_at, child_at, child_of, table_at, table_named, index_of_child}
 use Rattle.sp_verify_rules.specs.Chains.{variables_of, variables_in, all_variables}
 use Rattle.sp_verify_rules.specs.Effects.{EffectKind, Stored, Loaded, CountsAsEffect, Becomes, IsStarted, IsCalled}
-use Rattle.sp_verify_rules.specs.Effects.{EffectBy, IsEffect}
-use Rattle.sp_verify_rules.specs.Effects.{HasEffect, handed_to, does_at, handed_as, Does, Granted, May}
+use Rattle.sp_verify_rules.specs.Effects.{EffectBy, IsEffect, HasEffect, handed_to, does_at, handed_as, Does, Granted}
+use Rattle.sp_verify_rules.specs.Effects.{May}
 use Rattle.sp_verify_rules.specs.Forks.{KeepsEffects}
 use Rattle.sp_verify_rules.specs.KeepsCodeRules.{KeepsCodeRules}
-use Rattle.sp_verify_rules.specs.NameRules.{Names, Unknown, is_block, is_in, is_loop_variable, is_plain, has_variable}
-use Rattle.sp_verify_rules.specs.NameRules.{some_has}
-use Rattle.sp_verify_rules.specs.NameRules.{level_fits, loops_well}
-use Rattle.sp_verify_rules.specs.Reach.{IsIn, IsArea}
+use Rattle.sp_verify_rules.specs.NameRules.{Names, IsChild, Unknown, is_block, is_in, is_loop_variable, is_plain}
+use Rattle.sp_verify_rules.specs.NameRules.{has_variable, some_has, level_fits, loops_well}
+use Rattle.sp_verify_rules.specs.Reach.{IsArea}
 use Rattle.sp_verify_rules.specs.Shapes.{Shape, O, C, L, A, below_topmost}
 use Rattle.sp_verify_rules.specs.Touches.{stored_by, loaded_by, topmost_variable, addresses, number_list}
 use Rattle.sp_verify_rules.proofs.Addresses.{AllP, addresses_around, found_around}
 use Rattle.sp_verify_rules.proofs.FrameScopes.{found_layout, area_drop, homes_step, is_block_of, inner}
 use Rattle.sp_verify_rules.proofs.ShapePaths.{passes}
 
-pub is_member : (x : ℕ) (ys : List ℕ) → IsIn x ys → IsMember x ys
-is_member x [] h = h
-is_member x (y ∷ ys) (inl e) = inl e
-is_member x (y ∷ ys) (inr h) = inr (is_member x ys h)
-
-pub is_in_list : (x : ℕ) (ys : List ℕ) → IsMember x ys → IsIn x ys
-is_in_list x [] h = h
-is_in_list x (y ∷ ys) (inl e) = inl e
-is_in_list x (y ∷ ys) (inr h) = inr (is_in_list x ys h)
+-- ---- what an instruction touches, where each address is in a variable of P
 
 module _ (P : ℕ → Type 0) where
-  -- what is touched at the top of the stack
-  pub top_p : (ss : List Shape) (x : ℕ) → AllP P ss → IsIn x (topmost_variable ss) → P x
-  top_p [] x h i = absurd i
-  top_p (O ∷ ss) x h i = absurd i
-  top_p (C ∷ ss) x h i = absurd i
-  top_p (L n ∷ ss) x h i = absurd i
-  top_p (A y n ∷ ss) x h (inl e) = subst P (sym e) h.0
-  top_p (A y n ∷ ss) x h (inr i) = absurd i
+  pub topmost_has : (ss : List Shape) (x : ℕ) → AllP P ss → IsMember x (topmost_variable ss) → P x
+  topmost_has [] x h i = absurd i
+  topmost_has (O ∷ ss) x h i = absurd i
+  topmost_has (C ∷ ss) x h i = absurd i
+  topmost_has (L n ∷ ss) x h i = absurd i
+  topmost_has (A y n ∷ ss) x h (inl e) = subst P (sym e) h.0
+  topmost_has (A y n ∷ ss) x h (inr i) = absurd i
 
-  pub below_p : (ss : List Shape) → AllP P ss → AllP P (below_topmost ss)
-  below_p [] h = tt
-  below_p (O ∷ ss) h = h
-  below_p (C ∷ ss) h = h
-  below_p (L n ∷ ss) h = h
-  below_p (A y n ∷ ss) h = h.1
+  pub rest_have : (ss : List Shape) → AllP P ss → AllP P (below_topmost ss)
+  rest_have [] h = tt
+  rest_have (O ∷ ss) h = h
+  rest_have (C ∷ ss) h = h
+  rest_have (L n ∷ ss) h = h
+  rest_have (A y n ∷ ss) h = h.1
 
-  some_p : (n : ℕ) (ss : List Shape) (x : ℕ) → AllP P ss → IsIn x (addresses n ss) → P x
-  some_p zero ss x h i = absurd i
-  some_p (suc n) [] x h i = absurd i
-  some_p (suc n) (O ∷ ss) x h i = some_p n ss x h i
-  some_p (suc n) (C ∷ ss) x h i = some_p n ss x h i
-  some_p (suc n) (L m ∷ ss) x h i = some_p n ss x h i
-  some_p (suc n) (A y m ∷ ss) x h (inl e) = subst P (sym e) h.0
-  some_p (suc n) (A y m ∷ ss) x h (inr i) = some_p n ss x h.1 i
+  addresses_have : (n : ℕ) (ss : List Shape) (x : ℕ) → AllP P ss → IsMember x (addresses n ss) → P x
+  addresses_have zero ss x h i = absurd i
+  addresses_have (suc n) [] x h i = absurd i
+  addresses_have (suc n) (O ∷ ss) x h i = addresses_have n ss x h i
+  addresses_have (suc n) (C ∷ ss) x h i = addresses_have n ss x h i
+  addresses_have (suc n) (L m ∷ ss) x h i = addresses_have n ss x h i
+  addresses_have (suc n) (A y m ∷ ss) x h (inl e) = subst P (sym e) h.0
+  addresses_have (suc n) (A y m ∷ ss) x h (inr i) = addresses_have n ss x h.1 i
 
-  pub at_p : (ss : List Shape) (j x n : ℕ) → AllP P ss → slice_get ss j ≡ Some (A x n) → P x
-  at_p [] j x n h e = absurd (cc e)
-  at_p (O ∷ ss) zero x n h e = absurd (cc e)
-  at_p (C ∷ ss) zero x n h e = absurd (cc e)
-  at_p (L m ∷ ss) zero x n h e = absurd (cc e)
-  at_p (A y m ∷ ss) zero x n h e = let s : y ≡ x = cc e in subst P s h.0
-  at_p (O ∷ ss) (suc j) x n h e = at_p ss j x n h e
-  at_p (C ∷ ss) (suc j) x n h e = at_p ss j x n h e
-  at_p (L m ∷ ss) (suc j) x n h e = at_p ss j x n h e
-  at_p (A y m ∷ ss) (suc j) x n h e = at_p ss j x n h.1 e
+  pub operand_has : (ss : List Shape) (j x n : ℕ) → AllP P ss → slice_get ss j ≡ Some (A x n) → P x
+  operand_has [] j x n h e = absurd (cc e)
+  operand_has (O ∷ ss) zero x n h e = absurd (cc e)
+  operand_has (C ∷ ss) zero x n h e = absurd (cc e)
+  operand_has (L m ∷ ss) zero x n h e = absurd (cc e)
+  operand_has (A y m ∷ ss) zero x n h e = let s : y ≡ x = cc e in subst P s h.0
+  operand_has (O ∷ ss) (suc j) x n h e = operand_has ss j x n h e
+  operand_has (C ∷ ss) (suc j) x n h e = operand_has ss j x n h e
+  operand_has (L m ∷ ss) (suc j) x n h e = operand_has ss j x n h e
+  operand_has (A y m ∷ ss) (suc j) x n h e = operand_has ss j x n h.1 e
 
   abbrev Small : ℕ → Type 0
   Small x = (x < 2) ⊎ P x
 
-  zero_p : (x : ℕ) (ys : List ℕ) → (IsIn x ys → Small x) → IsIn x (0 ∷ ys) → Small x
-  zero_p x ys h (inl e) = inl (omega (arith, e))
-  zero_p x ys h (inr i) = h i
+  or_input : (x : ℕ) (ys : List ℕ) → (IsMember x ys → Small x) → IsMember x (0 ∷ ys) → Small x
+  or_input x ys h (inl e) = inl (omega (arith, e))
+  or_input x ys h (inr i) = h i
 
-  one_p : (x : ℕ) → IsIn x (1 ∷ []) → Small x
-  one_p x (inl e) = inl (omega (arith, e))
-  one_p x (inr i) = absurd i
+  is_output : (x : ℕ) → IsMember x (1 ∷ []) → Small x
+  is_output x (inl e) = inl (omega (arith, e))
+  is_output x (inr i) = absurd i
 
   module _ (c : Parts) (a : Area) (found : (var : ℕ) (f : VariableInfo) → variable_at c a 0 var ≡ Some f
       → is_loop_variable (Some f) ≡ true → P f.number) (ss : List Shape) (h : AllP P ss) (x : ℕ) where
     loop : (var : ℕ) (o : Option VariableInfo) → variable_at c a 0 var ≡ o → is_loop_variable o ≡ true
-        → IsIn x (number_list o)
+        → IsMember x (number_list o)
         → Small x
     loop var None e w i = absurd i
     loop var (Some f) e w (inl s) = inr (subst P (sym s) (found var f e w))
     loop var (Some f) e w (inr i) = absurd i
 
-    called : (o : Option Layout) → IsIn x (on_option [] o (λ l. addresses (length l.formals) ss)) → Small x
+    called : (o : Option Layout) → IsMember x (on_option [] o (λ l. addresses (length l.formals) ss)) → Small x
     called None i = absurd i
-    called (Some l) i = inr (some_p (length l.formals) ss x h i)
+    called (Some l) i = inr (addresses_have (length l.formals) ss x h i)
 
-    stored_p : (o : Option Instr) → loops_well c a o ≡ true → IsIn x (stored_by c a o ss) → Small x
-    stored_p (Some i.Store) w m = inr (top_p (below_topmost ss) x (below_p ss h) m)
-    stored_p (Some (i.Copy k)) w m = inr (top_p (below_topmost ss) x (below_p ss h) m)
-    stored_p (Some (i.Forup var to)) w m = loop var (variable_at c a 0 var) refl w m
-    stored_p (Some (i.Fordown var to)) w m = loop var (variable_at c a 0 var) refl w m
-    stored_p (Some (i.Nextup var to)) w m = loop var (variable_at c a 0 var) refl w m
-    stored_p (Some (i.Nextdown var to)) w m = loop var (variable_at c a 0 var) refl w m
-    stored_p (Some (i.Call b up)) w m = called (layout_of c.layouts b) m
-    stored_p (Some i.ReadInt) w m = zero_p x (topmost_variable ss) (λ j. inr (top_p ss x h j)) m
-    stored_p (Some i.ReadChar) w m = zero_p x (topmost_variable ss) (λ j. inr (top_p ss x h j)) m
-    stored_p (Some i.Readln) w m = zero_p x [] (λ j. absurd j) m
-    stored_p (Some i.WriteInt) w m = one_p x m
-    stored_p (Some i.WriteChar) w m = one_p x m
-    stored_p (Some i.WriteBool) w m = one_p x m
-    stored_p (Some (i.WriteText k)) w m = one_p x m
-    stored_p (Some i.WritewInt) w m = one_p x m
-    stored_p (Some i.WritewChar) w m = one_p x m
-    stored_p (Some i.WritewBool) w m = one_p x m
-    stored_p (Some (i.WritewText k)) w m = one_p x m
-    stored_p (Some i.Writeln) w m = one_p x m
-    stored_p (Some i.Open) w m = inr (top_p ss x h m)
-    stored_p (Some (i.Receive k)) w m = inr (top_p ss x h m)
-    stored_p _ w m = absurd m
+    stored_have : (o : Option Instr) → loops_well c a o ≡ true → IsMember x (stored_by c a o ss) → Small x
+    stored_have (Some i.Store) w m = inr (topmost_has (below_topmost ss) x (rest_have ss h) m)
+    stored_have (Some (i.Copy k)) w m = inr (topmost_has (below_topmost ss) x (rest_have ss h) m)
+    stored_have (Some (i.Forup var to)) w m = loop var (variable_at c a 0 var) refl w m
+    stored_have (Some (i.Fordown var to)) w m = loop var (variable_at c a 0 var) refl w m
+    stored_have (Some (i.Nextup var to)) w m = loop var (variable_at c a 0 var) refl w m
+    stored_have (Some (i.Nextdown var to)) w m = loop var (variable_at c a 0 var) refl w m
+    stored_have (Some (i.Call b up)) w m = called (layout_of c.layouts b) m
+    stored_have (Some i.ReadInt) w m = or_input x (topmost_variable ss) (λ j. inr (topmost_has ss x h j)) m
+    stored_have (Some i.ReadChar) w m = or_input x (topmost_variable ss) (λ j. inr (topmost_has ss x h j)) m
+    stored_have (Some i.Readln) w m = or_input x [] (λ j. absurd j) m
+    stored_have (Some i.WriteInt) w m = is_output x m
+    stored_have (Some i.WriteChar) w m = is_output x m
+    stored_have (Some i.WriteBool) w m = is_output x m
+    stored_have (Some (i.WriteText k)) w m = is_output x m
+    stored_have (Some i.WritewInt) w m = is_output x m
+    stored_have (Some i.WritewChar) w m = is_output x m
+    stored_have (Some i.WritewBool) w m = is_output x m
+    stored_have (Some (i.WritewText k)) w m = is_output x m
+    stored_have (Some i.Writeln) w m = is_output x m
+    stored_have (Some i.Open) w m = inr (topmost_has ss x h m)
+    stored_have (Some (i.Receive k)) w m = inr (topmost_has ss x h m)
+    stored_have _ w m = absurd m
 
-    loaded_p : (o : Option Instr) → IsIn x (loaded_by c a o ss) → Small x
-    loaded_p (Some i.Load) m = inr (top_p ss x h m)
-    loaded_p (Some i.Loadc) m = inr (top_p ss x h m)
-    loaded_p (Some (i.Pack k)) m = inr (top_p ss x h m)
-    loaded_p (Some (i.Copy k)) m = inr (top_p ss x h m)
-    loaded_p (Some i.Eof) m = zero_p x [] (λ j. absurd j) m
-    loaded_p (Some i.Eoln) m = zero_p x [] (λ j. absurd j) m
-    loaded_p _ m = absurd m
+    loaded_have : (o : Option Instr) → IsMember x (loaded_by c a o ss) → Small x
+    loaded_have (Some i.Load) m = inr (topmost_has ss x h m)
+    loaded_have (Some i.Loadc) m = inr (topmost_has ss x h m)
+    loaded_have (Some (i.Pack k)) m = inr (topmost_has ss x h m)
+    loaded_have (Some (i.Copy k)) m = inr (topmost_has ss x h m)
+    loaded_have (Some i.Eof) m = or_input x [] (λ j. absurd j) m
+    loaded_have (Some i.Eoln) m = or_input x [] (λ j. absurd j) m
+    loaded_have _ m = absurd m
 
 module _ (c : Parts) (k : KeepsCodeRules c) (e : KeepsEffects c (Does c)) (known : (p : ℕ) → Unknown c p → ⊥) where
   abbrev Around : Area → ℕ → Type 0
   Around a x = IsMember x (all_variables c.layouts (homes c a))
 
+  abbrev AroundWith : Option ℕ → Area → ℕ → Type 0
+  AroundWith index a x = IsMember x (all_variables c.layouts (with_home index (homes c a)))
+
   -- ---- tables
 
-  -- the table that an instruction names, where it has a child
-  table_of_child : (p j : ℕ) (t : ChildTable) → child_at c p j ≡ Some t → (n : ℕ) × Names c n p
-      × (child_of (slice_get c.forks n) j ≡ Some t)
-  table_of_child p j t s = go (table_named (instr_at c p)) refl s
+  -- an instruction names the table of its child
+  record TableOfChild (p j : ℕ) (t : ChildTable) : Type 0 where
+    table : ℕ
+    names_table : Names c table p
+    is_child : IsChild c table j t
+
+  table_of_child : (p j : ℕ) (t : ChildTable) → child_at c p j ≡ Some t → TableOfChild p j t
+  table_of_child p j t s = of_name (table_named (instr_at c p)) refl s
     where
-      go : (o : Option ℕ) → table_named (instr_at c p) ≡ o → child_of (table_at c.forks o) j ≡ Some t → (n : ℕ)
-          × Names c n p × (child_of (slice_get c.forks n) j ≡ Some t)
-      go None w s = absurd (cc s)
-      go (Some n) w s = (n, w, s)
+      of_name : (o : Option ℕ) → table_named (instr_at c p) ≡ o → child_of (table_at c.forks o) j ≡ Some t
+          → TableOfChild p j t
+      of_name None w s = absurd (cc s)
+      of_name (Some n) w s = record { table = n; names_table = w; is_child = s }
 
   has_member : (x : ℕ) (ys : List ℕ) → is_in x ys ≡ true → IsMember x ys
   has_member x [] h = absurd (cc h)
-  has_member x (y ∷ ys) h = go (x == y) refl h (λ w. has_member x ys w)
+  has_member x (y ∷ ys) h = here_or_later (x == y) refl h (λ w. has_member x ys w)
     where
-      go : (t : Bool) → (x == y) ≡ t → (t || is_in x ys) ≡ true → (is_in x ys ≡ true → IsMember x ys)
+      here_or_later : (t : Bool) → (x == y) ≡ t → (t || is_in x ys) ≡ true → (is_in x ys ≡ true → IsMember x ys)
           → IsMember x (y ∷ ys)
-      go true w h on = inl (eqb-true x y w)
-      go false w h on = inr (on h)
+      here_or_later true w h later = inl (eqb-true x y w)
+      here_or_later false w h later = inr (later h)
 
   has_home : (x : ℕ) (h : Home) → has_variable c.layouts x h ≡ true → IsMember x (variables_in c.layouts h)
-  has_home x (OfBlock b) w = go (layout_of c.layouts b) w
+  has_home x (OfBlock b) w = of_layout (layout_of c.layouts b) w
     where
-      go : (o : Option Layout) → on_option false o (λ l. is_in x l.variables) ≡ true → IsMember x (variables_of o)
-      go None w = absurd (cc w)
-      go (Some l) w = has_member x l.variables w
+      of_layout : (o : Option Layout) → on_option false o (λ l. is_in x l.variables) ≡ true
+          → IsMember x (variables_of o)
+      of_layout None w = absurd (cc w)
+      of_layout (Some l) w = has_member x l.variables w
   has_home x (OfIndex y) w = inl (eqb-true x y w)
 
   has_homes : (x : ℕ) (hs : List Home) → some_has c.layouts x hs ≡ true → IsMember x (all_variables c.layouts hs)
   has_homes x [] w = absurd (cc w)
-  has_homes x (h ∷ hs) w = go (has_variable c.layouts x h) refl w (λ v. has_homes x hs v)
+  has_homes x (h ∷ hs) w = here_or_outer (has_variable c.layouts x h) refl w (λ v. has_homes x hs v)
     where
-      go : (t : Bool) → has_variable c.layouts x h ≡ t → (t || some_has c.layouts x hs) ≡ true
+      here_or_outer : (t : Bool) → has_variable c.layouts x h ≡ t → (t || some_has c.layouts x hs) ≡ true
           → (some_has c.layouts x hs ≡ true → IsMember x (all_variables c.layouts hs))
           → IsMember x (all_variables c.layouts (h ∷ hs))
-      go true s w on = member_front x (variables_in c.layouts h) (all_variables c.layouts hs) (has_home x h s)
-      go false s w on = member_back x (variables_in c.layouts h) (all_variables c.layouts hs) (on w)
+      here_or_outer true s w outer =
+          member_front x (variables_in c.layouts h) (all_variables c.layouts hs) (has_home x h s)
+      here_or_outer false s w outer =
+          member_back x (variables_in c.layouts h) (all_variables c.layouts hs) (outer w)
 
   -- what is handed to a child is around
   pub handed_around : (a : Area) (p j x : ℕ) (t : ChildTable) → IsArea c a → IsStarted c a p j t
       → IsMember x (handed_to t) → 2 ≤ x → Around a x
-  handed_around a p j x t area s m real =
-      let w = table_of_child p j t s.1 in
-      has_homes x (homes c a) (true_from_ne_false (some_has c.layouts x (homes c a))
-      (λ f. known t.entry (w.0, p, j, x, t, a, w.1, (area, s.0), w.2, refl, is_in_list x (handed_to t) m, real, f)))
+  handed_around a p j x t area (lies, there) handed real =
+      has_homes x (homes c a) (true_from_ne_false (some_has c.layouts x (homes c a)) (λ n. known t.entry (absent n)))
+    where
+      named : TableOfChild p j t
+      named = table_of_child p j t there
+
+      absent : some_has c.layouts x (homes c a) ≡ false → Unknown c t.entry
+      absent n = record {
+        instruction = p;
+        area = a;
+        table = named.table;
+        number = j;
+        child = t;
+        variable = x;
+        names_table = named.names_table;
+        lies_there = (area, lies);
+        is_child = named.is_child;
+        begins = refl;
+        is_handed = handed;
+        is_real = real;
+        is_absent = n;
+      }
 
   -- ---- calls
 
@@ -223,7 +239,7 @@ module _ (c : Parts) (k : KeepsCodeRules c) (e : KeepsEffects c (Does c)) (known
   -- ---- effects are around
 
   does_around : (u : EffectKind) (a : Area) (x : ℕ) → IsArea c a → Does c u a x → (x < 2) ⊎ Around a x
-  does_around u a x area (inl (p, ss, reached, touches)) = go u touches
+  does_around u a x area (inl (p, ss, reached, touches)) = of_kind u touches
     where
       all : AllP (Around a) ss
       all = addresses_around c k a area p ss reached
@@ -235,9 +251,9 @@ module _ (c : Parts) (k : KeepsCodeRules c) (e : KeepsEffects c (Does c)) (known
           → Around a f.number
       found var f s w = found_around c k a 0 var f s (inl (first_true (is_plain f.naming) (f.cells == 1) w))
 
-      go : (v : EffectKind) → IsIn x (does_at c v a p ss) → (x < 2) ⊎ Around a x
-      go Stored m = stored_p (Around a) c a found ss all x (instr_at c p) loops m
-      go Loaded m = loaded_p (Around a) c a found ss all x (instr_at c p) m
+      of_kind : (v : EffectKind) → IsMember x (does_at c v a p ss) → (x < 2) ⊎ Around a x
+      of_kind Stored m = stored_have (Around a) c a found ss all x (instr_at c p) loops m
+      of_kind Loaded m = loaded_have (Around a) c a found ss all x (instr_at c p) m
   does_around u a x area (inr (p, j, t, started, is_handed)) = ⊎_elim (λ (l : x < 2). inl l)
       (λ (r : 2 ≤ x). inr (handed_around a p j x t area started (handed u is_handed) r)) (below_two_or_not x)
     where
@@ -271,13 +287,15 @@ module _ (c : Parts) (k : KeepsCodeRules c) (e : KeepsEffects c (Does c)) (known
       child : IsArea c (Child a p j)
       child = area_of_child a p j t area started
 
+      effect : IsEffect c (Does c) u (Child a p j) x
+      effect = record { areas = bs; proof = subst (λ z. EffectBy c (Does c) bs u z x) is_child by_child }
+
+      other : (y : ℕ) → index_of_child (child_at c p j) ≡ Some y → x ≡ y → ⊥
+      other y is = not_index u a p j x y t child started.1 (sym (ap index_of_child started.1) ∙ is) counts effect
+
       outside : (o : Option ℕ) → index_of_child (child_at c p j) ≡ o → Around (Child a p j) x → Around a x
-      outside None is m = subst (λ z. IsMember x (all_variables c.layouts (with_home z (homes c a)))) is m
-      outside (Some y) is m = ⊎_elim
-          (λ s. absurd (not_index u a p j x y t child started.1 (sym (ap index_of_child started.1) ∙ is) counts
-          (record { areas = bs; proof = subst (λ z. EffectBy c (Does c) bs u z x) is_child by_child }) s))
-          (λ r. r)
-          (subst (λ z. IsMember x (all_variables c.layouts (with_home z (homes c a)))) is m)
+      outside None is m = subst (λ z. AroundWith z a x) is m
+      outside (Some y) is m = ⊎_elim (λ s. absurd (other y is s)) (λ r. r) (subst (λ z. AroundWith z a x) is m)
   around (b ∷ bs) u a x area (inr (p, f, up, ss, lay, is_body, call, (y, by_body, as_caller))) = becomes
       (around bs u b y (subst (IsArea c) (sym is_body) (lay, call.layout)) by_body) as_caller
     where
@@ -288,16 +306,19 @@ module _ (c : Parts) (k : KeepsCodeRules c) (e : KeepsEffects c (Does c)) (known
       variables = ap variables_of call.layout
 
       outer : (IsMember y lay.variables → ⊥) → Around b y → Around a y
-      outer n m = ⊎_elim (λ z. absurd (n (subst (IsMember y) variables z))) (λ z. in_outer up y (homes c a) z)
-          (member_either y (variables_in c.layouts (OfBlock f)) (all_variables c.layouts (drop up (homes c a)))
-          (subst (λ hs. IsMember y (all_variables c.layouts hs)) called.0 (subst (λ z. Around z y) is_body m)))
+      outer n m =
+          let there : IsMember y (all_variables c.layouts (OfBlock f ∷ drop up (homes c a))) =
+          subst (λ hs. IsMember y (all_variables c.layouts hs)) called.0 (subst (λ z. Around z y) is_body m) in
+          ⊎_elim (λ z. absurd (n (subst (IsMember y) variables z))) (λ z. in_outer up y (homes c a) z)
+          (member_either y (variables_in c.layouts (OfBlock f)) (all_variables c.layouts (drop up (homes c a))) there)
 
       becomes : (y < 2) ⊎ Around b y → Becomes lay ss y x → (x < 2) ⊎ Around a x
-      becomes inside (inl (same, absent)) = subst (λ z. (z < 2)
-          ⊎ Around a z) (sym same) (⊎_elim (λ (l : y < 2). inl l) (λ m. inr (outer absent m)) inside)
-      becomes inside (inr (j, _, (_, left, _, operand_is))) = inr
-          (at_p (Around a) ss (length lay.formals - 1 - j) x left (addresses_around c k a area p ss call.reached)
-          operand_is)
+      becomes inside (inl (same, absent)) =
+          let of_caller : (y < 2) ⊎ Around a y = ⊎_elim (λ (l : y < 2). inl l) (λ m. inr (outer absent m)) inside in
+          subst (λ z. (z < 2) ⊎ Around a z) (sym same) of_caller
+      becomes inside (inr (j, _, (_, left, _, operand_is))) =
+          let all = addresses_around c k a area p ss call.reached in
+          inr (operand_has (Around a) ss (length lay.formals - 1 - j) x left all operand_is)
 
   pub effects_around : (a : Area) (x : ℕ) → IsArea c a → HasEffect c (Does c) a x → (x < 2) ⊎ Around a x
   effects_around a x area (inl h) = around h.areas Stored a x area h.proof
@@ -307,12 +328,12 @@ module _ (c : Parts) (k : KeepsCodeRules c) (e : KeepsEffects c (Does c)) (known
 
   pub may_effect : (a : Area) (x : ℕ) → IsArea c a → HasEffect c (Does c) a x → May c a x
   may_effect (Body b) x area h = inl h
-  may_effect (Child a p j) x area h = go (child_at c p j) refl h
+  may_effect (Child a p j) x area h = granted (child_at c p j) refl h
     where
-      go : (o : Option ChildTable) → child_at c p j ≡ o → HasEffect c (Does c) (Child a p j) x → Granted c o x
-      go None s h = let (_, _, (_, there)) = area in absurd (cc (sym s ∙ there))
-      go (Some t) s (inl f) = inl (member_front x t.moved t.shared (e.stored a p j x t area s f))
-      go (Some t) s (inr f) = index (t.index) refl
+      granted : (o : Option ChildTable) → child_at c p j ≡ o → HasEffect c (Does c) (Child a p j) x → Granted c o x
+      granted None s h = let (_, _, (_, there)) = area in absurd (cc (sym s ∙ there))
+      granted (Some t) s (inl f) = inl (member_front x t.moved t.shared (e.stored a p j x t area s f))
+      granted (Some t) s (inr f) = index (t.index) refl
         where
           index : (o : Option ℕ) → t.index ≡ o → IsMember x (handed_to t) ⊎ (t.index ≡ Some x)
           index None is = inl (e.loaded a p j x t area s f (subst (λ z. CountsAsEffect Loaded z x) (sym is) tt))

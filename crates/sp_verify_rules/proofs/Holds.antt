@@ -6,6 +6,7 @@ use Rattle.std.proofs.Common.{if◌then◌else◌}
 use Rattle.std.specs.Prelude.{IsSome, slice_get, slice_set, nat_abs}
 use Rattle.std.proofs.lemmas.List.{length-take, length-set}
 use Rattle.std.specs.FinMap as map
+use Rattle.sp_tree.specs.Interference.{IsMember}
 use Rattle.sp_cell.specs.declared.cell.Cell.{Cell}
 use Rattle.sp_cell.specs.declared.cell.Cell.TheVariants as cell
 use Rattle.sp_cell.specs.declared.spot.Address.{Address}
@@ -24,7 +25,7 @@ use Rattle.sp_code.specs.PlainStore.{plain, piece_of}
 use Rattle.sp_code.specs.System.{spot_of}
 use Rattle.sp_verify_rules.specs.Areas.{Area, Body, homes, block_homes, instr_at}
 use Rattle.sp_verify_rules.specs.Shapes.{Shape, O, C, L, A}
-use Rattle.sp_verify_rules.specs.Reach.{IsIn, IsArea, Reaches}
+use Rattle.sp_verify_rules.specs.Reach.{IsArea, Reaches}
 use Rattle.sp_verify_rules.specs.Touches.{stored_by}
 use Rattle.sp_verify_rules.specs.InstructionFacts.{Points, HasShape, ProcessAt}
 use Rattle.sp_verify_rules.specs.Rules as rule
@@ -266,7 +267,7 @@ call_given ls fs lay ss es pr ft j m e =
 module _ (g : CodeRun) (kp : KeepsCodeRules g.code) (E : Area → ℕ → Type 0) (T : List Area → Config (Memory Plain)
     → Type 0)
     (mays : (a : Area) (p : ℕ) (ss : List Shape) (x : ℕ) → IsArea g.code a → Reaches g.code a p ss
-    → IsIn x (stored_by g.code a (instr_at g.code p) ss) → E a x)
+    → IsMember x (stored_by g.code a (instr_at g.code p) ss) → E a x)
     (calls : (a : Area) (p : ℕ) (ss : List Shape) (f up : ℕ) (l : Layout) → IsArea g.code a → Reaches g.code a p ss
     → instr_at g.code p ≡ Some (i.Call f up) → layout_of g.code.layouts f ≡ Some l
     → KeepsCalls g.code.layouts (homes g.code a) up l (E a) (E (Body f)) (IsActual l ss))

@@ -31,13 +31,13 @@ use Rattle.sp_verify_rules.specs.Effects.{does_at, Does, Granted, May}
 use Rattle.sp_verify_rules.specs.Forks.{KeepsEffects}
 use Rattle.sp_verify_rules.specs.KeepsCodeRules.{KeepsCodeRules}
 use Rattle.sp_verify_rules.specs.NameRules.{Unknown, begins_with, formals_cells, answer_cells}
-use Rattle.sp_verify_rules.specs.Reach.{IsIn, IsArea, IsInCodeOf, Reaches}
+use Rattle.sp_verify_rules.specs.Reach.{IsArea, IsInCodeOf, Reaches}
 use Rattle.sp_verify_rules.specs.ProcessLife.{IsChild, ForkInvariant, table_of}
 use Rattle.sp_verify_rules.specs.Shapes.{Shape, O, C, L, A}
 use Rattle.sp_verify_rules.specs.InstructionFacts.{ForksAt}
 use Rattle.sp_verify_rules.specs.Touches.{addresses, stored_by}
 use Rattle.sp_verify_rules.proofs.Addresses.{addresses_around, around_real}
-use Rattle.sp_verify_rules.proofs.Effects.{effects_around, may_effect, called_homes, handed_around, at_p}
+use Rattle.sp_verify_rules.proofs.Effects.{effects_around, may_effect, called_homes, handed_around, operand_has}
 use Rattle.sp_code.specs.Tables.{child_at as table_child, child_by, first_index}
 use Rattle.sp_verify_rules.proofs.Pieces.{HaveRoom}
 use Rattle.sp_verify_rules.proofs.Pushes.{KeepsCalls}
@@ -45,7 +45,8 @@ use Rattle.sp_verify_rules.proofs.FrameScopes.{found_layout, area_different}
 
 -- ---- lists
 
-in_addresses : (n j : ℕ) (ss : List Shape) (x m : ℕ) → j < n → slice_get ss j ≡ Some (A x m) → IsIn x (addresses n ss)
+in_addresses : (n j : ℕ) (ss : List Shape) (x m : ℕ) → j < n → slice_get ss j ≡ Some (A x m)
+    → IsMember x (addresses n ss)
 in_addresses zero j ss x m l e = absurd (omega (arith, l))
 in_addresses (suc n) j [] x m l e = absurd (cc e)
 in_addresses (suc n) zero (O ∷ ss) x m l e = absurd (cc e)
@@ -76,7 +77,7 @@ room_for k (formal.Reference n ∷ fs) ys (z ∷ zs) size b h =
 module _ (c : Parts) (k : KeepsCodeRules c) (e : KeepsEffects c (Does c)) (known : (p : ℕ) → Unknown c p → ⊥) where
   -- what an instruction that is reached stores, loads or selects the activation may touch
   pub may_do : (u : EffectKind) (a : Area) (p x : ℕ) (ss : List Shape) → IsArea c a → Reaches c a p ss
-      → IsIn x (does_at c u a p ss) → May c a x
+      → IsMember x (does_at c u a p ss) → May c a x
   may_do Stored a p x ss area r m = may_effect c k e known a x area
       (inl (record { areas = []; proof = inl (p, ss, r, m) }))
   may_do Loaded a p x ss area r m = may_effect c k e known a x area
@@ -113,13 +114,13 @@ module _ (c : Parts) (k : KeepsCodeRules c) (e : KeepsEffects c (Does c)) (known
     actual_stored j x (cells, left, formal_is, operand_is) =
         record { areas = []; proof = inl (p, ss, call.reached, stored) }
       where
-        there : IsIn x (addresses (length l.formals) ss)
+        there : IsMember x (addresses (length l.formals) ss)
         there = let b = slice_get_within l.formals j (formal.Reference cells) formal_is in in_addresses
             (length l.formals) (length l.formals - 1 - j) ss x left (omega (arith, b)) operand_is
 
-        stored : IsIn x (does_at c Stored a p ss)
-        stored = subst (λ o. IsIn x (stored_by c a o ss)) (sym call.call)
-            (subst (λ o. IsIn x (Rattle.sp_verify_rules.specs.Areas.on_option [] o
+        stored : IsMember x (does_at c Stored a p ss)
+        stored = subst (λ o. IsMember x (stored_by c a o ss)) (sym call.call)
+            (subst (λ o. IsMember x (Rattle.sp_verify_rules.specs.Areas.on_option [] o
             (λ (m : Layout). addresses (length m.formals) ss))) (sym call.layout) there)
 
     pub outer_effect : (u : EffectKind) (y : ℕ) → IsEffect c (Does c) u (Body b) y → (IsMember y l.variables → ⊥)
@@ -157,7 +158,7 @@ module _ (c : Parts) (k : KeepsCodeRules c) (e : KeepsEffects c (Does c)) (known
       passed = λ j x w. let (_, left, _, operand_is) = w in (
         may_effect c k e known a x area (inl (actual_stored j x w)),
         around_real c k a x area
-            (at_p (λ z. IsMember z (all_variables c.layouts (homes c a))) ss (length l.formals - 1 - j) x left
+            (operand_has (λ z. IsMember z (all_variables c.layouts (homes c a))) ss (length l.formals - 1 - j) x left
             (addresses_around c k a area p ss call.reached) operand_is),
       );
       once = λ j m x u v. e.actual_once a p b up ss l area call j m x u v;

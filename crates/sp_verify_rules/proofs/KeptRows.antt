@@ -19,7 +19,7 @@ use Rattle.sp_verify_rules.specs.Effects.{Does}
 use Rattle.sp_verify_rules.specs.Effects.{IsEffect, does_at}
 use Rattle.sp_verify_rules.specs.Effects.{handed_to}
 use Rattle.sp_verify_rules.specs.Forks.{KeepsEffects}
-use Rattle.sp_verify_rules.specs.Reach.{IsIn, IsArea, IsInCodeOf, LeadsInSteps, nexts}
+use Rattle.sp_verify_rules.specs.Reach.{IsArea, IsInCodeOf, LeadsInSteps, nexts}
 use Rattle.sp_verify_rules.specs.Shapes.{Shape, O, A}
 use Rattle.sp_verify_rules.proofs.AnswerRow.{each_instr}
 use Rattle.sp_verify_rules.proofs.EffectLaws.{effects_within}
@@ -65,7 +65,7 @@ names_no_table (Some i.Store) e = refl
 names_no_table (Some i.End) e = refl
 names_no_table (Some o) e = absurd (cc e)
 
-goes_next : (p q : ℕ) (o : Option Instr) → is_simple o ≡ true → IsIn q (nexts p o) → q ≡ p + 1
+goes_next : (p q : ℕ) (o : Option Instr) → is_simple o ≡ true → IsMember q (nexts p o) → q ≡ p + 1
 goes_next p q None e m = absurd m
 goes_next p q (Some (i.Addr up var)) e m = ⊎_elim (λ s. s) (λ z. absurd z) m
 goes_next p q (Some (i.Const v)) e m = ⊎_elim (λ s. s) (λ z. absurd z) m
@@ -108,7 +108,7 @@ abbrev are_all : ℕ → List ℕ → Bool
 are_all x [] = true
 are_all x (y ∷ ys) = (y == x) && are_all x ys
 
-all_are : (x y : ℕ) (ys : List ℕ) → are_all x ys ≡ true → IsIn y ys → y ≡ x
+all_are : (x y : ℕ) (ys : List ℕ) → are_all x ys ≡ true → IsMember y ys → y ≡ x
 all_are x y [] e m = absurd m
 all_are x y (z ∷ zs) e (inl s) = s ∙ eqb-true z x (and_parts (z == x) (are_all x zs) e).0
 all_are x y (z ∷ zs) e (inr m) = all_are x y zs (and_parts (z == x) (are_all x zs) e).1 m
@@ -117,7 +117,7 @@ abbrev is_nothing : List ℕ → Bool
 is_nothing [] = true
 is_nothing (x ∷ xs) = false
 
-none_in : (x : ℕ) (xs : List ℕ) → is_nothing xs ≡ true → IsIn x xs → ⊥
+none_in : (x : ℕ) (xs : List ℕ) → is_nothing xs ≡ true → IsMember x xs → ⊥
 none_in x [] e m = m
 none_in x (y ∷ ys) e m = cc e
 

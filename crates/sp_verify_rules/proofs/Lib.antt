@@ -20,10 +20,10 @@ pub mod ShapePaths
 pub mod FrameScopes
 mod Addresses
 mod Unbroken
-pub mod Effects
+mod Effects
 pub mod Firsts
 mod Instances
-pub mod Readiness
+mod Readiness
 pub mod Safe
 mod Holds
 pub mod WriteLaws

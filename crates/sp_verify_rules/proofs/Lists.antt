@@ -7,7 +7,7 @@ use Rattle.std.proofs.lemmas.Bool.{eqb-true}
 use Rattle.std.proofs.lemmas.List.{length-drop, drop_all}
 use Rattle.sp_base.proofs.Facts.{within_or_past}
 use Rattle.sp_tree.specs.Interference.{IsMember, AllDifferent}
-use Rattle.sp_tree.proofs.Members.{member_front, member_back}
+pub use Rattle.sp_tree.proofs.Members.{member_front, member_back, member_either, member_at}
 use Rattle.sp_cell.proofs.FrameLaws.{is_same}
 use Rattle.sp_code.specs.System.{place_of}
 

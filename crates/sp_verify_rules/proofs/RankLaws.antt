@@ -8,6 +8,7 @@ use Rattle.std.proofs.lemmas.Bool.{eqb-false, ltb-true, ltb-false}
 use Rattle.std.proofs.lemmas.Option.{slice_get_within}
 use Rattle.sp_base.proofs.Facts.{less_same_or_more}
 use Rattle.sp_tree.specs.Interference.{IsMember, AllDifferent}
+use Rattle.sp_tree.proofs.Members.{member_front}
 use Rattle.sp_cell.proofs.FrameLaws.{is_other}
 use Rattle.sp_code.specs.declared.instr.Instr.{Instr}
 use Rattle.sp_code.specs.declared.instr.Instr.TheVariants as i
@@ -15,7 +16,7 @@ use Rattle.sp_code.specs.declared.code.Parts.{Parts}
 use Rattle.sp_code.specs.Ranks.{ways, maximum_of, rank, AllBelow}
 use Rattle.sp_code.proofs.Falls.{rank_max}
 use Rattle.sp_verify_rules.specs.Areas.{Area, instr_at, entry}
-use Rattle.sp_verify_rules.specs.Reach.{nexts, IsIn, LeadsInSteps}
+use Rattle.sp_verify_rules.specs.Reach.{nexts, LeadsInSteps}
 use Rattle.sp_verify_rules.specs.NameRules.{LiesIn}
 use Rattle.sp_verify_rules.specs.Rules.{free_nexts, IsFreePath, BreaksV9, ComesBack}
 use Rattle.sp_verify_rules.proofs.Lists.{member_or}
@@ -76,52 +77,46 @@ pigeons (suc n) xs b d =
 
 -- ---- the largest of some
 
-most_some : (f : ℕ → ℕ) (ws : List ℕ) (m : ℕ) → maximum_of f ws ≡ suc m → (w : ℕ) × IsIn w ws × (f w ≡ suc m)
+most_some : (f : ℕ → ℕ) (ws : List ℕ) (m : ℕ) → maximum_of f ws ≡ suc m → (w : ℕ) × IsMember w ws × (f w ≡ suc m)
 most_some f [] m e = absurd (cc e)
 most_some f (w ∷ ws) m e = go (nat_lt (f w) (maximum_of f ws)) e (most_some f ws m)
   where
     go : (b : Bool) → (if b then maximum_of f ws else f w) ≡ suc m
-        → (maximum_of f ws ≡ suc m → (w : ℕ) × IsIn w ws × (f w ≡ suc m))
-        → (v : ℕ) × IsIn v (w ∷ ws) × (f v ≡ suc m)
+        → (maximum_of f ws ≡ suc m → (w : ℕ) × IsMember w ws × (f w ≡ suc m))
+        → (v : ℕ) × IsMember v (w ∷ ws) × (f v ≡ suc m)
     go true e on = let r = on e in (r.0, inr r.1, r.2)
     go false e on = (w, inl refl, e)
 
-most_above : (f : ℕ → ℕ) (ws : List ℕ) (w : ℕ) → IsIn w ws → f w ≤ maximum_of f ws
+most_above : (f : ℕ → ℕ) (ws : List ℕ) (w : ℕ) → IsMember w ws → f w ≤ maximum_of f ws
 most_above f [] w h = absurd h
 most_above f (v ∷ ws) w h = go (nat_lt (f v) (maximum_of f ws)) refl h (most_above f ws w)
   where
-    go : (b : Bool) → nat_lt (f v) (maximum_of f ws) ≡ b → (w ≡ v) ⊎ IsIn w ws → (IsIn w ws → f w ≤ maximum_of f ws)
-        → f w ≤ (if b then maximum_of f ws else f v)
+    go : (b : Bool) → nat_lt (f v) (maximum_of f ws) ≡ b → (w ≡ v) ⊎ IsMember w ws
+        → (IsMember w ws → f w ≤ maximum_of f ws) → f w ≤ (if b then maximum_of f ws else f v)
     go true e (inl s) on = let l = ltb-true (f v) (maximum_of f ws) e in let t : f w ≡ f v = ap f s in
         omega (arith, l, t)
     go true e (inr m) on = on m
     go false e (inl s) on = let t : f w ≡ f v = ap f s in omega (arith, t)
     go false e (inr m) on = let l = ltb-false (f v) (maximum_of f ws) e in omega (arith, on m, l)
 
-most_same : (f g : ℕ → ℕ) (ws : List ℕ) → ((w : ℕ) → IsIn w ws → f w ≡ g w) → maximum_of f ws ≡ maximum_of g ws
+most_same : (f g : ℕ → ℕ) (ws : List ℕ) → ((w : ℕ) → IsMember w ws → f w ≡ g w) → maximum_of f ws ≡ maximum_of g ws
 most_same f g [] h = refl
 most_same f g (w ∷ ws) h = rw (h w (inl refl), most_same f g ws (λ v m. h v (inr m))) refl
 
 -- ---- ways
 
--- what is in the front part of a list is in the list
-pub in_front : (q : ℕ) (xs ys : List ℕ) → IsIn q xs → IsIn q (xs ++ ys)
-in_front q [] ys h = absurd h
-in_front q (x ∷ xs) ys (inl e) = inl e
-in_front q (x ∷ xs) ys (inr m) = inr (in_front q xs ys m)
-
-front_in : (q : ℕ) (xs ys : List ℕ) → xs ++ drop (length xs) ys ≡ ys → IsIn q xs → IsIn q ys
-front_in q xs ys e h = subst (IsIn q) e (in_front q xs (drop (length xs) ys) h)
+front_in : (q : ℕ) (xs ys : List ℕ) → xs ++ drop (length xs) ys ≡ ys → IsMember q xs → IsMember q ys
+front_in q xs ys e h = subst (IsMember q) e (member_front q xs (drop (length xs) ys) h)
 
 -- only of jumps the order differs
-way_in : (p q : ℕ) (o : Option Instr) → IsIn q (ways p o) → IsIn q (free_nexts p o)
+way_in : (p q : ℕ) (o : Option Instr) → IsMember q (ways p o) → IsMember q (free_nexts p o)
 way_in p q (Some (i.Jumpf to)) h = ⊎_elim (λ e. inr (inl e)) (λ z. ⊎_elim (λ e. inl e) (λ y. absurd y) z) h
 way_in p q (Some (i.Casej v to)) h = ⊎_elim (λ e. inr (inl e)) (λ z. ⊎_elim (λ e. inl e) (λ y. absurd y) z) h
 way_in p q (Some (i.Forup var to)) h = ⊎_elim (λ e. inr (inl e)) (λ z. ⊎_elim (λ e. inl e) (λ y. absurd y) z) h
 way_in p q (Some (i.Fordown var to)) h = ⊎_elim (λ e. inr (inl e)) (λ z. ⊎_elim (λ e. inl e) (λ y. absurd y) z) h
 way_in p q o h = front_in q (ways p o) (free_nexts p o) refl h
 
-pub free_in : (p q : ℕ) (o : Option Instr) → IsIn q (free_nexts p o) → IsIn q (nexts p o)
+pub free_in : (p q : ℕ) (o : Option Instr) → IsMember q (free_nexts p o) → IsMember q (nexts p o)
 free_in p q (Some i.Tick) h = absurd h
 free_in p q (Some (i.Call b up)) h = absurd h
 free_in p q _ h = h
@@ -134,7 +129,7 @@ module _ (c : Parts) where
   abbrev IsPath : List ℕ → Type 0
   IsPath [] = Unit {0}
   IsPath (p ∷ []) = Unit {0}
-  IsPath (p ∷ q ∷ ps) = IsIn q (free_nexts p (instr_at c p)) × IsPath (q ∷ ps)
+  IsPath (p ∷ q ∷ ps) = IsMember q (free_nexts p (instr_at c p)) × IsPath (q ∷ ps)
 
   long_path : (n p : ℕ) → r (suc n) p ≡ suc n → (ps : List ℕ) × (length ps ≡ n) × IsPath (p ∷ ps)
   unfolding rank
@@ -194,10 +189,10 @@ module _ (c : Parts) where
   firsts_in (p ∷ x ∷ ps) q (inl e) = inl e
   firsts_in (p ∷ x ∷ ps) q (inr m) = inr (firsts_in (x ∷ ps) q m)
 
-  leads_within : (p q : ℕ) → IsIn q (free_nexts p (instr_at c p)) → p < length c.instrs
+  leads_within : (p q : ℕ) → IsMember q (free_nexts p (instr_at c p)) → p < length c.instrs
   leads_within p q h = go (instr_at c p) refl h
     where
-      go : (o : Option Instr) → instr_at c p ≡ o → IsIn q (free_nexts p o) → p < length c.instrs
+      go : (o : Option Instr) → instr_at c p ≡ o → IsMember q (free_nexts p o) → p < length c.instrs
       go None e h = absurd h
       go (Some x) e h = slice_get_within c.instrs p x e
 
@@ -226,12 +221,12 @@ module _ (c : Parts) where
   IsRankedAt p = AllBelow (rank (suc (length c.instrs)) c.instrs) (rank (suc (length c.instrs)) c.instrs p)
       (ways p (slice_get c.instrs p))
 
-  all_below : (f : ℕ → ℕ) (n : ℕ) (ws : List ℕ) → ((w : ℕ) → IsIn w ws → f w < n) → AllBelow f n ws
+  all_below : (f : ℕ → ℕ) (n : ℕ) (ws : List ℕ) → ((w : ℕ) → IsMember w ws → f w < n) → AllBelow f n ws
   all_below f n [] h = tt
   all_below f n (w ∷ ws) h = (h w (inl refl), all_below f n ws (λ v m. h v (inr m)))
 
   module _ (v9 : (p : ℕ) → BreaksV9 c p → ⊥) (a : Area) (p : ℕ) (l : LiesIn c p a) where
-    no_long : (q : ℕ) → IsIn q (ways p (instr_at c p)) → r (suc (length c.instrs)) q ≡ suc (length c.instrs) → ⊥
+    no_long : (q : ℕ) → IsMember q (ways p (instr_at c p)) → r (suc (length c.instrs)) q ≡ suc (length c.instrs) → ⊥
     no_long q m e =
         let on = long_path (length c.instrs) q e in
         let w : IsPath (p ∷ q ∷ on.0) = (way_in p q (instr_at c p) m, on.2) in
@@ -252,7 +247,7 @@ module _ (c : Parts) where
     unfolding rank
     ranked_at = all_below (r (suc (length c.instrs))) (r (suc (length c.instrs)) p) (ways p (instr_at c p)) below
       where
-        below : (q : ℕ) → IsIn q (ways p (instr_at c p)) → r (suc (length c.instrs)) q < r (suc (length c.instrs)) p
+        below : (q : ℕ) → IsMember q (ways p (instr_at c p)) → r (suc (length c.instrs)) q < r (suc (length c.instrs)) p
         below q m =
             let top = most_above (r (length c.instrs)) (ways p (instr_at c p)) q m in
             let max = rank_max (length c.instrs) c.instrs q in

@@ -1,5 +1,5 @@
 -- A process that lives has what its next instruction needs of the memory.
-use Rattle.std.proofs.Common.{◌≡◌, ◌⊎◌, inl, inr, ⊎_elim, ℕ, zero, suc, ◌+◌, ◌-◌, ◌≤◌, ◌==◌, List, [], ◌∷◌, ◌++◌}
+use Rattle.std.proofs.Common.{◌≡◌, ◌⊎◌, inr, ⊎_elim, ℕ, zero, suc, ◌+◌, ◌-◌, ◌≤◌, ◌==◌, List, [], ◌∷◌, ◌++◌}
 use Rattle.std.proofs.Common.{length, Option, Some, None, true, false, refl, sym, ap, ◌∙◌, subst, arith, if◌then◌else◌}
 use Rattle.std.proofs.Common.{zero-add}
 use Rattle.std.specs.Prelude.{slice_get, IsSome, nat_le}
@@ -8,7 +8,7 @@ use Rattle.std.specs.FinMap as map
 use Rattle.std.proofs.lemmas.Option.{same_Some, slice_get_within}
 use Rattle.sp_base.proofs.Facts.{item_there}
 use Rattle.sp_tree.specs.Interference.{IsMember, AllDifferent}
-use Rattle.sp_tree.proofs.Members.{member_at}
+use Rattle.sp_tree.proofs.Members.{member_at, member_either}
 use Rattle.sp_cell.specs.Map.{Plain, Content, Own, Shared, Output, Away, IsOutput, output_of, output_spot}
 use Rattle.sp_code.specs.declared.code.Formal.{Formal}
 use Rattle.sp_code.specs.declared.code.Layout.{Layout}
@@ -25,7 +25,7 @@ use Rattle.sp_verify_rules.specs.Forks.{KeepsEffects}
 use Rattle.sp_verify_rules.specs.HeldEffects.{Allowed, Holding, input_spot}
 use Rattle.sp_verify_rules.specs.KeepsCodeRules.{KeepsCodeRules}
 use Rattle.sp_verify_rules.specs.NameRules.{Unknown, begins_with, formals_cells, answer_cells}
-use Rattle.sp_verify_rules.specs.Reach.{IsIn, IsArea, Reaches}
+use Rattle.sp_verify_rules.specs.Reach.{IsArea, Reaches}
 use Rattle.sp_verify_rules.specs.ProcessLife.{Base, HasConsole, HasActivations}
 use Rattle.sp_verify_rules.specs.Shapes.{Shape}
 use Rattle.sp_verify_rules.specs.Touches.{stored_by, loaded_by, touched_by, HasAnswer}
@@ -34,11 +34,6 @@ use Rattle.sp_verify_rules.proofs.Holdings.{head, next_low, may_go}
 use Rattle.sp_verify_rules.proofs.Instances.{may_do}
 use Rattle.sp_verify_rules.proofs.Lists.{place_some}
 use Rattle.sp_verify_rules.proofs.FrameScopes.{found_layout}
-
-pub in_split : (x : ℕ) (ys zs : List ℕ) → IsIn x (ys ++ zs) → IsIn x ys ⊎ IsIn x zs
-in_split x [] zs h = inr h
-in_split x (y ∷ ys) zs (inl e) = inl (inl e)
-in_split x (y ∷ ys) zs (inr h) = ⊎_elim (λ k. inl (inr k)) (λ k. inr k) (in_split x ys zs h)
 
 -- different numbers stand at one place each
 one_place : (xs : List ℕ) (n m x : ℕ) → AllDifferent xs → slice_get xs n ≡ Some x → slice_get xs m ≡ Some x → n ≡ m
@@ -113,20 +108,20 @@ module _ (g : CodeRun) (k : KeepsCodeRules g.code) (e : KeepsEffects g.code (Doe
 
     -- at an instruction that is reached
     module _ (ss : List Shape) (r : Reaches g.code a pc ss) where
-      does : (x : ℕ) → IsIn x (touched_by g.code a (instr_at g.code pc) ss) → May g.code a x
+      does : (x : ℕ) → IsMember x (touched_by g.code a (instr_at g.code pc) ss) → May g.code a x
       does x m = ⊎_elim
           (λ s. may_do g.code k e known Stored a pc x ss area r s)
           (λ s. may_do g.code k e known Loaded a pc x ss area r s)
-          (in_split x (stored_by g.code a (instr_at g.code pc) ss) (loaded_by g.code a (instr_at g.code pc) ss) m)
+          (member_either x (stored_by g.code a (instr_at g.code pc) ss) (loaded_by g.code a (instr_at g.code pc) ss) m)
 
-      pub whole : (x : ℕ) → IsIn x (touched_by g.code a (instr_at g.code pc) ss) → 2 ≤ x
+      pub whole : (x : ℕ) → IsMember x (touched_by g.code a (instr_at g.code pc) ss) → 2 ≤ x
           → HasWhole plain g.code.layouts n x
       whole x m real = whole_of x real (does x m)
 
-      pub input : IsIn 0 (touched_by g.code a (instr_at g.code pc) ss) → IsSome ((memory plain g).left n)
+      pub input : IsMember 0 (touched_by g.code a (instr_at g.code pc) ss) → IsSome ((memory plain g).left n)
       input m = input_of (does 0 m)
 
-      pub output : IsIn 1 (touched_by g.code a (instr_at g.code pc) ss) → (memory plain g).has_output n ≡ true
+      pub output : IsMember 1 (touched_by g.code a (instr_at g.code pc) ss) → (memory plain g).has_output n ≡ true
       output m = output_of_it (does 1 m)
 
   -- ---- a return

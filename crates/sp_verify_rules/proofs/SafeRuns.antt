@@ -4,6 +4,7 @@ use Rattle.std.proofs.Common.{◌≡◌, ℕ, ◌+◌, ◌≤◌, ◌==◌, ℤ,
 use Rattle.std.proofs.Common.{subst, arith, inl, Bool, if◌then◌else◌}
 use Rattle.std.proofs.lemmas.Bool.{eqb-true}
 use Rattle.std.specs.Prelude.{not}
+use Rattle.sp_tree.specs.Interference.{IsMember}
 use Rattle.sp_cell.specs.Map.{Plain}
 use Rattle.sp_journal.specs.declared.entry.Entry.{Entry as JournalEntry}
 use Rattle.sp_journal.specs.declared.entry.Event.{Event}
@@ -23,7 +24,7 @@ use Rattle.sp_verify_rules.specs.Rules.{BreaksV9}
 use Rattle.sp_verify_rules.specs.HeldEffects.{Allowed, Holding}
 use Rattle.sp_verify_rules.specs.KeepsCodeRules.{KeepsCodeRules}
 use Rattle.sp_verify_rules.specs.NameRules.{Unknown, ends_well, InLayout}
-use Rattle.sp_verify_rules.specs.Reach.{IsIn, IsArea, IsInCodeOf, Reaches}
+use Rattle.sp_verify_rules.specs.Reach.{IsArea, IsInCodeOf, Reaches}
 use Rattle.sp_verify_rules.specs.ProcessLife.{Base, HasConsole, HasActivations, ForkInvariant}
 use Rattle.sp_verify_rules.specs.Shapes.{Shape}
 use Rattle.sp_verify_rules.specs.Systems.{LivesIn, Inv}
@@ -58,7 +59,7 @@ module _ (g : CodeRun) (k : KeepsCodeRules g.code) (e : KeepsEffects g.code (Doe
   H = homes g.code
 
   pub mays : (a : Area) (p : ℕ) (ss : List Shape) (x : ℕ) → IsArea g.code a → Reaches g.code a p ss
-      → IsIn x (stored_by g.code a (instr_at g.code p) ss) → E a x
+      → IsMember x (stored_by g.code a (instr_at g.code p) ss) → E a x
   mays a p ss x area r m = may_do g.code k e known Stored a p x ss area r m
 
   pub calls : (a : Area) (p : ℕ) (ss : List Shape) (f up : ℕ) (l : Layout) → IsArea g.code a → Reaches g.code a p ss

@@ -2,6 +2,7 @@
 -- reached.
 use Rattle.std.proofs.Common.{◌≡◌, inl, inr, ⊎_elim, ℕ, zero, suc, ◌+◌, ◌∷◌, List, [], length, Option, Some, None, refl}
 use Rattle.std.proofs.Common.{sym, subst}
+use Rattle.sp_tree.specs.Interference.{IsMember}
 use Rattle.sp_code.specs.declared.instr.Instr.{Instr}
 use Rattle.sp_code.specs.declared.instr.Instr.TheVariants as i
 use Rattle.sp_code.specs.declared.code.Parts.{Parts}
@@ -12,7 +13,7 @@ use Rattle.sp_verify_rules.specs.Shapes.{take_same}
 use Rattle.sp_verify_rules.specs.Shapes.{take_cells, take_all, take_none, two_to_one, one_to_one, one_gone, two_gone}
 use Rattle.sp_verify_rules.specs.Shapes.{read_shapes}
 use Rattle.sp_verify_rules.specs.Shapes.{fill_shapes, loop_start_shapes, loop_end_shapes, instr_shapes}
-use Rattle.sp_verify_rules.specs.Reach.{nexts, IsIn, IsBrought, LeadsWith, LeadsInSteps, IsInCodeOf, IsArea}
+use Rattle.sp_verify_rules.specs.Reach.{nexts, IsBrought, LeadsWith, LeadsInSteps, IsInCodeOf, IsArea}
 use Rattle.sp_verify_rules.specs.Reach.{BringsShapes, Reaches}
 use Rattle.sp_verify_rules.specs.NameRules.{LiesIn}
 use Rattle.sp_verify_rules.specs.KeepsCodeRules.{KeepsCodeRules}
@@ -22,7 +23,7 @@ use Rattle.sp_verify_rules.proofs.Turns.{Here}
 -- each way is to one of these
 abbrev EachIn : List ℕ → List (ℕ × List Shape) → Type 0
 EachIn qs [] = Unit {0}
-EachIn qs (w ∷ ws) = IsIn w.0 qs × EachIn qs ws
+EachIn qs (w ∷ ws) = IsMember w.0 qs × EachIn qs ws
 
 abbrev LeadsWithin : List ℕ → Shaped → Type 0
 LeadsWithin qs Wrong = Unit {0}
@@ -185,18 +186,18 @@ module _ (c : Parts) (a : Area) (p : ℕ) (ss : List Shape) where
   leads_on (Some _) = gone p ss
 
 one_of : (qs : List ℕ) (q : ℕ) (ts : List Shape) (ws : List (ℕ × List Shape)) → EachIn qs ws → IsBrought q ts ws
-    → IsIn q qs
+    → IsMember q qs
 one_of qs q ts [] e h = absurd h
 one_of qs q ts (w ∷ ws) e h = ⊎_elim (λ z. rw z.0 e.0) (λ z. one_of qs q ts ws e.1 z) h
 
-leads_in : (qs : List ℕ) (o : Shaped) (q : ℕ) (ts : List Shape) → LeadsWithin qs o → LeadsWith o q ts → IsIn q qs
+leads_in : (qs : List ℕ) (o : Shaped) (q : ℕ) (ts : List Shape) → LeadsWithin qs o → LeadsWith o q ts → IsMember q qs
 leads_in qs Wrong q ts w h = absurd h
 leads_in qs (To ws) q ts w h = one_of qs q ts ws w h
 
 module _ (c : Parts) where
   -- one step more, at the end
-  goes_one : (n p q r : ℕ) → LeadsInSteps c n p q → IsIn r (nexts q (instr_at c q)) → LeadsInSteps c (suc n) p r
-  goes_one zero p q r e h = (r, subst (λ z. IsIn r (nexts z (instr_at c z))) (sym e) h, refl)
+  goes_one : (n p q r : ℕ) → LeadsInSteps c n p q → IsMember r (nexts q (instr_at c q)) → LeadsInSteps c (suc n) p r
+  goes_one zero p q r e h = (r, subst (λ z. IsMember r (nexts z (instr_at c z))) (sym e) h, refl)
   goes_one (suc n) p q r g h = (g.0, g.1, goes_one n g.0 q r g.2 h)
 
   brings_passes : (a : Area) (n q : ℕ) (ts : List Shape) → BringsShapes c a n q ts → LeadsInSteps c n (entry c a) q

@@ -4,6 +4,7 @@ use Rattle.std.proofs.Common.{◌≡◌, ℕ, ◌+◌, ◌≤◌, ℤ, List, [],
 use Rattle.std.proofs.Common.{arith}
 use Rattle.std.proofs.lemmas.Bool.{ltb-true}
 use Rattle.std.specs.FinMap as map
+use Rattle.sp_tree.specs.Interference.{IsMember}
 use Rattle.sp_cell.proofs.Laws.{get_here}
 use Rattle.sp_cell.specs.Map.{Plain, Own, IsOwn}
 use Rattle.sp_cell.specs.declared.spot.Address.{Address}
@@ -16,7 +17,7 @@ use Rattle.sp_code.specs.PlainStore.{plain}
 use Rattle.sp_code.specs.System.{depth_of, on_store, process_at_entry}
 use Rattle.sp_verify_rules.specs.Areas.{Area, Body, homes, instr_at}
 use Rattle.sp_verify_rules.specs.Shapes.{Shape}
-use Rattle.sp_verify_rules.specs.Reach.{IsIn, IsArea, IsInCodeOf, Reaches}
+use Rattle.sp_verify_rules.specs.Reach.{IsArea, IsInCodeOf, Reaches}
 use Rattle.sp_verify_rules.specs.Touches.{stored_by}
 use Rattle.sp_verify_rules.specs.InstructionFacts.{Points, ProcessAt, StoppedAt, StopsSo, IsSent, IsReceived, ForksAt}
 use Rattle.sp_verify_rules.specs.Changes.{areas, areas_of, Unchanged, Ticks, PutsCell, Copies, ReadsItem, Skips, Prints}
@@ -70,7 +71,7 @@ module _ (g : CodeRun) where
 
   module _ (k : KeepsCodeRules g.code) (E : Area → ℕ → Type 0)
       (mays : (a : Area) (p : ℕ) (ss : List Shape) (x : ℕ) → IsArea g.code a → Reaches g.code a p ss
-      → IsIn x (stored_by g.code a (instr_at g.code p) ss) → E a x)
+      → IsMember x (stored_by g.code a (instr_at g.code p) ss) → E a x)
       (calls : (a : Area) (p : ℕ) (ss : List Shape) (f up : ℕ) (l : Layout) → IsArea g.code a → Reaches g.code a p ss
       → instr_at g.code p ≡ Some (i.Call f up) → layout_of g.code.layouts f ≡ Some l
       → KeepsCalls g.code.layouts (homes g.code a) up l (E a) (E (Body f)) (IsActual l ss))
@@ -160,7 +161,7 @@ module _ (g : CodeRun) where
         (subst IsOwn (sym (get_here n.store.map q.spot (Own (cells_at plain n.store q.spot)))) tt)
 
     aims : (a : Area) (p : ℕ) (ss : List Shape) (m : Memory Plain) (x left j : ℕ) (q : Address) → IsArea g.code a
-        → Reaches g.code a p ss → IsIn x (stored_by g.code a (instr_at g.code p) ss)
+        → Reaches g.code a p ss → IsMember x (stored_by g.code a (instr_at g.code p) ss)
         → Points g.code.layouts m.frames x left q → j ≤ left → Aims g (homes g.code) E T a m.frames q j
     aims a p ss m x left j q i r st pt le = record {
       variable = x;

@@ -19,6 +19,8 @@ use Rattle.sp_tree.specs.Operators.{binary_op, same_ordinal}
 use Rattle.sp_tree.specs.Items.{ReadResult, ReadItem, ReadFault as Faulty, number_in, char_in, line_length, at_line_end}
 use Rattle.sp_tree.specs.Items.{right_justified}
 use Rattle.sp_tree.specs.Items.{truth_text, byte}
+use Rattle.sp_tree.specs.Interference.{IsMember}
+use Rattle.sp_tree.proofs.Members.{member_front}
 use Rattle.sp_cell.specs.declared.cell.Cell.{Cell}
 use Rattle.sp_cell.specs.declared.cell.Cell.TheVariants as cell
 use Rattle.sp_cell.specs.declared.spot.Address.{Address}
@@ -48,7 +50,7 @@ use Rattle.sp_verify_rules.specs.Shapes.{with_answer, to_one, take_all, take_non
 use Rattle.sp_verify_rules.specs.Shapes.{two_gone}
 use Rattle.sp_verify_rules.specs.Shapes.{loop_start_shapes}
 use Rattle.sp_verify_rules.specs.Shapes.{loop_end_shapes, read_shapes, fill_shapes}
-use Rattle.sp_verify_rules.specs.Reach.{IsIn, IsArea, Reaches}
+use Rattle.sp_verify_rules.specs.Reach.{IsArea, Reaches}
 use Rattle.sp_verify_rules.specs.Extents.{HasWhole}
 use Rattle.sp_verify_rules.specs.Touches.{MemorySuffices, HasAnswer, stored_by, topmost_variable, number_list}
 use Rattle.sp_verify_rules.specs.Touches.{addresses}
@@ -179,7 +181,7 @@ AddressIn x (C ∷ ss) = AddressIn x ss
 AddressIn x (L n ∷ ss) = AddressIn x ss
 AddressIn x (A y n ∷ ss) = (x ≡ y) ⊎ AddressIn x ss
 
-addresses_in : (x n : ℕ) (ss bs : List Shape) → AddressIn x (rule.lowest_first n ss bs) → IsIn x (addresses n ss)
+addresses_in : (x n : ℕ) (ss bs : List Shape) → AddressIn x (rule.lowest_first n ss bs) → IsMember x (addresses n ss)
     ⊎ AddressIn x bs
 addresses_in x zero ss bs h = inr h
 addresses_in x (suc n) [] bs h = inr h
@@ -200,10 +202,6 @@ skips : (ls : List Layout) (fs : List Frame) (e1 : Entry) (es : List Entry) (j t
     → Refers ls fs (reference_target t (references j (e1 ∷ es))) m
 skips ls fs (Pointer q) es j t m e h = rw e h
 skips _ _ _ _ _ _ _ _ h = h
-
-in_more : (x : ℕ) (xs : List ℕ) → IsIn x xs → IsIn x (xs ++ [])
-in_more x [] h = absurd h
-in_more x (y ∷ ys) h = ⊎_elim (λ e. inl e) (λ z. inr (in_more x ys z)) h
 
 -- an address is what a reference formal refers to, where it leads to what is held
 abbrev LeadsToReferent : List Layout → List Frame → (ℕ → Type 0) → Type 0
@@ -264,17 +262,17 @@ module _ {S : Type 0} (stores : Stores S) (g : CodeRun) (sc : Scoped g.code) (a 
 
   -- what is held whole, of these variables
   abbrev Whole : List ℕ → Type 0
-  Whole xs = (y : ℕ) → IsIn y xs → 2 ≤ y → HasWhole stores g.code.layouts n y
+  Whole xs = (y : ℕ) → IsMember y xs → 2 ≤ y → HasWhole stores g.code.layouts n y
 
   -- the variables of a list are ones that the instruction stores
   abbrev Sub : List ℕ → Type 0
-  Sub xs = (x : ℕ) → IsIn x xs → IsIn x (stored_by g.code a (instr_at g.code p) ss)
+  Sub xs = (x : ℕ) → IsMember x xs → IsMember x (stored_by g.code a (instr_at g.code p) ss)
 
   abbrev Tg : Address → ℕ → Type 0
   Tg q k = Target stores g a (instr_at g.code p) ss n q k
 
   target : (q : Address) (x left k : ℕ) → Points g.code.layouts n.frames x left q → k ≤ left
-      → IsIn x (stored_by g.code a (instr_at g.code p) ss) → Tg q k
+      → IsMember x (stored_by g.code a (instr_at g.code p) ss) → Tg q k
   target q x left k pt h m = record { variable = x; left = left; points = pt; room = h; stored = m }
 
   abbrev stand_here : (q : ℕ) (ts : List Shape) (s1 : List Entry) → Reaches g.code a q ts
@@ -531,8 +529,8 @@ module _ {S : Type 0} (stores : Stores S) (g : CodeRun) (sc : Scoped g.code) (a 
       let l = leb-true 1 m z.1 in
       holds g.code a n.frames rest Fn fails ((memory stores g).has q 1 n) _
       (has_cells_left stores g.code.layouts n x m q pt h 1 l)
-      (let sx : IsIn x (stored_by g.code a (instr_at g.code p) ss) = rw is
-      (subst (λ zs. IsIn x (stored_by g.code a (Some i.Open) zs)) z.0 (inl refl)) in (
+      (let sx : IsMember x (stored_by g.code a (instr_at g.code p) ss) = rw is
+      (subst (λ zs. IsMember x (stored_by g.code a (Some i.Open) zs)) z.0 (inl refl)) in (
         stopped (Opens q) (p + 1) s1 (x, m, pt, l, sx),
         stand_here (p + 1) ts s1 g1.0 o1,
         MakesOwn q 1 refl
@@ -571,8 +569,8 @@ module _ {S : Type 0} (stores : Stores S) (g : CodeRun) (sc : Scoped g.code) (a 
       let h = z.1 x (inl refl) pt.real in
       holds g.code a n.frames rest Fn fails ((memory stores g).has q 0 n) _
       (has_cells_left stores g.code.layouts n x m q pt h 0 (omega arith))
-      (let sx : IsIn x (stored_by g.code a (instr_at g.code p) ss) = rw is
-      (subst (λ zs. IsIn x (stored_by g.code a (Some (i.Receive k)) zs)) z.0 (inl refl)) in (
+      (let sx : IsMember x (stored_by g.code a (instr_at g.code p) ss) = rw is
+      (subst (λ zs. IsMember x (stored_by g.code a (Some (i.Receive k)) zs)) z.0 (inl refl)) in (
         stopped (Receives ch k q) (p + 1) s2 (
           x,
           m,
@@ -624,7 +622,7 @@ module _ {S : Type 0} (stores : Stores S) (g : CodeRun) (sc : Scoped g.code) (a 
         let out = sc.outward a n.frames up b l w.there w.framed e lev in
         let held : (x : ℕ) → AddressIn x (rule.lowest_first (length l.formals) ss []) → 2 ≤ x
         → HasWhole stores g.code.layouts n x =
-        λ x h two. wh x (in_more x (addresses (length l.formals) ss)
+        λ x h two. wh x (member_front x (addresses (length l.formals) ss) []
         (⊎_elim (λ z. z) (λ z. absurd z) (addresses_in x (length l.formals) ss [] h))) two in (
           record {
             area = Body b;
@@ -799,7 +797,7 @@ module _ {S : Type 0} (stores : Stores S) (g : CodeRun) (sc : Scoped g.code) (a 
   At_ o = Here g.code a p ss o → MemorySuffices stores g a o ss n → Fn (instruction (memory stores g) g.code o p st n)
 
   sub : {o : Option Instr} → Here g.code a p ss o → Sub (stored_by g.code a o ss)
-  sub h x m = subst (λ o. IsIn x (stored_by g.code a o ss)) (sym h.instruction_is) m
+  sub h x m = subst (λ o. IsMember x (stored_by g.code a o ss)) (sym h.instruction_is) m
 
   pub fine : (o : Option Instr) → At_ o
   fine None h r = absurd h.good

@@ -39,7 +39,7 @@ use Rattle.sp_verify_rules.specs.Forks.{KeepsEffects}
 use Rattle.sp_verify_rules.specs.HeldEffects.{Allowed}
 use Rattle.sp_verify_rules.specs.KeepsCodeRules.{KeepsCodeRules}
 use Rattle.sp_verify_rules.specs.NameRules.{Unknown}
-use Rattle.sp_verify_rules.specs.Reach.{IsIn, IsArea, IsInCodeOf, Reaches}
+use Rattle.sp_verify_rules.specs.Reach.{IsArea, IsInCodeOf, Reaches}
 use Rattle.sp_verify_rules.specs.Rules as rule
 use Rattle.sp_verify_rules.specs.ProcessLife.{Base, HasConsole, HasActivations}
 use Rattle.sp_verify_rules.specs.Shapes.{Shape}
@@ -86,7 +86,7 @@ module _ (g : CodeRun) (k : KeepsCodeRules g.code) (e : KeepsEffects g.code (Doe
       subst (λ o. MovesTo o x) (sym there) (e.stored a p j x t area there d)
 
   pub stores : (a : Area) (p : ℕ) (ss : List Shape) (x : ℕ) → IsArea g.code a → Reaches g.code a p ss
-      → IsIn x (stored_by g.code a (instr_at g.code p) ss) → MayStore g.code a x
+      → IsMember x (stored_by g.code a (instr_at g.code p) ss) → MayStore g.code a x
   stores a p ss x area r m = may_store a x area (record { areas = []; proof = inl (p, ss, r, m) })
 
   -- ---- a call

@@ -2,6 +2,7 @@
 -- How one instruction of a process that stands changes its memory, and with it the areas of its activations. What a
 -- process holds is kept along it.
 use Rattle.std.specs.Prelude.{◌≡◌, ℕ, ◌+◌, ◌≤◌, List, [], ◌∷◌, Option, Some, true, length, nat_lt}
+use Rattle.sp_tree.specs.Interference.{IsMember}
 use Rattle.sp_cell.specs.declared.cell.Cell.{Cell}
 use Rattle.sp_cell.specs.declared.spot.Address.{Address}
 use Rattle.sp_code.specs.declared.instr.Instr.{Instr}
@@ -14,7 +15,6 @@ use Rattle.sp_code.specs.Machine.{Stuck, layout_of}
 use Rattle.sp_code.specs.Memory.{CodeRun, Stores, Frame, Memory, memory, with_store, memory_after_call}
 use Rattle.sp_verify_rules.specs.Areas.{Area, Body}
 use Rattle.sp_verify_rules.specs.Shapes.{Shape}
-use Rattle.sp_verify_rules.specs.Reach.{IsIn}
 use Rattle.sp_verify_rules.specs.Touches.{stored_by}
 use Rattle.sp_verify_rules.specs.InstructionFacts.{Points, HasShape, Caller, ProcessAt, StoppedAt}
 use Rattle.sp_verify_rules.specs.Rules.{fit_formals, lowest_first}
@@ -51,7 +51,7 @@ module _ {S : Type 0} (stores : Stores S) (g : CodeRun) (a : Area) (o : Option I
     pub left : ℕ
     pub points : Points g.code.layouts n.frames variable left q
     pub room : k ≤ left
-    pub stored : IsIn variable (stored_by g.code a o ss)
+    pub stored : IsMember variable (stored_by g.code a o ss)
 
   -- the memory was n, with activations of the areas us; it is m, with those of the areas vs
   pub data Changes (us vs : List Area) (m : Memory S) : Type 0 where
@@ -60,10 +60,11 @@ module _ {S : Type 0} (stores : Stores S) (g : CodeRun) (a : Area) (o : Option I
     PutsCell : (q : Address) (d : Cell) → vs ≡ us → Target q 1 → m ≡ (memory stores g).put q d n → Changes us vs m
     Copies : (to from : Address) (k : ℕ) → vs ≡ us → Target to k → m ≡ (memory stores g).copy to from k n
         → Changes us vs m
-    ReadsItem : (q : Address) (d : Cell) (k : ℕ) → vs ≡ us → Target q 1 → IsIn 0 (stored_by g.code a o ss)
+    ReadsItem : (q : Address) (d : Cell) (k : ℕ) → vs ≡ us → Target q 1 → IsMember 0 (stored_by g.code a o ss)
         → m ≡ (memory stores g).put q d ((memory stores g).advance k n) → Changes us vs m
-    Skips : (k : ℕ) → vs ≡ us → IsIn 0 (stored_by g.code a o ss) → m ≡ (memory stores g).advance k n → Changes us vs m
-    Prints : (t : List ℕ) → vs ≡ us → IsIn 1 (stored_by g.code a o ss)
+    Skips : (k : ℕ) → vs ≡ us → IsMember 0 (stored_by g.code a o ss)
+        → m ≡ (memory stores g).advance k n → Changes us vs m
+    Prints : (t : List ℕ) → vs ≡ us → IsMember 1 (stored_by g.code a o ss)
         → m ≡ with_store stores n (stores.appended n.store t) → Changes us vs m
     MakesOwn : (q : Address) (k : ℕ) → vs ≡ us → Target q k → m ≡ (memory stores g).make_own q n → Changes us vs m
     Calls : (b up : ℕ) (l : Layout) (es : List Entry) → vs ≡ Body b ∷ us → o ≡ Some (i.Call b up)

@@ -11,7 +11,7 @@ use Rattle.sp_code.specs.declared.code.Parts.{Parts}
 use Rattle.sp_code.specs.Machine.{layout_of}
 use Rattle.sp_verify_rules.specs.Areas.{Area, Body, Child, instr_at, child_at}
 use Rattle.sp_verify_rules.specs.Shapes.{Shape, A}
-use Rattle.sp_verify_rules.specs.Reach.{IsIn, IsInCodeOf, Reaches}
+use Rattle.sp_verify_rules.specs.Reach.{IsInCodeOf, Reaches}
 use Rattle.sp_verify_rules.specs.Touches.{stored_by, loaded_by}
 use Rattle.sp_verify_rules.specs.Chains.{variables_of}
 
@@ -98,7 +98,7 @@ module _ (c : Parts) where
 
   -- code of the area itself stores or loads x
   abbrev pub Does : EffectKind → Area → ℕ → Type 0
-  Does e a x = ((p : ℕ) × (ss : List Shape) × Reaches c a p ss × IsIn x (does_at e a p ss))
+  Does e a x = ((p : ℕ) × (ss : List Shape) × Reaches c a p ss × IsMember x (does_at e a p ss))
       ⊎ ((p k : ℕ) × (t : ChildTable) × IsStarted c a p k t × IsMember x (handed_as e t))
 
   -- what a child may touch: what it is handed, and its index

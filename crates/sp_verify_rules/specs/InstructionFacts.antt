@@ -4,6 +4,7 @@
 -- store.
 use Rattle.std.specs.Prelude.{◌≡◌, ◌⊎◌, ℕ, ◌+◌, ◌≤◌, ◌==◌, List, [], ◌∷◌, Option, Some, None, Bool, true, false, length}
 use Rattle.std.specs.Prelude.{slice_get}
+use Rattle.sp_tree.specs.Interference.{IsMember}
 use Rattle.sp_cell.specs.declared.spot.Address.{Address}
 use Rattle.sp_code.specs.declared.instr.Instr.TheVariants as i
 use Rattle.sp_code.specs.declared.code.Formal.TheVariants as formal
@@ -16,7 +17,7 @@ use Rattle.sp_code.specs.Memory.{Home, OfBlock, OfIndex, Frame, Memory, last_fra
 use Rattle.sp_code.specs.System.{spot_of}
 use Rattle.sp_verify_rules.specs.Areas.{Area, Body, Child, homes, instr_at}
 use Rattle.sp_verify_rules.specs.Shapes.{Shape, O, C, L, A, with_answer}
-use Rattle.sp_verify_rules.specs.Reach.{IsArea, IsIn, Reaches}
+use Rattle.sp_verify_rules.specs.Reach.{IsArea, Reaches}
 use Rattle.sp_verify_rules.specs.Extents.{extent, size_in}
 use Rattle.sp_verify_rules.specs.Touches.{stored_by}
 
@@ -171,10 +172,10 @@ module _ (c : Parts) where
   abbrev pub StopsSo : Stop → Area → ℕ → List Shape → List Frame → List Caller → Type 0
   StopsSo (Forks t v n) a p ss fs ks = ForksAt p t n
   StopsSo (Opens q) a p ss fs ks = (x : ℕ) × (n : ℕ) × Points c.layouts fs x n q × (1 ≤ n)
-      × IsIn x (stored_by c a (instr_at c p) ss)
+      × IsMember x (stored_by c a (instr_at c p) ss)
   StopsSo (Sends ch k cs) a p ss fs ks = IsSent k (length cs)
   StopsSo (Receives ch k q) a p ss fs ks = (x : ℕ) × (n : ℕ) × Points c.layouts fs x n q × IsReceived k n
-      × IsIn x (stored_by c a (instr_at c p) ss)
+      × IsMember x (stored_by c a (instr_at c p) ss)
   StopsSo Ends a p ss fs ks = (ks ≡ []) × IsBottom a
   StopsSo Pauses a p ss fs ks = Unit {0}
 

@@ -3,6 +3,7 @@
 -- instruction stands where it may. Each point says at which instruction it is broken.
 use Rattle.std.specs.Prelude.{◌≡◌, ◌⊎◌, ◌≢◌, ℕ, ◌+◌, ◌≤◌, ◌<◌, ◌==◌, List, [], ◌∷◌, ◌++◌, Option, Some, None, Bool}
 use Rattle.std.specs.Prelude.{true, false, ◌&&◌, ◌||◌, not, slice_get, length, nat_lt}
+use Rattle.sp_tree.specs.Interference.{IsMember}
 use Rattle.sp_code.specs.declared.instr.Instr.{Instr}
 use Rattle.sp_code.specs.declared.instr.Instr.TheVariants as i
 use Rattle.sp_code.specs.declared.code.Formal.{Formal}
@@ -16,7 +17,7 @@ use Rattle.sp_code.specs.Memory.{Home, OfBlock, OfIndex}
 use Rattle.sp_verify_rules.specs.Areas.{Area, Body, Child, VariableInfo, Naming, Plainly, Never, ByReference, on_option}
 use Rattle.sp_verify_rules.specs.Areas.{instr_at}
 use Rattle.sp_verify_rules.specs.Areas.{table_named, child_of, homes, variable_at, leads_by}
-use Rattle.sp_verify_rules.specs.Reach.{IsIn, IsArea, IsInCodeOf, nexts}
+use Rattle.sp_verify_rules.specs.Reach.{IsArea, IsInCodeOf, nexts}
 
 abbrev pub is_some : {T : Type 0} → Option T → Bool
 is_some None = false
@@ -234,15 +235,26 @@ module _ (c : Parts) where
       × ((ch : ChildTable) × (tb : ForkTable) × IsChild t 0 ch × (ch.entry ≡ p) × (slice_get c.forks t ≡ Some tb)
       × (((length tb.children == 1) && is_some ch.index) ≡ false)))
 
-  -- 8: a table names a variable that nothing around has
-  abbrev pub Unknown : ℕ → Type 0
-  Unknown p = (t q k x : ℕ) × (ch : ChildTable) × (a : Area) × Names t q × LiesIn q a × IsChild t k ch × (ch.entry ≡ p)
-      × IsIn x (ch.moved ++ ch.shared) × (2 ≤ x) × (some_has c.layouts x (homes c a) ≡ false)
+  -- 8: an instruction of an area names a table, and a child of the table is handed a variable that nothing around has
+  pub record Unknown (p : ℕ) : Type 0 where
+    pub instruction : ℕ
+    pub area : Area
+    pub table : ℕ
+    pub number : ℕ
+    pub child : ChildTable
+    pub variable : ℕ
+    pub names_table : Names table instruction
+    pub lies_there : LiesIn instruction area
+    pub is_child : IsChild table number child
+    pub begins : child.entry ≡ p
+    pub is_handed : IsMember variable (child.moved ++ child.shared)
+    pub is_real : 2 ≤ variable
+    pub is_absent : some_has c.layouts variable (homes c area) ≡ false
 
   -- 10: an instruction is in two areas, or goes on past the last one
   abbrev pub Shared : ℕ → Type 0
   Shared p = (a : Area) × LiesIn p a
-      × (((b : Area) × LiesIn p b × (a ≢ b)) ⊎ (IsIn (p + 1) (nexts p (instr_at c p)) × (length c.instrs ≤ p + 1)))
+      × (((b : Area) × LiesIn p b × (a ≢ b)) ⊎ (IsMember (p + 1) (nexts p (instr_at c p)) × (length c.instrs ≤ p + 1)))
 
   -- 9, 11, 12, 13, 14: an instruction of an area may not stand there
   abbrev pub Misplaced : (Area → Option Instr → Bool) → ℕ → Type 0

@@ -3,6 +3,7 @@
 -- `Reaches` takes all ways, `Arrives` those of at most so many instructions that go on only from instructions at which
 -- V2 is kept.
 use Rattle.std.specs.Prelude.{◌≡◌, ◌≢◌, ◌⊎◌, ℕ, zero, suc, ◌+◌, List, [], ◌∷◌, Option, Some, None}
+pub use Rattle.sp_tree.specs.Interference.{IsMember}
 use Rattle.sp_code.specs.declared.instr.Instr.{Instr}
 use Rattle.sp_code.specs.declared.instr.Instr.TheVariants as i
 use Rattle.sp_code.specs.declared.code.ChildTable.{ChildTable}
@@ -26,11 +27,6 @@ nexts p (Some i.Return) = []
 nexts p (Some i.End) = []
 nexts p _ = (p + 1) ∷ []
 
--- a number is in a list
-abbrev pub IsIn : ℕ → List ℕ → Type 0
-IsIn q [] = ⊥
-IsIn q (p ∷ ps) = (q ≡ p) ⊎ IsIn q ps
-
 -- these shapes are brought there
 abbrev pub IsBrought : ℕ → List Shape → List (ℕ × List Shape) → Type 0
 IsBrought q ts [] = ⊥
@@ -45,7 +41,7 @@ module _ (c : Parts) where
   -- n steps lead from an instruction to another
   abbrev pub LeadsInSteps : ℕ → ℕ → ℕ → Type 0
   LeadsInSteps zero p q = p ≡ q
-  LeadsInSteps (suc n) p q = (r : ℕ) × IsIn r (nexts p (instr_at c p)) × LeadsInSteps n r q
+  LeadsInSteps (suc n) p q = (r : ℕ) × IsMember r (nexts p (instr_at c p)) × LeadsInSteps n r q
 
   -- an instruction is in the code of an area
   pub record IsInCodeOf (a : Area) (p : ℕ) : Type 0 where

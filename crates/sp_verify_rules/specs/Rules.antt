@@ -2,6 +2,7 @@
 -- Rules V2, V3, V4, V5 and V9 of code files: at which instruction each is broken.
 use Rattle.std.specs.Prelude.{◌≡◌, ◌≢◌, ℕ, zero, suc, ◌<◌, ◌==◌, List, [], ◌∷◌, Option, Some, Bool, true, false, ◌&&◌}
 use Rattle.std.specs.Prelude.{◌||◌, length, nat_le}
+use Rattle.sp_tree.specs.Interference.{IsMember}
 use Rattle.sp_code.specs.declared.instr.Instr.{Instr}
 use Rattle.sp_code.specs.declared.instr.Instr.TheVariants as i
 use Rattle.sp_code.specs.declared.code.Formal.{Formal}
@@ -11,7 +12,7 @@ use Rattle.sp_code.specs.declared.code.Parts.{Parts}
 use Rattle.sp_code.specs.Machine.{layout_of}
 use Rattle.sp_verify_rules.specs.Areas.{Area, on_option, instr_at}
 use Rattle.sp_verify_rules.specs.Shapes.{Shape, O, C, L, A, Wrong, instr_shapes, stays_within}
-use Rattle.sp_verify_rules.specs.Reach.{IsIn, IsArea, Reaches, Arrives, nexts}
+use Rattle.sp_verify_rules.specs.Reach.{IsArea, Reaches, Arrives, nexts}
 use Rattle.sp_verify_rules.specs.InstructionFacts.{message_cells, cells_left}
 use Rattle.sp_verify_rules.specs.NameRules.{IsLayout, LiesIn}
 
@@ -103,7 +104,7 @@ module _ (c : Parts) where
   -- n steps lead from one instruction to another, with no tick and no call at those passed
   abbrev pub IsFreePath : ℕ → ℕ → ℕ → Type 0
   IsFreePath zero p q = p ≡ q
-  IsFreePath (suc n) p q = (r : ℕ) × IsIn r (free_nexts p (instr_at c p)) × IsFreePath n r q
+  IsFreePath (suc n) p q = (r : ℕ) × IsMember r (free_nexts p (instr_at c p)) × IsFreePath n r q
 
   -- V9: a way back to itself
   pub data BreaksV9 (p : ℕ) : Type 0 where

@@ -31,18 +31,12 @@ to_two p ss q ts = To ((p, ss) ∷ (q, ts) ∷ [])
 
 -- an ordinal is taken; a channel; an address
 abbrev pub take_o : List Shape → (List Shape → Shaped) → Shaped
-take_o [] go = Wrong
 take_o (O ∷ ss) go = go ss
-take_o (C ∷ ss) go = Wrong
-take_o (L n ∷ ss) go = Wrong
-take_o (A x n ∷ ss) go = Wrong
+take_o _ _ = Wrong
 
 abbrev pub take_c : List Shape → (List Shape → Shaped) → Shaped
-take_c [] go = Wrong
-take_c (O ∷ ss) go = Wrong
 take_c (C ∷ ss) go = go ss
-take_c (L n ∷ ss) go = Wrong
-take_c (A x n ∷ ss) go = Wrong
+take_c _ _ = Wrong
 
 abbrev pub take_a : List Shape → (ℕ → ℕ → List Shape → Shaped) → Shaped
 take_a (A x n ∷ ss) go = go x n ss
@@ -60,11 +54,10 @@ take_same (C ∷ ss) go = take_c ss go
 take_same _ _ = Wrong
 
 abbrev pub take_cells : List Shape → (ℕ → List Shape → Shaped) → Shaped
-take_cells [] go = Wrong
 take_cells (O ∷ ss) go = go 1 ss
 take_cells (C ∷ ss) go = go 1 ss
 take_cells (L n ∷ ss) go = go n ss
-take_cells (A x n ∷ ss) go = Wrong
+take_cells _ _ = Wrong
 
 -- so many operands, whatever they are
 abbrev pub take_all : ℕ → List Shape → (List Shape → Shaped) → Shaped

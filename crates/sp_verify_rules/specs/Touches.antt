@@ -2,6 +2,7 @@
 -- The variables that one instruction stores and loads, by the shapes of its operands, and what it needs of the memory.
 use Rattle.std.specs.Prelude.{◌≡◌, ℕ, zero, suc, ◌≤◌, List, [], ◌∷◌, ◌++◌, Option, Some, None, true, length, nat_le}
 use Rattle.std.specs.Prelude.{IsSome}
+use Rattle.sp_tree.specs.Interference.{IsMember}
 use Rattle.sp_cell.specs.declared.spot.Address.{Address}
 use Rattle.sp_code.specs.declared.instr.Instr.{Instr}
 use Rattle.sp_code.specs.declared.instr.Instr.TheVariants as i
@@ -11,7 +12,6 @@ use Rattle.sp_code.specs.Machine.{layout_of}
 use Rattle.sp_code.specs.Memory.{CodeRun, Stores, Memory, memory}
 use Rattle.sp_verify_rules.specs.Areas.{Area, Body, VariableInfo, on_option, variable_at}
 use Rattle.sp_verify_rules.specs.Shapes.{Shape, O, C, L, A, below_topmost}
-use Rattle.sp_verify_rules.specs.Reach.{IsIn}
 use Rattle.sp_verify_rules.specs.Extents.{HasWhole}
 
 -- the variable of the topmost operand, if it is an address
@@ -82,9 +82,9 @@ HasAnswer stores g n (Some p) = (memory stores g).has p 1 n ≡ true
 -- and the output is there; a new frame has a number; the newest frame may go
 pub record MemorySuffices {S : Type 0} (stores : Stores S) (g : CodeRun) (a : Area) (o : Option Instr) (ss : List Shape)
     (n : Memory S) : Type 0 where
-  pub whole : (x : ℕ) → IsIn x (touched_by g.code a o ss) → 2 ≤ x → HasWhole stores g.code.layouts n x
-  pub input : IsIn 0 (touched_by g.code a o ss) → IsSome ((memory stores g).left n)
-  pub output : IsIn 1 (touched_by g.code a o ss) → (memory stores g).has_output n ≡ true
+  pub whole : (x : ℕ) → IsMember x (touched_by g.code a o ss) → 2 ≤ x → HasWhole stores g.code.layouts n x
+  pub input : IsMember 0 (touched_by g.code a o ss) → IsSome ((memory stores g).left n)
+  pub output : IsMember 1 (touched_by g.code a o ss) → (memory stores g).has_output n ≡ true
   pub calls : (b up : ℕ) → o ≡ Some (i.Call b up) → nat_le (stores.next_frame n.store) 18446744073709551615 ≡ true
   pub returns : o ≡ Some i.Return → (memory stores g).may_close n ≡ true
   pub answers : o ≡ Some i.Return → (b : ℕ) (l : Layout) → a ≡ Body b → layout_of g.code.layouts b ≡ Some l

@@ -17,23 +17,22 @@
 //! - The other files of `specs/` are what the proof is made of: what one process has at an instruction (`Standing`),
 //!   what its activations hold (`Extents`, `Holding`, `Running`), where they write (`Writable`), and what all processes
 //!   hold along a journal (`Systems`).
-//! - Of the proofs, `Turns` has one instruction, `FrameScopes` the resolution of variables, `Premises` what follows
-//!   where no rule is broken, `RankLaws` the ranks from V9, `WriteLaws` where a process writes, `Safe` and `TurnEnds`
-//!   a turn, `ForkSteps`, `Births`, `ChildEnds` and `Messages` the events, `Safety` the system along a journal,
-//!   `Assembly` the law.
+//! - Of the proofs, `Turns` has one instruction, `FrameScopes` the resolution of variables, `Effects` that the effects
+//!   of an area are variables around it, `Readiness` that a process which lives has what its next instruction needs of
+//!   the memory, `Premises` what follows where no rule is broken, `RankLaws` the ranks from V9, `WriteLaws` where a
+//!   process writes, `Safe` and `TurnEnds` a turn, `ForkSteps`, `Births`, `ChildEnds` and `Messages` the events,
+//!   `Safety` the system along a journal, `Assembly` the law.
 //! - `proofs/Rows`, `AnswerRow` and `AnswerForks` have a code that keeps all rules and neighbours of it that break one,
 //!   `EffectRows` codes that break V6 or V7, `KeptRows` a code with a fork that keeps V6 and V7.
 //!
 //! Lemmas for others, in `proofs`:
-//! - `Lists`: lists of numbers, frames and their ends.
+//! - `Lists`: lists of numbers (and what `Members` of `sp_tree` has of them), frames and their ends.
 //! - `Pieces`: a new frame with its arguments: each variable of it has a piece of its cells, and no other spot
 //!   changes.
 //! - `ShapePaths`: ways with shapes are ways: what is reached lies in the area.
 //! - `FrameScopes`: names lead to frames: where the rules hold, an address by level and number stands in the variable
 //!   that is found there, and a called block has the frames around it.
-//! - `Effects`: the effects of an area are variables around it, and an activation of the area may touch them.
 //! - `Firsts`: a process begins where it stands: the first one, and each child of a fork.
-//! - `Readiness`: a process that lives has what its next instruction needs of the memory.
 //! - `Safe`: the turn of a process that stands and holds what its effects ask for lacks nothing, makes the ranks
 //!   fall, and stops as it should.
 //! - `WriteLaws`: what an activation of verified code may store stands where its process may write, and each
