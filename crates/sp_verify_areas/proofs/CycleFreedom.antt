@@ -12,7 +12,7 @@ use Rattle.sp_code.specs.declared.code.Parts.{Parts}
 use Rattle.sp_verify_areas.specs.declared.owners.Owner.{Owner}
 use Rattle.sp_verify_areas.specs.declared.owners.Owner.TheVariants as owner
 use Rattle.sp_verify_rules.specs.Areas.{Area, on_option, instr_at}
-use Rattle.sp_verify_rules.specs.Reach.{IsIn}
+use Rattle.sp_verify_rules.specs.Reach.{IsMember}
 use Rattle.sp_verify_rules.specs.NameRules.{LiesIn}
 use Rattle.sp_verify_rules.specs.Rules.{free_nexts, IsFreePath, BreaksV9, ComesBack}
 use Rattle.sp_verify_rules.proofs.RankLaws.{free_in}
@@ -65,21 +65,22 @@ module _ (c : Parts) (os : List Owner) (are : AreOwners c os) (p : ℕ) where
 
 module _ (c : Parts) where
   -- what leads on is there
-  pub leads_within : (p q : ℕ) → IsIn q (free_nexts p (instr_at c p)) → p < length c.instrs
+  pub leads_within : (p q : ℕ) → IsMember q (free_nexts p (instr_at c p)) → p < length c.instrs
   leads_within p q h = go (instr_at c p) refl h
     where
-      go : (o : Option Instr) → instr_at c p ≡ o → IsIn q (free_nexts p o) → p < length c.instrs
+      go : (o : Option Instr) → instr_at c p ≡ o → IsMember q (free_nexts p o) → p < length c.instrs
       go None e h = absurd h
       go (Some x) e h = slice_get_within c.instrs p x e
 
   pub back_within : (n p q : ℕ) → IsFreePath c (suc n) p q → p < length c.instrs
   back_within n p q w = leads_within p w.0 w.1
 
-  free_path_more : (n p q r : ℕ) → IsFreePath c n p q → IsIn r (free_nexts q (instr_at c q)) → IsFreePath c (suc n) p r
-  free_path_more zero p q r w m = (r, subst (λ z. IsIn r (free_nexts z (instr_at c z))) (sym w) m, refl)
+  free_path_more : (n p q r : ℕ) → IsFreePath c n p q → IsMember r (free_nexts q (instr_at c q))
+      → IsFreePath c (suc n) p r
+  free_path_more zero p q r w m = (r, subst (λ z. IsMember r (free_nexts z (instr_at c z))) (sym w) m, refl)
   free_path_more (suc n) p q r w m = (w.0, w.1, free_path_more n w.0 q r w.2 m)
 
-  free_path_on : (s p q : ℕ) → HasFreePath c s p → IsIn q (free_nexts p (instr_at c p)) → HasFreePath c s q
+  free_path_on : (s p q : ℕ) → HasFreePath c s p → IsMember q (free_nexts p (instr_at c p)) → HasFreePath c s q
   free_path_on s p q h m = (suc h.0, free_path_more (suc h.0) s p q h.1 m)
 
   -- ---- numbers
@@ -187,12 +188,12 @@ module _ (c : Parts) (s : ℕ) where
       (widens_flag (with_flag fs f) t x.led (λ q h. free_path_on c s p q here (second f t q h ways)))
     where
       first : (f t : Option ℕ) (q : ℕ) → f ≡ Some q → list_of_ways f t ≡ free_nexts p (instr_at c p)
-          → IsIn q (free_nexts p (instr_at c p))
+          → IsMember q (free_nexts p (instr_at c p))
       first f t q h ways = way_first q t (free_nexts p (instr_at c p)) (ap (λ (z : Option ℕ). list_of_ways z t) (sym h)
           ∙ ways)
 
       second : (f t : Option ℕ) (q : ℕ) → t ≡ Some q → list_of_ways f t ≡ free_nexts p (instr_at c p)
-          → IsIn q (free_nexts p (instr_at c p))
+          → IsMember q (free_nexts p (instr_at c p))
       second f t q h ways = way_second q f (free_nexts p (instr_at c p)) (ap (λ (z : Option ℕ). list_of_ways f z)
           (sym h) ∙ ways)
 
@@ -207,8 +208,8 @@ module _ (c : Parts) (s : ℕ) where
 
   -- where the search is, it may go on
   pub free_path_from : (fs : List Bool) (p q : ℕ) → AreFlagsReached c s fs → IsAt s fs p
-      → IsIn q (free_nexts p (instr_at c p)) → HasFreePath c s q
-  free_path_from fs p q led (inl e) m = (0, (q, subst (λ z. IsIn q (free_nexts z (instr_at c z))) e m, refl))
+      → IsMember q (free_nexts p (instr_at c p)) → HasFreePath c s q
+  free_path_from fs p q led (inl e) m = (0, (q, subst (λ z. IsMember q (free_nexts z (instr_at c z))) e m, refl))
   free_path_from fs p q led (inr e) m = free_path_on c s p q (led.each p e) m
 
   -- where it is done, it came to all

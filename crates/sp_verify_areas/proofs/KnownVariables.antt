@@ -12,20 +12,20 @@ use Rattle.sp_code.specs.declared.code.ForkTable.{ForkTable}
 use Rattle.sp_code.specs.declared.code.Parts.{Parts}
 use Rattle.sp_code.specs.Memory.{Home}
 use Rattle.sp_verify_rules.specs.Areas.{Area, Body, Child, homes, child_of, instr_at, table_named}
-use Rattle.sp_verify_rules.specs.Reach.{IsIn}
+use Rattle.sp_verify_rules.specs.Reach.{IsMember}
 use Rattle.sp_verify_rules.specs.NameRules.{Names, is_in, has_variable, some_has}
-use Rattle.sp_verify_rules.proofs.RankLaws.{in_front}
-use Rattle.sp_verify_rules.proofs.Readiness.{in_split}
+use Rattle.sp_verify_rules.proofs.Lists.{member_front, member_back, member_either, member_at}
 use Rattle.sp_verify_areas.specs.declared.homes.Homes.{Homes}
 use Rattle.sp_verify_areas.specs.declared.tree.Frame.{Frame}
 use Rattle.sp_verify_areas.specs.Homes.{AreHomes}
 use Rattle.sp_verify_areas.specs.WrongNames.{Decides}
-use Rattle.sp_verify_areas.specs.Only.{LiesOnlyIn, UnknownOnly}
+use Rattle.sp_verify_areas.specs.Only.{LiesOnlyIn}
 use Rattle.sp_verify_areas.specs.Tree.{home_of, IsFrameOfHome, IsFrame}
 use Rattle.sp_verify_areas.specs.LeastPlaces.{IsLeast, Upto}
 use Rattle.sp_verify_areas.specs.declared.owners.Owner.TheVariants as owner
 use Rattle.sp_verify_areas.specs.Owners.{owner_of, Owns}
 use Rattle.sp_verify_areas.specs.Unknown.{ChildUnknown, HasUnknown, IsBelow, IsBetter, OneUnknown, UnknownBy}
+use Rattle.sp_verify_areas.specs.Unknown.{UnknownOnly}
 use Rattle.sp_verify_areas.proofs.Leasts.{least_of_same}
 use Rattle.sp_verify_areas.proofs.OwnerClosure.{named_within}
 use Rattle.sp_verify_areas.proofs.Surroundings.{owner_is}
@@ -68,15 +68,10 @@ in_at x y [] k e t = absurd (none-some y e)
 in_at x y (z ∷ xs) zero e t = or_left (x == z) (is_in x xs) (ap (λ w. x == w) (same_Some z y e) ∙ t)
 in_at x y (z ∷ xs) (suc k) e t = or_right (x == z) (is_in x xs) (in_at x y xs k e t)
 
-pub in_get : (x : ℕ) (xs : List ℕ) → IsIn x xs → (k : ℕ) × (slice_get xs k ≡ Some x)
+pub in_get : (x : ℕ) (xs : List ℕ) → IsMember x xs → (k : ℕ) × (slice_get xs k ≡ Some x)
 in_get x [] i = absurd i
 in_get x (y ∷ xs) (inl e) = (zero, ap Some (sym e))
 in_get x (y ∷ xs) (inr i) = let r = in_get x xs i in (suc r.0, r.1)
-
-pub get_in : (x : ℕ) (xs : List ℕ) (k : ℕ) → slice_get xs k ≡ Some x → IsIn x xs
-get_in x [] k e = none-some x e
-get_in x (y ∷ xs) zero e = inl (sym (same_Some y x e))
-get_in x (y ∷ xs) (suc k) e = inr (get_in x xs k e)
 
 -- ---- in homes
 
@@ -133,39 +128,34 @@ one_large ls x hs t l s = record {
 
 pub unknown_here : (ls : List Layout) (xs : List ℕ) (hs : List Home) (k x : ℕ) → slice_get xs k ≡ Some x
     → OneUnknown ls x hs → Decides true (HasUnknown ls xs hs)
-unknown_here ls xs hs k x e u = record { yes = λ z. (x, get_in x xs k e, u.0, u.1); no = λ z. absurd (cc z) }
+unknown_here ls xs hs k x e u = record { yes = λ z. (x, member_at xs k x e, u); no = λ z. absurd (cc z) }
 
 pub unknown_none : (ls : List Layout) (xs : List ℕ) (hs : List Home) (n : ℕ) → length xs ≤ n
     → ((k y : ℕ) → k < n → slice_get xs k ≡ Some y → OneUnknown ls y hs → ⊥) → Decides false (HasUnknown ls xs hs)
 unknown_none ls xs hs n l known = record { yes = λ z. absurd (cc z); no = λ z u. no u }
   where
     no : HasUnknown ls xs hs → ⊥
-    no (x, among, large, absent) =
+    no (x, among, absent) =
         let g = in_get x xs among in
         let w = slice_get_within xs g.0 x g.1 in
-        known g.0 x (omega (arith, w, l)) g.1 (large, absent)
-
-in_right : (x : ℕ) (xs ys : List ℕ) → IsIn x ys → IsIn x (xs ++ ys)
-in_right x [] ys i = i
-in_right x (y ∷ xs) ys i = inr (in_right x xs ys i)
+        known g.0 x (omega (arith, w, l)) g.1 absent
 
 module _ (ls : List Layout) (xs ys : List ℕ) (hs : List Home) where
   pub unknown_first : (t : Bool) → Decides t (HasUnknown ls xs hs) → t ≡ true
       → Decides true (HasUnknown ls (xs ++ ys) hs)
-  unknown_first t d e = let (x, among, large, absent) = d.yes e in
-      record { yes = λ z. (x, in_front x xs ys among, large, absent); no = λ z. absurd (cc z) }
+  unknown_first t d e = let (x, among, absent) = d.yes e in
+      record { yes = λ z. (x, member_front x xs ys among, absent); no = λ z. absurd (cc z) }
 
   pub unknown_second : (s t : Bool) → Decides s (HasUnknown ls xs hs) → s ≡ false → Decides t (HasUnknown ls ys hs)
       → Decides t (HasUnknown ls (xs ++ ys) hs)
   unknown_second s t d e h = record {
-    yes = λ z. (let (x, among, large, absent) = h.yes z in (x, in_right x xs ys among, large, absent));
-    no =
-        λ z u. no z u (in_split u.0 xs ys u.1);
+    yes = λ z. (let (x, among, absent) = h.yes z in (x, member_back x xs ys among, absent));
+    no = λ z u. no z u (member_either u.0 xs ys u.1);
   }
     where
-      no : t ≡ false → (u : HasUnknown ls (xs ++ ys) hs) → IsIn u.0 xs ⊎ IsIn u.0 ys → ⊥
-      no z (x, _, large, absent) (inl i) = d.no e (x, i, large, absent)
-      no z (x, _, large, absent) (inr i) = h.no z (x, i, large, absent)
+      no : t ≡ false → (u : HasUnknown ls (xs ++ ys) hs) → IsMember u.0 xs ⊎ IsMember u.0 ys → ⊥
+      no z (x, _, absent) (inl i) = d.no e (x, i, absent)
+      no z (x, _, absent) (inr i) = h.no z (x, i, absent)
 
 -- ---- the least one
 
@@ -258,31 +248,35 @@ module _ (c : Parts) where
           record {
             item = q;
             below = omega arith;
-            holds = (
-              t,
-              u.item,
-              ch,
-              a,
-              names,
-              only,
-              ap (λ (o : Option ForkTable). child_of o u.item) there
-                  ∙ is_child,
-              begins,
-              unknown,
-            );
+            holds = record {
+              area = a;
+              table = t;
+              number = u.item;
+              child = ch;
+              names_table = names;
+              lies_only_there = only;
+              is_child = ap (λ (o : Option ForkTable). child_of o u.item) there ∙ is_child;
+              begins = begins;
+              unknown = unknown;
+            };
           }
 
       by_it : (p : ℕ) → UnknownBy c q p → Upto (ChildUnknown c.layouts (homes c a) tb.children) (length tb.children) p
-      by_it p (u, k, ch, b, n, l, i, e, h) =
-          let s : u ≡ t = same_Some u t (sym n ∙ names) in
-          let g : slice_get tb.children k ≡ Some ch = sym
-          (ap (λ (o : Option ForkTable). child_of o k) (ap (slice_get c.forks) s ∙ there)) ∙ i in
-          let w : b ≡ a = only.1 b l.0 in
+      by_it p u =
+          let same_table : u.table ≡ t = same_Some u.table t (sym u.names_table ∙ names) in
+          let same : slice_get c.forks u.table ≡ Some tb = ap (slice_get c.forks) same_table ∙ there in
+          let there_too : slice_get tb.children u.number ≡ Some u.child =
+          sym (ap (λ (o : Option ForkTable). child_of o u.number) same) ∙ u.is_child in
+          let same_area : u.area ≡ a = only.1 u.area u.lies_only_there.0 in
           record {
-            item = k;
-            below = slice_get_within tb.children k ch g;
-            holds =
-                (ch, g, e, subst (λ z. HasUnknown c.layouts (ch.moved ++ ch.shared) (homes c z)) w h);
+            item = u.number;
+            below = slice_get_within tb.children u.number u.child there_too;
+            holds = (
+              u.child,
+              there_too,
+              u.begins,
+              subst (λ z. HasUnknown c.layouts (u.child.moved ++ u.child.shared) (homes c z)) same_area u.unknown,
+            );
           }
 
       down : (p : ℕ) (u : Upto (UnknownBy c) (q + 1) p) → (u.item < q) ⊎ (u.item ≡ q) → Upto (UnknownBy c) q p
@@ -291,35 +285,29 @@ module _ (c : Parts) where
       down p u (inr e) = inr (by_it p (subst (λ i. UnknownBy c i p) e u.holds))
 
   pub never_several : (q p : ℕ) → Owns c q owner.Several → UnknownBy c q p → ⊥
-  never_several q p h (_, _, _, area, _, only, _, _, _) = apart area (owner_is c q owner.Several area h only)
+  never_several q p h u = apart u.area (owner_is c q owner.Several u.area h u.lies_only_there)
     where
       apart : (a : Area) → owner.Several ≡ owner_of a → ⊥
       apart (Body b) e = cc e
       apart (Child a q k) e = cc e
 
   pub never_nobody : (q p : ℕ) → Owns c q owner.Nobody → UnknownBy c q p → ⊥
-  never_nobody q p h (_, _, _, area, _, (lies, _), _, _, _) = h area lies
+  never_nobody q p h u = h u.area u.lies_only_there.0
 
   pub never_named : (q p : ℕ) → table_named (instr_at c q) ≡ None → UnknownBy c q p → ⊥
-  never_named q p e (t, _, _, _, names, _, _, _, _) = none-some t (sym e ∙ names)
+  never_named q p e u = none-some u.table (sym e ∙ u.names_table)
 
   pub never_there : (q p t : ℕ) → table_named (instr_at c q) ≡ Some t → slice_get c.forks t ≡ None → UnknownBy c q p → ⊥
-  never_there q p t e n (u, k, ch, _, names, _, is_child, _, _) =
-      let s : u ≡ t = same_Some u t (sym names ∙ e) in
-      none-some ch (sym (ap (λ (o : Option ForkTable). child_of o k) (ap (slice_get c.forks) s ∙ n)) ∙ is_child)
+  never_there q p t e n u =
+      let s : u.table ≡ t = same_Some u.table t (sym u.names_table ∙ e) in
+      none-some u.child
+      (sym (ap (λ (o : Option ForkTable). child_of o u.number) (ap (slice_get c.forks) s ∙ n)) ∙ u.is_child)
 
   pub all_unknown : (o : Option ℕ) → IsLeast (Upto (UnknownBy c) (length c.instrs)) o → IsLeast (UnknownOnly c) o
   all_unknown o h = least_of_same (Upto (UnknownBy c) (length c.instrs)) (UnknownOnly c) o up down h
     where
       up : (p : ℕ) → Upto (UnknownBy c) (length c.instrs) p → UnknownOnly c p
-      up p u =
-          let (t, k, ch, a, names, only, is_child, begins, (x, among, large, absent)) = u.holds in
-          (t, u.item, k, x, ch, a, names, only, is_child, begins, among, large, absent)
+      up p u = (u.item, u.holds)
 
       down : (p : ℕ) → UnknownOnly c p → Upto (UnknownBy c) (length c.instrs) p
-      down p (t, q, k, x, ch, a, n, l, i, e, j, two, unknown) = record {
-        item = q;
-        below = named_within c t q n;
-        holds =
-            (t, k, ch, a, n, l, i, e, (x, j, two, unknown));
-      }
+      down p (q, u) = record { item = q; below = named_within c u.table q u.names_table; holds = u }

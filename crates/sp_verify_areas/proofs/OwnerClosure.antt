@@ -15,7 +15,7 @@ use Rattle.sp_verify_areas.specs.declared.owners.Owner.{Owner}
 use Rattle.sp_verify_areas.specs.declared.owners.Owner.TheVariants as owner
 use Rattle.sp_verify_rules.specs.Areas.{Area, Body, Child, instr_at, table_named, table_at, child_of, child_at, entry}
 use Rattle.sp_verify_rules.specs.Areas.{entry_of_child, entry_of_layout}
-use Rattle.sp_verify_rules.specs.Reach.{IsIn, IsArea, IsInCodeOf, LeadsInSteps, nexts}
+use Rattle.sp_verify_rules.specs.Reach.{IsMember, IsArea, IsInCodeOf, LeadsInSteps, nexts}
 use Rattle.sp_verify_rules.specs.NameRules.{LiesIn, Names, IsChild}
 use Rattle.sp_verify_areas.specs.Owners.{owner_of, IsOnly, Owns, AreOwners, HasOne, IsTrueOf, AreTrue, IsOwner}
 use Rattle.sp_verify_areas.specs.Owners.{as_child}
@@ -59,10 +59,10 @@ named_within c t p n = go (instr_at c p) refl n
     go None e n = absurd (none-some t n)
     go (Some i) e n = slice_get_within c.instrs p i e
 
-pub step_within : (c : Parts) (p q : ℕ) → IsIn q (nexts p (instr_at c p)) → p < length c.instrs
+pub step_within : (c : Parts) (p q : ℕ) → IsMember q (nexts p (instr_at c p)) → p < length c.instrs
 step_within c p q i = go (instr_at c p) refl i
   where
-    go : (o : Option Instr) → instr_at c p ≡ o → IsIn q (nexts p o) → p < length c.instrs
+    go : (o : Option Instr) → instr_at c p ≡ o → IsMember q (nexts p o) → p < length c.instrs
     go None e i = absurd i
     go (Some o) e i = slice_get_within c.instrs p o e
 

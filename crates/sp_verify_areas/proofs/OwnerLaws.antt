@@ -15,7 +15,7 @@ use Rattle.sp_verify_areas.specs.declared.owners.Owner.{Owner}
 use Rattle.sp_verify_areas.specs.declared.owners.Owner.TheVariants as owner
 use Rattle.sp_verify_rules.specs.Areas.{Area, Body, Child, on_option, instr_at, table_at, child_of, child_at, entry}
 use Rattle.sp_verify_rules.specs.Areas.{entry_of_child, entry_of_layout}
-use Rattle.sp_verify_rules.specs.Reach.{IsIn, LeadsInSteps, nexts}
+use Rattle.sp_verify_rules.specs.Reach.{IsMember, LeadsInSteps, nexts}
 use Rattle.sp_verify_rules.specs.NameRules.{LiesIn, Names, IsChild}
 use Rattle.sp_verify_areas.specs.Owners.{owner_of, AreaHas, HasOne, HasTwo, IsTrueOf, AreTrue, is_same, IsOwner}
 use Rattle.sp_verify_areas.specs.Owners.{common_owner}
@@ -169,14 +169,14 @@ module _ (c : Parts) where
   lies_in x a l (inl h) = h.1
   lies_in x a l (inr (t, q, b, e, n, k, s)) = absurd (let m : x ≡ length c.instrs + t = e in omega (arith, m, l))
 
-  goes_on : (n p q r : ℕ) → LeadsInSteps c n p q → IsIn r (nexts q (instr_at c q)) → LeadsInSteps c (suc n) p r
-  goes_on zero p q r e i = (r, subst (λ z. IsIn r (nexts z (instr_at c z))) (sym e) i, refl)
+  goes_on : (n p q r : ℕ) → LeadsInSteps c n p q → IsMember r (nexts q (instr_at c q)) → LeadsInSteps c (suc n) p r
+  goes_on zero p q r e i = (r, subst (λ z. IsMember r (nexts z (instr_at c z))) (sym e) i, refl)
   goes_on (suc n) p q r g i = (g.0, g.1, goes_on n g.0 q r g.2 i)
 
-  pub along : (p q : ℕ) (a : Area) → LiesIn c p a → IsIn q (nexts p (instr_at c p)) → LiesIn c q a
+  pub along : (p q : ℕ) (a : Area) → LiesIn c p a → IsMember q (nexts p (instr_at c p)) → LiesIn c q a
   along p q a h i = (h.0, record { steps = suc h.1.steps; way = goes_on h.1.steps (entry c a) p q h.1.way i })
 
-  one_along : (p q : ℕ) (o : Owner) → p < length c.instrs → q < length c.instrs → IsIn q (nexts p (instr_at c p))
+  one_along : (p q : ℕ) (o : Owner) → p < length c.instrs → q < length c.instrs → IsMember q (nexts p (instr_at c p))
       → HasOne c p o → HasOne c q o
   one_along p q o l m i h = record {
     area = h.area;
@@ -184,8 +184,8 @@ module _ (c : Parts) where
     owner_is = h.owner_is;
   }
 
-  pub true_along : (p q : ℕ) (o : Owner) → p < length c.instrs → q < length c.instrs → IsIn q (nexts p (instr_at c p))
-      → IsTrueOf c p o → IsTrueOf c q o
+  pub true_along : (p q : ℕ) (o : Owner) → p < length c.instrs → q < length c.instrs
+      → IsMember q (nexts p (instr_at c p)) → IsTrueOf c p o → IsTrueOf c q o
   true_along p q owner.Nobody l m i t = tt
   true_along p q (owner.Block b) l m i t = one_along p q (owner.Block b) l m i t
   true_along p q (owner.Child r k) l m i t = one_along p q (owner.Child r k) l m i t

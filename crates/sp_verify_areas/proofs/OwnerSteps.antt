@@ -15,7 +15,7 @@ use Rattle.sp_code.specs.Machine.{layout_of}
 use Rattle.sp_verify_areas.specs.declared.owners.Owner.{Owner}
 use Rattle.sp_verify_areas.specs.declared.owners.Owner.TheVariants as owner
 use Rattle.sp_verify_rules.specs.Areas.{on_option, instr_at, table_named, child_of}
-use Rattle.sp_verify_rules.specs.Reach.{IsIn, nexts}
+use Rattle.sp_verify_rules.specs.Reach.{IsMember, nexts}
 use Rattle.sp_verify_rules.specs.NameRules.{Names}
 use Rattle.sp_verify_areas.specs.Owners.{IsTrueOf, AreTrue, is_same, IsOwner, common_owner, changes_left, room}
 use Rattle.sp_verify_areas.specs.Owners.{as_child}
@@ -81,15 +81,15 @@ gives_new os x o w e h = record {
 
 -- ---- ways
 
-pub way_first : (q : ℕ) (s : Option ℕ) (ns : List ℕ) → list_of_ways (Some q) s ≡ ns → IsIn q ns
-way_first q None ns e = subst (IsIn q) e (inl refl)
-way_first q (Some r) ns e = subst (IsIn q) e (inl refl)
+pub way_first : (q : ℕ) (s : Option ℕ) (ns : List ℕ) → list_of_ways (Some q) s ≡ ns → IsMember q ns
+way_first q None ns e = subst (IsMember q) e (inl refl)
+way_first q (Some r) ns e = subst (IsMember q) e (inl refl)
 
-pub way_second : (q : ℕ) (f : Option ℕ) (ns : List ℕ) → list_of_ways f (Some q) ≡ ns → IsIn q ns
-way_second q None ns e = subst (IsIn q) e (inl refl)
-way_second q (Some r) ns e = subst (IsIn q) e (inr (inl refl))
+pub way_second : (q : ℕ) (f : Option ℕ) (ns : List ℕ) → list_of_ways f (Some q) ≡ ns → IsMember q ns
+way_second q None ns e = subst (IsMember q) e (inl refl)
+way_second q (Some r) ns e = subst (IsMember q) e (inr (inl refl))
 
-pub in_listed : (q : ℕ) (f s : Option ℕ) → IsIn q (list_of_ways f s) → (f ≡ Some q) ⊎ (s ≡ Some q)
+pub in_listed : (q : ℕ) (f s : Option ℕ) → IsMember q (list_of_ways f s) → (f ≡ Some q) ⊎ (s ≡ Some q)
 in_listed q None None i = absurd i
 in_listed q None (Some r) (inl e) = inr (ap Some (sym e))
 in_listed q None (Some r) (inr i) = absurd i
@@ -111,14 +111,14 @@ module _ (c : Parts) where
       → p < length c.instrs → slice_get os p ≡ Some o → instr_at c p ≡ Some i → list_of_ways f s ≡ nexts p (Some i)
       → (q : ℕ) → f ≡ Some q → q < length c.instrs → IsTrueOf c q o
   first_true os p o i f s are l e ei ways q ef m =
-      true_along c p q o l m (subst (IsIn q) (sym (ap (nexts p) ei))
+      true_along c p q o l m (subst (IsMember q) (sym (ap (nexts p) ei))
       (way_first q s (nexts p (Some i)) (ap (λ (z : Option ℕ). list_of_ways z s) (sym ef) ∙ ways))) (are.each p o e)
 
   pub second_true : (os : List Owner) (p : ℕ) (o : Owner) (i : Instr) (f s : Option ℕ) → AreTrue c os
       → p < length c.instrs → slice_get os p ≡ Some o → instr_at c p ≡ Some i → list_of_ways f s ≡ nexts p (Some i)
       → (q : ℕ) → s ≡ Some q → q < length c.instrs → IsTrueOf c q o
   second_true os p o i f s are l e ei ways q es m =
-      true_along c p q o l m (subst (IsIn q) (sym (ap (nexts p) ei))
+      true_along c p q o l m (subst (IsMember q) (sym (ap (nexts p) ei))
       (way_second q f (nexts p (Some i)) (ap (list_of_ways f) (sym es) ∙ ways))) (are.each p o e)
 
   -- ---- to the end of a way
@@ -165,10 +165,10 @@ module _ (c : Parts) where
       is_spread : e ≡ a → (KnowsAt c f o e × KnowsAt c s o e) × Tabled p o e → IsSpread c p e
       is_spread same ((by_first, by_second), by_table) v ev some =
           let w : v ≡ o = same_Some v o (sym ev ∙ ap (λ (os : List Owner). slice_get os p) same ∙ ea) in
-          subst (λ z. ((q : ℕ) → IsIn q (nexts p (instr_at c p)) → q < length c.instrs → KnowsOwner e q z)
+          subst (λ z. ((q : ℕ) → IsMember q (nexts p (instr_at c p)) → q < length c.instrs → KnowsOwner e q z)
           × ((t : ℕ) → Names c t p → t < length c.forks → KnowsOwner e (length c.instrs + t) (as_child p z))) (sym w) (
             (λ q j l. ⊎_elim (λ z. by_first q z l) (λ z. by_second q z l)
-                (in_listed q f s (subst (IsIn q) (ap (nexts p) ei ∙ sym ways) j))),
+                (in_listed q f s (subst (IsMember q) (ap (nexts p) ei ∙ sym ways) j))),
             by_table,
           )
 

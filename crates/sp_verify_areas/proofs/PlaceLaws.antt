@@ -10,16 +10,16 @@ use Rattle.sp_code.specs.declared.code.Parts.{Parts}
 use Rattle.sp_verify_areas.specs.declared.owners.Owner.{Owner}
 use Rattle.sp_verify_areas.specs.declared.owners.Owner.TheVariants as owner
 use Rattle.sp_verify_rules.specs.Areas.{Area, Body, Child, instr_at}
-use Rattle.sp_verify_rules.specs.Reach.{IsIn, nexts}
+use Rattle.sp_verify_rules.specs.Reach.{IsMember, nexts}
 use Rattle.sp_verify_rules.specs.NameRules.{Shared, Misplaced, ends_well}
 use Rattle.sp_verify_areas.specs.Owners.{owner_of, IsOnly, Owns}
 use Rattle.sp_verify_areas.specs.Placement.{ends_as, has_way, runs_past, fails_placed}
 
-has_in : (q : ℕ) (ns : List ℕ) → has_way q ns ≡ true → IsIn q ns
+has_in : (q : ℕ) (ns : List ℕ) → has_way q ns ≡ true → IsMember q ns
 has_in q [] e = absurd (cc e)
 has_in q (r ∷ rs) e = ⊎_elim (λ h. inl (eqb-true q r h)) (λ h. inr (has_in q rs h)) (or_cases (q == r) (has_way q rs) e)
 
-in_has : (q : ℕ) (ns : List ℕ) → IsIn q ns → has_way q ns ≡ true
+in_has : (q : ℕ) (ns : List ℕ) → IsMember q ns → has_way q ns ≡ true
 in_has q [] i = absurd i
 in_has q (r ∷ rs) (inl e) = or_left (q == r) (has_way q rs) (eq-eqb q r e)
 in_has q (r ∷ rs) (inr i) = or_right (q == r) (has_way q rs) (in_has q rs i)

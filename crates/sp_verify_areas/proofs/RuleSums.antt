@@ -11,7 +11,7 @@ use Rattle.sp_code.specs.declared.code.ChildTable.{ChildTable}
 use Rattle.sp_code.specs.declared.code.Parts.{Parts}
 use Rattle.sp_verify_rules.specs.Areas.{Area, Body, Child, instr_at, table_named, table_at, child_of, child_at, entry}
 use Rattle.sp_verify_rules.specs.Areas.{entry_of_child, entry_of_layout}
-use Rattle.sp_verify_rules.specs.Reach.{IsIn, IsArea, LeadsInSteps, nexts}
+use Rattle.sp_verify_rules.specs.Reach.{IsMember, IsArea, LeadsInSteps, nexts}
 use Rattle.sp_verify_rules.specs.NameRules.{BreaksV1, NotThere, BlocksApart, WithoutProgram, Twice, SizesDiffer}
 use Rattle.sp_verify_rules.specs.NameRules.{TableUnnamed}
 use Rattle.sp_verify_rules.specs.NameRules.{TableIndexed, TableUnknown, LevelDiffers, InTwo, EndsWrong, OutOfRange}
@@ -25,7 +25,8 @@ use Rattle.sp_verify_areas.specs.declared.owners.Owner.TheVariants as owner
 use Rattle.sp_verify_areas.specs.Alone.{BreaksAlone}
 use Rattle.sp_verify_areas.specs.LeastPlaces.{IsLeast, earlier_of}
 use Rattle.sp_verify_areas.specs.WrongNames.{MisnamesOnly}
-use Rattle.sp_verify_areas.specs.Only.{LiesOnlyIn, MisplacedOnly, UnknownOnly}
+use Rattle.sp_verify_areas.specs.Only.{LiesOnlyIn, MisplacedOnly}
+use Rattle.sp_verify_areas.specs.Unknown.{UnknownBy, UnknownOnly}
 use Rattle.sp_verify_areas.specs.Owners.{IsShared, Owns, AreOwners}
 use Rattle.sp_verify_areas.specs.Placement.{IsMisplaced}
 use Rattle.sp_verify_areas.specs.Sums.{SomePassFinds}
@@ -44,16 +45,16 @@ lower P Q (Some n) up down h = (up n h.0, λ p l q. let r = down p q in let s = 
 
 module _ (c : Parts) where
   last_step : (n p q : ℕ) → LeadsInSteps c n p q → (p ≡ q)
-      ⊎ ((m r : ℕ) × LeadsInSteps c m p r × IsIn q (nexts r (instr_at c r)))
+      ⊎ ((m r : ℕ) × LeadsInSteps c m p r × IsMember q (nexts r (instr_at c r)))
   last_step zero p q g = inl g
   last_step (suc n) p q (next, leads, rest) = ⊎_elim
-      (λ (e : next ≡ q). inr (0, p, refl, subst (λ z. IsIn z (nexts p (instr_at c p))) e leads))
-      (λ (z : (m r : ℕ) × LeadsInSteps c m next r × IsIn q (nexts r (instr_at c r))).
+      (λ (e : next ≡ q). inr (0, p, refl, subst (λ z. IsMember z (nexts p (instr_at c p))) e leads))
+      (λ (z : (m r : ℕ) × LeadsInSteps c m next r × IsMember q (nexts r (instr_at c r))).
       let (m, r, way, last) = z in inr (suc m, r, (next, leads, way), last))
       (last_step n next q rest)
 
   -- it leads to the next instruction, or to one that the instruction names
-  target : (r q : ℕ) (o : Option Instr) → IsIn q (nexts r o) → (q ≡ r + 1) ⊎ (names_there c o ≡ nat_lt q
+  target : (r q : ℕ) (o : Option Instr) → IsMember q (nexts r o) → (q ≡ r + 1) ⊎ (names_there c o ≡ nat_lt q
       (length c.instrs))
   target r q None z = absurd z
   target r q (Some (i.Jump to)) z = ⊎_elim (λ (e : q ≡ to). inr (ap (λ y. nat_lt y (length c.instrs)) (sym e)))
@@ -84,8 +85,23 @@ module _ (c : Parts) where
   breaks p (inl (inl (inr h))) = BlocksApart h
   breaks p (inl (inr (inl h))) = Twice h
   breaks p (inl (inr (inr h))) = TableUnnamed h
-  breaks p (inr (inl (inl (t, q, k, x, ch, a, n, lies, is, at, i, real, none)))) = TableUnknown
-      (t, q, k, x, ch, a, n, lies.0, is, at, i, real, none)
+  breaks p (inr (inl (inl (q, u)))) =
+      let (variable, is_handed, (is_real, is_absent)) = u.unknown in
+      TableUnknown (record {
+        instruction = q;
+        area = u.area;
+        table = u.table;
+        number = u.number;
+        child = u.child;
+        variable = variable;
+        names_table = u.names_table;
+        lies_there = u.lies_only_there.0;
+        is_child = u.is_child;
+        begins = u.begins;
+        is_handed = is_handed;
+        is_real = is_real;
+        is_absent = is_absent;
+      })
   breaks p (inr (inl (inr (inl (a, lies, f))))) = LevelDiffers (a, lies.0, f)
   breaks p (inr (inl (inr (inr (inl (a, lies, f)))))) = OutOfRange (a, lies.0, f)
   breaks p (inr (inl (inr (inr (inr (inl (a, lies, f))))))) = NamedWrong (a, lies.0, f)
@@ -128,7 +144,7 @@ module _ (c : Parts) where
 
   -- a step leads there
   by_step : (a : Area) (p m r : ℕ) → IsArea c a → length c.instrs ≤ p → LeadsInSteps c m (entry c a) r
-      → IsIn p (nexts r (instr_at c r)) → FoundBy p
+      → IsMember p (nexts r (instr_at c r)) → FoundBy p
   by_step a p m r ia h g s = ⊎_elim on to (target r p (instr_at c r) s)
     where
       inside : r < length c.instrs
@@ -144,7 +160,7 @@ module _ (c : Parts) where
             a,
             (ia, record { steps = m; way = g }),
             inr
-                (subst (λ z. IsIn z (nexts r (instr_at c r))) e s, omega (arith, h, e)),
+                (subst (λ z. IsMember z (nexts r (instr_at c r))) e s, omega (arith, h, e)),
           ),
         )),
       )
@@ -159,7 +175,7 @@ module _ (c : Parts) where
 
   past : (a : Area) (p : ℕ) → LiesIn c p a → length c.instrs ≤ p → FoundBy p
   past a p (ia, w) h = ⊎_elim (at_entry a p ia h)
-      (λ (z : (m r : ℕ) × LeadsInSteps c m (entry c a) r × IsIn p (nexts r (instr_at c r))).
+      (λ (z : (m r : ℕ) × LeadsInSteps c m (entry c a) r × IsMember p (nexts r (instr_at c r))).
       let (m, r, way, last) = z in by_step a p m r ia h way last)
       (last_step w.steps (entry c a) p w.way)
 
@@ -206,10 +222,25 @@ module _ (c : Parts) where
         lies a l = ((l.0, l.1, (ch, e)), record { steps = 0; way = ap entry_of_child e ∙ at })
 
     unknown : (p : ℕ) → Unknown c p → FoundBy p
-    unknown p (t, q, k, x, ch, a, n, lies, is, at, i, real, none) = ⊎_elim
-        (λ o. here p (inr (inl (inl (t, q, k, x, ch, a, n, o, is, at, i, real, none)))))
-        (λ s. shared p (children q k p ch (ap (λ (z : Option ℕ). child_of (table_at c.forks z) k) n ∙ is) at s))
-        (decide q a (named_within c t q n) lies)
+    unknown p u = ⊎_elim (λ only. here p (inr (inl (inl (u.instruction, by_one only)))))
+        (λ s. shared p (children u.instruction u.number p u.child there u.begins s))
+        (decide u.instruction u.area (named_within c u.table u.instruction u.names_table) u.lies_there)
+      where
+        there : child_at c u.instruction u.number ≡ Some u.child
+        there = ap (λ (z : Option ℕ). child_of (table_at c.forks z) u.number) u.names_table ∙ u.is_child
+
+        by_one : LiesOnlyIn c u.instruction u.area → UnknownBy c u.instruction p
+        by_one only = record {
+          area = u.area;
+          table = u.table;
+          number = u.number;
+          child = u.child;
+          names_table = u.names_table;
+          lies_only_there = only;
+          is_child = u.is_child;
+          begins = u.begins;
+          unknown = (u.variable, u.is_handed, (u.is_real, u.is_absent));
+        }
 
     pub found : (p : ℕ) → BreaksV1 c p → FoundBy p
     found p (NotThere h) = alone p (inl h)

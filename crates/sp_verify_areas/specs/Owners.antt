@@ -10,7 +10,7 @@ use Rattle.sp_code.specs.Machine.{layout_of}
 use Rattle.sp_verify_areas.specs.declared.owners.Owner.{Owner}
 use Rattle.sp_verify_areas.specs.declared.owners.Owner.TheVariants as owner
 use Rattle.sp_verify_rules.specs.Areas.{Area, Body, Child, on_option, instr_at}
-use Rattle.sp_verify_rules.specs.Reach.{IsIn, nexts}
+use Rattle.sp_verify_rules.specs.Reach.{IsMember, nexts}
 use Rattle.sp_verify_rules.specs.NameRules.{LiesIn, Names, IsChild}
 
 -- an area by its last step: its block, or the fork and the child
@@ -140,7 +140,7 @@ KnowsAt c to o os = (q : ℕ) → to ≡ Some q → q < length c.instrs → Know
 -- an instruction has handed its owner on to the next ones, and to the table that it names
 abbrev pub IsSpread : Parts → ℕ → List Owner → Type 0
 IsSpread c p os = (o : Owner) → slice_get os p ≡ Some o → IsOwner o
-    → ((q : ℕ) → IsIn q (nexts p (instr_at c p)) → q < length c.instrs → KnowsOwner os q o)
+    → ((q : ℕ) → IsMember q (nexts p (instr_at c p)) → q < length c.instrs → KnowsOwner os q o)
     × ((t : ℕ) → Names c t p → t < length c.forks → KnowsOwner os (length c.instrs + t) (as_child p o))
 
 -- a table has, to so many of these children

@@ -7,7 +7,7 @@ use Rattle.sp_code.specs.declared.code.Parts.{Parts}
 use Rattle.sp_verify_areas.specs.declared.owners.Owner.{Owner}
 use Rattle.sp_verify_areas.specs.declared.owners.Owner.TheVariants as owner
 use Rattle.sp_verify_rules.specs.Areas.{on_option, instr_at}
-use Rattle.sp_verify_rules.specs.Reach.{IsIn}
+use Rattle.sp_verify_rules.specs.Reach.{IsMember}
 use Rattle.sp_verify_rules.specs.Rules.{free_nexts, IsFreePath, BreaksV9}
 use Rattle.sp_verify_areas.specs.Alone.{flag_at}
 use Rattle.sp_verify_areas.specs.Owners.{is_same}
@@ -28,7 +28,7 @@ Falls ns limit p q = (number_at ns q ≤ number_at ns p) × (p < limit → numbe
 
 -- so it does along the ways of an instruction that pass no tick and no call
 abbrev pub FallsFrom : Parts → List ℕ → ℕ → ℕ → Type 0
-FallsFrom c ns limit p = (q : ℕ) → IsIn q (free_nexts p (instr_at c p)) → Falls ns limit p q
+FallsFrom c ns limit p = (q : ℕ) → IsMember q (free_nexts p (instr_at c p)) → Falls ns limit p q
 
 -- the instructions before this one; all, if there is none
 abbrev pub instrs_before : Parts → Option ℕ → ℕ
@@ -71,7 +71,7 @@ pub record Widens (c : Parts) (s : ℕ) (old new : List Bool) : Type 0 where
 
 -- where the ways of an instruction lead there is a flag
 abbrev pub AreFlagged : Parts → List Bool → ℕ → Type 0
-AreFlagged c fs p = (q : ℕ) → IsIn q (free_nexts p (instr_at c p)) → q < length fs → flag_at fs q ≡ true
+AreFlagged c fs p = (q : ℕ) → IsMember q (free_nexts p (instr_at c p)) → q < length fs → flag_at fs q ≡ true
 
 -- the search is at an instruction: at the first one, or where there is a flag
 abbrev pub IsAt : ℕ → List Bool → ℕ → Type 0

@@ -5,7 +5,7 @@ use Rattle.sp_code.specs.declared.code.Parts.{Parts}
 use Rattle.sp_verify_rules.specs.NameRules.{OrphanBlock, DeclaredTwice, Unnamed}
 use Rattle.sp_verify_areas.specs.Alone.{BreaksAlone}
 use Rattle.sp_verify_areas.specs.WrongNames.{MisnamesOnly}
-use Rattle.sp_verify_areas.specs.Only.{UnknownOnly}
+use Rattle.sp_verify_areas.specs.Unknown.{UnknownOnly}
 use Rattle.sp_verify_areas.specs.Placement.{IsMisplaced}
 
 -- one of the passes finds something there

@@ -4,7 +4,7 @@
 ghost use Rattle.std.specs.Prelude.{◌≡◌, ◌↔◌, ◌<◌, ℕ, IfOk, IsTrue, MatchOption, Some, false, length, true};
 ghost use Rattle.sp_verify_rules.specs.Areas.{Area, instr_at};
 ghost use Rattle.sp_verify_rules.specs.NameRules.{LiesIn};
-ghost use Rattle.sp_verify_rules.specs.Reach.{IsIn};
+ghost use Rattle.sp_verify_rules.specs.Reach.{IsMember};
 ghost use Rattle.sp_verify_rules.specs.Rules.{BreaksV9, free_nexts};
 ghost use Rattle.sp_verify_areas.specs.Alone.{flag_at};
 ghost use Rattle.sp_verify_areas.specs.LeastPlaces.{IsLeast};
@@ -104,7 +104,8 @@ fn open_way(flags: &List<bool>, to: Option<u32>) -> Option<u32>
 
 fn open_way_from(code: &Code, flags: &List<bool>, p: u32) -> Option<u32>
     ensures { MatchOption result (AreFlagged code.now flags.now p)
-        (λ q. IsIn q (free_nexts p (instr_at code.now p)) × (q < length flags.now) × (flag_at flags.now q ≡ false)) }
+        (λ q. IsMember q (free_nexts p (instr_at code.now p)) × (q < length flags.now)
+        × (flag_at flags.now q ≡ false)) }
 {
     let ways = free_ways(code, p);
     match open_way(flags, ways.first) {

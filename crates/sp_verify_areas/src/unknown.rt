@@ -6,10 +6,11 @@ ghost use Rattle.sp_verify_rules.specs.NameRules.{has_variable, is_in, some_has}
 ghost use Rattle.sp_verify_areas.specs.Homes.{AreHomes};
 ghost use Rattle.sp_verify_areas.specs.LeastPlaces.{IsLeast, Upto};
 ghost use Rattle.sp_verify_areas.specs.WrongNames.{Decides};
-ghost use Rattle.sp_verify_areas.specs.Only.{LiesOnlyIn, UnknownOnly};
+ghost use Rattle.sp_verify_areas.specs.Only.{LiesOnlyIn};
 ghost use Rattle.sp_verify_areas.specs.Owners.{AreOwners, Owns};
 ghost use Rattle.sp_verify_areas.specs.Tree.{IsFrame, home_of};
 ghost use Rattle.sp_verify_areas.specs.Unknown.{ChildUnknown, HasUnknown, IsBelow, IsBetter, OneUnknown, UnknownBy};
+ghost use Rattle.sp_verify_areas.specs.Unknown.{UnknownOnly};
 
 use crate::have;
 use crate::hints::{Hint, Hints, find_hints};

@@ -7,7 +7,7 @@ ghost use Rattle.sp_verify_areas.specs.Blocks.{IsNumbered};
 ghost use Rattle.sp_verify_areas.specs.Homes.{AreHomes};
 ghost use Rattle.sp_verify_areas.specs.LeastPlaces.{IsLeast};
 ghost use Rattle.sp_verify_areas.specs.WrongNames.{MisnamesOnly};
-ghost use Rattle.sp_verify_areas.specs.Only.{UnknownOnly};
+ghost use Rattle.sp_verify_areas.specs.Unknown.{UnknownOnly};
 ghost use Rattle.sp_verify_areas.specs.Owners.{AreOwners};
 ghost use Rattle.sp_verify_areas.specs.Placement.{IsMisplaced};
 
