@@ -11,7 +11,7 @@ use Rattle.sp_verify_rules.specs.Shapes.{Shape, O, C, L, A, Shaped, Wrong, To, t
 use Rattle.sp_verify_rules.specs.Shapes.{take_none}
 use Rattle.sp_verify_rules.specs.Shapes.{instr_shapes}
 use Rattle.sp_verify_rules.specs.Shapes.{with_answer}
-use Rattle.sp_verify_rules.specs.Reach.{IsIn, LeadsWith, nexts}
+use Rattle.sp_verify_rules.specs.Reach.{IsMember, LeadsWith, nexts}
 use Rattle.sp_verify_shapes.specs.declared.plans.OperandKind.{OperandKind}
 use Rattle.sp_verify_shapes.specs.declared.plans.OperandKind.TheVariants as kind
 use Rattle.sp_verify_shapes.specs.declared.plans.Takes.{Takes}
@@ -154,7 +154,7 @@ module _ (q : ℕ) (ts : List Shape) where
   led_by takes.Last [] go h = (0, 0, [], h)
   led_by takes.Last (s ∷ ss) go h = absurd h
 
-  led_to : (g : Successor) (p : ℕ) (us vs : List Shape) → LeadsWith (go_on g p us vs) q ts → IsIn q (goes_to g p)
+  led_to : (g : Successor) (p : ℕ) (us vs : List Shape) → LeadsWith (go_on g p us vs) q ts → IsMember q (goes_to g p)
   led_to goes.Nowhere p us vs h = absurd h
   led_to goes.FallThrough p us vs (inl e) = inl e.0
   led_to goes.FallThrough p us vs (inr h) = absurd h
@@ -172,14 +172,14 @@ module _ (q : ℕ) (ts : List Shape) where
 
 -- an instruction leads only to the next ones
 pub leads_in : (c : Parts) (a : Area) (p : ℕ) (ss : List Shape) (q : ℕ) (ts : List Shape) (o : Option Instr)
-    → LeadsWith (instr_shapes c a o p ss) q ts → IsIn q (nexts p o)
+    → LeadsWith (instr_shapes c a o p ss) q ts → IsMember q (nexts p o)
 leads_in c a p ss q ts None h = absurd h
 leads_in c a p ss q ts (Some i) h = go (plan_at c a i) refl
     (subst (λ (z : Shaped). LeadsWith z q ts) (by_form c a p ss i) h)
   where
     go : (o : Option Plan) → plan_at c a i ≡ o → LeadsWith (on_option Wrong o (λ pl. by_plan pl p ss)) q ts
-        → IsIn q (nexts p (Some i))
+        → IsMember q (nexts p (Some i))
     go None e k = absurd k
     go (Some pl) e k =
         let (_, _, left, leads) = led_by q ts pl.takes ss (goes_with pl p) k in
-        subst (IsIn q) (sym (goes_there c a p i pl e)) (led_to q ts pl.goes p _ left leads)
+        subst (IsMember q) (sym (goes_there c a p i pl e)) (led_to q ts pl.goes p _ left leads)

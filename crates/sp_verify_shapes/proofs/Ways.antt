@@ -11,7 +11,7 @@ use Rattle.sp_verify_rules.specs.Areas.{Area, Body, Child, instr_at, table_named
 use Rattle.sp_verify_rules.specs.Areas.{entry_of_child}
 use Rattle.sp_verify_rules.specs.Areas.{entry_of_layout}
 use Rattle.sp_verify_rules.specs.Shapes.{Shape, instr_shapes}
-use Rattle.sp_verify_rules.specs.Reach.{IsIn, IsArea, LeadsInSteps, BringsShapes, LeadsWith, nexts}
+use Rattle.sp_verify_rules.specs.Reach.{IsMember, IsArea, LeadsInSteps, BringsShapes, LeadsWith, nexts}
 use Rattle.sp_verify_rules.specs.NameRules.{LiesIn, NotThere, InTwo, names_there}
 use Rattle.sp_verify_rules.specs.Rules.{ArrivesAt}
 use Rattle.sp_verify_areas.specs.Only.{LiesOnlyIn}
@@ -36,9 +36,9 @@ same_area (Child a p k) (Child d q j) = go (same_area a d) (cases_eq p q) (cases
 
 -- ---- ways
 
-pub goes_on : (c : Parts) (n p q r : ℕ) → LeadsInSteps c n p q → IsIn r (nexts q (instr_at c q))
+pub goes_on : (c : Parts) (n p q r : ℕ) → LeadsInSteps c n p q → IsMember r (nexts q (instr_at c q))
     → LeadsInSteps c (suc n) p r
-goes_on c zero p q r e j = (r, subst (λ z. IsIn r (nexts z (instr_at c z))) (sym e) j, refl)
+goes_on c zero p q r e j = (r, subst (λ z. IsMember r (nexts z (instr_at c z))) (sym e) j, refl)
 goes_on c (suc n) p q r g j = (g.0, g.1, goes_on c n g.0 q r g.2 j)
 
 pub lies_on : (c : Parts) (a : Area) (p q : ℕ) (ss ts : List Shape) → LiesIn c p a
@@ -70,7 +70,7 @@ is_below m n f = go (nat_lt m n) refl
     go true e = Prim.grind (arith, e)
     go false e = absurd (f (Prim.grind (arith, e)))
 
-next_within : (c : Parts) (p q : ℕ) (o : Option Instr) → names_there c o ≡ true → IsIn q (nexts p o)
+next_within : (c : Parts) (p q : ℕ) (o : Option Instr) → names_there c o ≡ true → IsMember q (nexts p o)
     → (q < length c.instrs) ⊎ (q ≡ p + 1)
 next_within c p q None e h = absurd h
 next_within c p q (Some (i.Jump to)) e (inl s) = inl (Prim.grind (arith, e, s))
@@ -154,7 +154,7 @@ module _ (c : Parts) (v1 : KeepsV1 c) where
             a,
             k,
             inr
-                (subst (λ z. IsIn z (nexts p (instr_at c p))) s j, subst (λ z. length c.instrs ≤ z) s past),
+                (subst (λ z. IsMember z (nexts p (instr_at c p))) s j, subst (λ z. length c.instrs ≤ z) s past),
           )))
 
   pub within : (p : ℕ) (a : Area) → LiesIn c p a → p < length c.instrs
