@@ -33,7 +33,6 @@ use Rattle.sp_verify_rules.specs.Forks.{KeepsEffects}
 use Rattle.sp_verify_rules.specs.HeldEffects.{AreOwn, input_spot}
 use Rattle.sp_verify_rules.specs.KeepsCodeRules.{KeepsCodeRules}
 use Rattle.sp_verify_rules.specs.NameRules.{Unknown}
-use Rattle.sp_verify_rules.specs.Reach.{IsIn}
 use Rattle.sp_verify_rules.specs.ProcessLife.{Base, HasActivations}
 use Rattle.sp_verify_rules.specs.InstructionFacts.{ProcessAt}
 use Rattle.sp_verify_rules.specs.Touches.{stored_by}
@@ -186,7 +185,7 @@ module _ (g : CodeRun) (k : KeepsCodeRules g.code) (e : KeepsEffects g.code (Doe
   abbrev Out : Memory Plain → Type 0
   Out z = OwnChange n.process n.frames n.store z.frames z.store
 
-  may : (x : ℕ) (z : Spot) → IsIn x (stored_by g.code s.area (instr_at g.code p) s.shapes)
+  may : (x : ℕ) (z : Spot) → IsMember x (stored_by g.code s.area (instr_at g.code p) s.shapes)
       → spot_of g.code.layouts n.frames x ≡ Some z
       → IsWritable n.process n.store.moved n.frames z
   may x z i at = newest_writes g.code n.process n.store.moved s.area (areas_of s.callers) n.frames writes x z
@@ -208,7 +207,7 @@ module _ (g : CodeRun) (k : KeepsCodeRules g.code) (e : KeepsEffects g.code (Doe
   out z d h = subst (λ (y : Memory Plain). Out y) (sym d) h
 
   -- where the position of the input goes on
-  advanced : (j : ℕ) → IsIn 0 (stored_by g.code s.area (instr_at g.code p) s.shapes)
+  advanced : (j : ℕ) → IsMember 0 (stored_by g.code s.area (instr_at g.code p) s.shapes)
       → Out ((memory plain g).advance j n)
   advanced j i = write input_spot _ (may 0 input_spot i refl)
 
@@ -221,7 +220,7 @@ module _ (g : CodeRun) (k : KeepsCodeRules g.code) (e : KeepsEffects g.code (Doe
       (same_or z input_spot)
 
   read : (to : Address) (c : Cell) (j : ℕ) → Target plain g s.area (instr_at g.code p) s.shapes n to 1
-      → IsIn 0 (stored_by g.code s.area (instr_at g.code p) s.shapes)
+      → IsMember 0 (stored_by g.code s.area (instr_at g.code p) s.shapes)
       → Out ((memory plain g).put to c ((memory plain g).advance j n))
   read to c j w i = change_twice n.process n.frames n.frames n.frames n.store ((memory plain g).advance j n).store
       ((memory plain g).put to c ((memory plain g).advance j n)).store (advanced j i)
