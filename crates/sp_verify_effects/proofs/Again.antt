@@ -4,13 +4,13 @@ use Rattle.std.proofs.Common.{Some, None, arith}
 use Rattle.std.specs.Prelude.{false, slice_get}
 use Rattle.std.proofs.lemmas.Option.{slice_get_within, none-some, same_Some}
 use Rattle.sp_base.proofs.Facts.{below_or_last}
+use Rattle.sp_tree.specs.Interference.{IsMember}
 use Rattle.sp_code.specs.declared.instr.Instr.TheVariants as i
 use Rattle.sp_code.specs.declared.code.ChildTable.{ChildTable}
 use Rattle.sp_code.specs.declared.code.Parts.{Parts}
 use Rattle.sp_code.specs.Machine.{layout_of}
 use Rattle.sp_verify_rules.specs.Areas.{Area, on_option, instr_at, child_at, table_named, entry}
 use Rattle.sp_verify_rules.specs.Shapes.{Shape}
-use Rattle.sp_verify_rules.specs.Reach.{IsIn}
 use Rattle.sp_verify_rules.specs.Touches.{stored_by, loaded_by}
 use Rattle.sp_verify_rules.specs.Verdict.{is_stop}
 use Rattle.sp_verify_rules.specs.NameRules.{BreaksV1, LiesIn}
@@ -72,9 +72,9 @@ module _ (c : Parts) (os : List Owner) (s : Shapes) (kept : (x : ℕ) → Breaks
       )
 
   does_again : (a b : Area) (ss : List Shape) (d : Effect) → DoesBy c a p ss d → DoesBy c b q ss d
-  does_again a b ss (effect.Stores x) w = subst (IsIn x) (ap (λ o. stored_by c a o ss) here.1
+  does_again a b ss (effect.Stores x) w = subst (IsMember x) (ap (λ o. stored_by c a o ss) here.1
       ∙ ap (λ o. stored_by c b o ss) (sym before.1)) w
-  does_again a b ss (effect.Loads x) w = subst (IsIn x) (ap (λ o. loaded_by c a o ss) here.1
+  does_again a b ss (effect.Loads x) w = subst (IsMember x) (ap (λ o. loaded_by c a o ss) here.1
       ∙ ap (λ o. loaded_by c b o ss) (sym before.1)) w
   does_again a b ss effect.Stops w = ap is_stop before.1 ∙ ap is_stop (sym here.1) ∙ w
 

@@ -12,8 +12,7 @@ use Rattle.sp_code.specs.declared.code.Parts.{Parts}
 use Rattle.sp_code.specs.Machine.{layout_of}
 use Rattle.sp_verify_rules.specs.Areas.{Area, Body, entry, entry_of_layout}
 use Rattle.sp_verify_rules.specs.NameRules.{BreaksV1, BlocksApart, InTwo, LiesIn}
-use Rattle.sp_verify_rules.specs.Reach.{IsArea, IsIn}
-use Rattle.sp_verify_rules.proofs.Effects.{is_member, is_in_list}
+use Rattle.sp_verify_rules.specs.Reach.{IsArea}
 use Rattle.sp_verify_areas.specs.LeastPlaces.{IsLeast}
 use Rattle.sp_verify_areas.proofs.Leasts.{least_of_same}
 use Rattle.sp_verify_areas.proofs.OwnerClosure.{layout_in}
@@ -104,12 +103,11 @@ module _ (c : Parts) (kept : (p : ℕ) → BreaksV1 c p → ⊥) where
     pub own_in : (x : ℕ) → owns ks l.entry x ≡ true → IsMember x l.variables
     own_in x h =
         let (j, m, there, (same_entry, among)) = (own (l.entry, x)).0 h in
-        is_member x l.variables
-        (subst (λ (z : Layout). IsIn x z.variables) (same_layout f j l m is there same_entry) among)
+        subst (λ (z : Layout). IsMember x z.variables) (same_layout f j l m is there same_entry) among
 
     pub in_own : (x : ℕ) → IsMember x l.variables → owns ks l.entry x ≡ true
     in_own x h = let j = layout_in c.layouts f l is in (own (l.entry, x)).1
-        (j.0, l, j.1, (refl, is_in_list x l.variables h))
+        (j.0, l, j.1, (refl, h))
 
     -- what goes out, from a number on
     pub out_is : (n : ℕ) (xs : List ℕ) → goes_out ks l.entry n xs ≡ true → (x : ℕ) × IsMember x xs × (n ≤ x)

@@ -11,7 +11,7 @@ use Rattle.sp_verify_rules.specs.Areas.{entry_of_child}
 use Rattle.sp_verify_rules.specs.Effects.{Does, IsEffect, Loaded, Stored, handed_to}
 use Rattle.sp_verify_rules.specs.Forks as fork
 use Rattle.sp_verify_rules.specs.NameRules.{BreaksV1, Names}
-use Rattle.sp_verify_rules.specs.Reach.{IsArea, IsIn}
+use Rattle.sp_verify_rules.specs.Reach.{IsArea}
 use Rattle.sp_verify_rules.specs.Verdict.{BreaksV6, HasStop}
 use Rattle.sp_verify_areas.specs.declared.owners.Owner.{Owner}
 use Rattle.sp_verify_areas.specs.LeastPlaces.{IsLeast, Upto}
@@ -49,10 +49,10 @@ module _ (c : Parts) (e : Effects) (are : AreEffects c e) where
   module _ (a : Area) (t q k : ℕ) (ch : ChildTable) (tb : ForkTable) (is : slice_get c.forks t ≡ Some tb)
       (n : Names c t q) (here : child_at c q k ≡ Some ch) (d : EffectRow)
       (effects_of : IsRowOf c e.asked (Child a q k) d) where
-    stores : (x : ℕ) → (IsMember x ch.moved → ⊥) → IsIn x d.stored ↔ IsEffect c (Does c) Stored (Child a q k) x
+    stores : (x : ℕ) → (IsMember x ch.moved → ⊥) → IsMember x d.stored ↔ IsEffect c (Does c) Stored (Child a q k) x
     stores x m = effects_of.stored x (asked_child a q k ch here (effect.Stores x) m)
 
-    loads : (x : ℕ) → (IsMember x (handed_to ch) → ⊥) → IsIn x d.loaded ↔ IsEffect c (Does c) Loaded (Child a q k) x
+    loads : (x : ℕ) → (IsMember x (handed_to ch) → ⊥) → IsMember x d.loaded ↔ IsEffect c (Does c) Loaded (Child a q k) x
     loads x m = effects_of.loaded x (asked_child a q k ch here (effect.Loads x) m)
 
     to_rule : FailsAs (Some d) tb.children k ch → fork.BreaksV6 c (Does c) (HasStop c) a q k ch

@@ -14,7 +14,7 @@ use Rattle.sp_code.specs.declared.code.Parts.{Parts}
 use Rattle.sp_verify_rules.specs.Areas.{Area, Body, Child, instr_at, child_at, table_named, entry, entry_of_layout}
 use Rattle.sp_verify_rules.specs.Areas.{entry_of_child}
 use Rattle.sp_verify_rules.specs.Shapes.{Shape}
-use Rattle.sp_verify_rules.specs.Reach.{IsIn, IsArea, IsInCodeOf}
+use Rattle.sp_verify_rules.specs.Reach.{IsArea, IsInCodeOf}
 use Rattle.sp_verify_rules.specs.Touches.{stored_by, loaded_by}
 use Rattle.sp_verify_rules.specs.Effects.{EffectKind, Stored, Loaded, CountsAsEffect, IsNumber, IsActual, Becomes}
 use Rattle.sp_verify_rules.specs.Effects.{IsStarted, IsCalled}
@@ -214,19 +214,19 @@ module _ (c : Parts) (kept : (p : ℕ) → BreaksV1 c p → ⊥) (os : List Owne
         own_there a p d ia q w l h = closes.kept (fact (entry c a) d)
             (start.has (fact (entry c a) d) (p, l, ((a, (ia, w), refl, h), q)))
 
-        stored_within : (a : Area) (p x : ℕ) (ss : List Shape) → IsIn x (stored_by c a (instr_at c p) ss)
+        stored_within : (a : Area) (p x : ℕ) (ss : List Shape) → IsMember x (stored_by c a (instr_at c p) ss)
             → p < length c.instrs
         stored_within a p x ss h = go (instr_at c p) refl h
           where
-            go : (o : Option Instr) → instr_at c p ≡ o → IsIn x (stored_by c a o ss) → p < length c.instrs
+            go : (o : Option Instr) → instr_at c p ≡ o → IsMember x (stored_by c a o ss) → p < length c.instrs
             go None e h = absurd h
             go (Some o) e h = slice_get_within c.instrs p o e
 
-        loaded_within : (a : Area) (p x : ℕ) (ss : List Shape) → IsIn x (loaded_by c a (instr_at c p) ss)
+        loaded_within : (a : Area) (p x : ℕ) (ss : List Shape) → IsMember x (loaded_by c a (instr_at c p) ss)
             → p < length c.instrs
         loaded_within a p x ss h = go (instr_at c p) refl h
           where
-            go : (o : Option Instr) → instr_at c p ≡ o → IsIn x (loaded_by c a o ss) → p < length c.instrs
+            go : (o : Option Instr) → instr_at c p ≡ o → IsMember x (loaded_by c a o ss) → p < length c.instrs
             go None e h = absurd h
             go (Some o) e h = slice_get_within c.instrs p o e
 

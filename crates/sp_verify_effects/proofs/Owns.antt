@@ -2,12 +2,12 @@
 use Rattle.std.proofs.Common.{◌≡◌, ◌⊎◌, inl, inr, ⊎_elim, refl, ap, sym, ◌∙◌, subst, ℕ, zero, suc, ◌+◌, ◌<◌, List, []}
 use Rattle.std.proofs.Common.{◌∷◌, length, take, Option, Some, None, Bool, true, false, get_or, arith, add-one}
 use Rattle.std.specs.Prelude.{slice_get}
+use Rattle.sp_tree.specs.Interference.{IsMember}
 use Rattle.sp_code.specs.declared.instr.Instr.{Instr}
 use Rattle.sp_code.specs.declared.code.Parts.{Parts}
 use Rattle.sp_verify_rules.specs.Areas.{Area, instr_at, entry}
 use Rattle.sp_verify_rules.specs.Shapes.{Shape}
 use Rattle.sp_verify_rules.specs.NameRules.{LiesIn}
-use Rattle.sp_verify_rules.specs.Reach.{IsIn}
 use Rattle.sp_verify_rules.specs.Touches.{stored_by, loaded_by}
 use Rattle.sp_verify_rules.specs.Verdict.{is_stop}
 use Rattle.sp_verify_rules.proofs.ShapePaths.{passes}
@@ -21,7 +21,6 @@ use Rattle.sp_verify_shapes.specs.Stacks.{list_of}
 use Rattle.sp_verify_shapes.proofs.ReachLaws.{reached_there, stands}
 use Rattle.std.proofs.lemmas.Option.{none-some, same_Some}
 use Rattle.sp_base.proofs.Facts.{below_or_last, not_true_and_false}
-use Rattle.sp_verify_rules.proofs.Effects.{is_member, is_in_list}
 use Rattle.sp_verify_effects.specs.declared.asked_areas.Asked.{Asked}
 use Rattle.sp_verify_effects.specs.declared.facts.Fact.{Fact}
 use Rattle.sp_verify_effects.specs.declared.facts.Effect.{Effect}
@@ -36,17 +35,19 @@ use Rattle.sp_verify_effects.proofs.FactSets.{tells_none, tells_as, tells_then, 
 
 -- ---- lists
 
-in_first : (xs : List ℕ) (i x y : ℕ) → slice_get xs i ≡ Some y → IsIn x (take (suc i) xs) → IsIn x (take i xs) ⊎ (x ≡ y)
+in_first : (xs : List ℕ) (i x y : ℕ) → slice_get xs i ≡ Some y → IsMember x (take (suc i) xs)
+    → IsMember x (take i xs) ⊎ (x ≡ y)
 in_first [] i x y e h = absurd (none-some y e)
 in_first (z ∷ xs) zero x y e h = inr (⊎_elim (λ s. s ∙ same_Some z y e) (λ n. absurd (none xs n)) h)
   where
-    none : (ys : List ℕ) → IsIn x (take 0 ys) → ⊥
+    none : (ys : List ℕ) → IsMember x (take 0 ys) → ⊥
     none [] n = n
     none (w ∷ ys) n = n
 in_first (z ∷ xs) (suc i) x y e h = ⊎_elim (λ s. inl (inl s))
     (λ n. ⊎_elim (λ m. inl (inr m)) (λ s. inr s) (in_first xs i x y e n)) h
 
-first_in : (xs : List ℕ) (i x y : ℕ) → slice_get xs i ≡ Some y → IsIn x (take i xs) ⊎ (x ≡ y) → IsIn x (take (suc i) xs)
+first_in : (xs : List ℕ) (i x y : ℕ) → slice_get xs i ≡ Some y → IsMember x (take i xs) ⊎ (x ≡ y)
+    → IsMember x (take (suc i) xs)
 first_in [] i x y e h = absurd (none-some y e)
 first_in (z ∷ xs) zero x y e h = ⊎_elim (λ n. absurd n) (λ s. inl (s ∙ sym (same_Some z y e))) h
 first_in (z ∷ xs) (suc i) x y e (inl (inl s)) = inl s
@@ -58,13 +59,13 @@ read [] i l = absurd (omega (arith, l))
 read (x ∷ xs) zero l = refl
 read (x ∷ xs) (suc i) l = read xs i (omega (arith, l))
 
-pub in_taken : (xs : List ℕ) (i x y : ℕ) → slice_get xs i ≡ Some y → IsIn x (take (i + 1) xs) → IsIn x (take i xs)
-    ⊎ (x ≡ y)
-in_taken xs i x y e h = in_first xs i x y e (subst (λ n. IsIn x (take n xs)) (add-one i) h)
+pub in_taken : (xs : List ℕ) (i x y : ℕ) → slice_get xs i ≡ Some y → IsMember x (take (i + 1) xs)
+    → IsMember x (take i xs) ⊎ (x ≡ y)
+in_taken xs i x y e h = in_first xs i x y e (subst (λ n. IsMember x (take n xs)) (add-one i) h)
 
-pub taken_in : (xs : List ℕ) (i x y : ℕ) → slice_get xs i ≡ Some y → IsIn x (take i xs) ⊎ (x ≡ y)
-    → IsIn x (take (i + 1) xs)
-taken_in xs i x y e h = subst (λ n. IsIn x (take n xs)) (sym (add-one i)) (first_in xs i x y e h)
+pub taken_in : (xs : List ℕ) (i x y : ℕ) → slice_get xs i ≡ Some y → IsMember x (take i xs) ⊎ (x ≡ y)
+    → IsMember x (take (i + 1) xs)
+taken_in xs i x y e h = subst (λ n. IsMember x (take n xs)) (sym (add-one i)) (first_in xs i x y e h)
 
 -- ---- one fact
 
@@ -164,11 +165,11 @@ module _ (q : Asked) (c : Parts) (a : Area) (p : ℕ) (ss : List Shape) where
       el : loaded_by c a (instr_at c p) ss ≡ ys
       el = ap (λ (z : Option Instr). loaded_by c a z ss) ei ∙ ey
 
-      stored : (x : ℕ) (d : Effect) → IsIn x xs → d ≡ effect.Stores x → DoesBy c a p ss d
-      stored x d i s = subst (DoesBy c a p ss) (sym s) (subst (IsIn x) (sym es) i)
+      stored : (x : ℕ) (d : Effect) → IsMember x xs → d ≡ effect.Stores x → DoesBy c a p ss d
+      stored x d i s = subst (DoesBy c a p ss) (sym s) (subst (IsMember x) (sym es) i)
 
-      loaded : (x : ℕ) (d : Effect) → IsIn x ys → d ≡ effect.Loads x → DoesBy c a p ss d
-      loaded x d i s = subst (DoesBy c a p ss) (sym s) (subst (IsIn x) (sym el) i)
+      loaded : (x : ℕ) (d : Effect) → IsMember x ys → d ≡ effect.Loads x → DoesBy c a p ss d
+      loaded x d i s = subst (DoesBy c a p ss) (sym s) (subst (IsMember x) (sym el) i)
 
       stops : (d : Effect) → is_stop (Some o) ≡ true → d ≡ effect.Stops → DoesBy c a p ss d
       stops d e s = subst (DoesBy c a p ss) (sym s) (ap is_stop ei ∙ e)
@@ -182,8 +183,8 @@ module _ (q : Asked) (c : Parts) (a : Area) (p : ℕ) (ss : List Shape) where
 
       split : (d : Effect) → DoesBy c a p ss d → (IsEffectAmong true xs d ⊎ IsEffectAmong false ys d)
           ⊎ IsStop (Some o) d
-      split (effect.Stores x) i = inl (inl (x, subst (IsIn x) es i, refl))
-      split (effect.Loads x) i = inl (inr (x, subst (IsIn x) el i, refl))
+      split (effect.Stores x) i = inl (inl (x, subst (IsMember x) es i, refl))
+      split (effect.Loads x) i = inl (inr (x, subst (IsMember x) el i, refl))
       split effect.Stops e = inr (sym (ap is_stop ei) ∙ e, refl)
 
       from : (z : Fact) → IsOf n (DoesBy c a p ss) z
@@ -208,17 +209,17 @@ child_told k f g h n t ms ss em es u v = asked_as k f h (λ z. IsOf n (IsEffectA
     to z (inl w) = record {
       area = w.area;
       does = subst (IsHanded t) (sym w.does.2)
-          (is_member w.does.0 t.moved (subst (IsIn w.does.0) em w.does.1));
+          (subst (IsMember w.does.0) em w.does.1);
     }
     to z (inr w) = record {
       area = w.area;
       does = subst (IsHanded t) (sym w.does.2)
-          (is_member w.does.0 t.shared (subst (IsIn w.does.0) es w.does.1));
+          (subst (IsMember w.does.0) es w.does.1);
     }
 
     split : (d : Effect) → IsHanded t d → IsEffectAmong true ms d ⊎ IsEffectAmong false ss d
-    split (effect.Stores x) i = inl (x, subst (IsIn x) (sym em) (is_in_list x t.moved i), refl)
-    split (effect.Loads x) i = inr (x, subst (IsIn x) (sym es) (is_in_list x t.shared i), refl)
+    split (effect.Stores x) i = inl (x, subst (IsMember x) (sym em) i, refl)
+    split (effect.Loads x) i = inr (x, subst (IsMember x) (sym es) i, refl)
     split effect.Stops i = absurd i
 
     from : (z : Fact) → IsOf n (IsHanded t) z → IsOf n (IsEffectAmong true ms) z ⊎ IsOf n (IsEffectAmong false ss) z

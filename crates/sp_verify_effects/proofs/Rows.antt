@@ -7,9 +7,10 @@ use Rattle.std.proofs.lemmas.List.{length-set}
 use Rattle.std.proofs.lemmas.Option.{slice_get_within, none-some, same_Some}
 use Rattle.std.proofs.lemmas.Bool.{cases_eq, or_cases, or_left, or_right}
 use Rattle.sp_base.proofs.Facts.{below_or_last, get_beside_set, get_where_set}
+use Rattle.sp_tree.specs.Interference.{IsMember}
 use Rattle.sp_code.specs.declared.code.Parts.{Parts}
 use Rattle.sp_verify_rules.specs.Areas.{Area, entry}
-use Rattle.sp_verify_rules.specs.Reach.{IsIn, IsArea}
+use Rattle.sp_verify_rules.specs.Reach.{IsArea}
 use Rattle.sp_verify_rules.specs.Effects.{Does, HasEffect}
 use Rattle.sp_verify_rules.specs.NameRules.{BreaksV1}
 use Rattle.sp_verify_effects.specs.declared.asked_areas.Asked.{Asked}
@@ -28,13 +29,13 @@ use Rattle.sp_verify_effects.proofs.EdgeRows.{entry_within}
 
 -- ---- one row
 
-in_last : (x y : ℕ) (xs : List ℕ) → IsIn x (xs ++ y ∷ []) → IsIn x xs ⊎ (x ≡ y)
+in_last : (x y : ℕ) (xs : List ℕ) → IsMember x (xs ++ y ∷ []) → IsMember x xs ⊎ (x ≡ y)
 in_last x y [] (inl e) = inr e
 in_last x y [] (inr i) = absurd i
 in_last x y (z ∷ xs) (inl e) = inl (inl e)
 in_last x y (z ∷ xs) (inr i) = ⊎_elim (λ j. inl (inr j)) (λ e. inr e) (in_last x y xs i)
 
-last_in : (x y : ℕ) (xs : List ℕ) → IsIn x xs ⊎ (x ≡ y) → IsIn x (xs ++ y ∷ [])
+last_in : (x y : ℕ) (xs : List ℕ) → IsMember x xs ⊎ (x ≡ y) → IsMember x (xs ++ y ∷ [])
 last_in x y [] (inl i) = absurd i
 last_in x y [] (inr e) = inl e
 last_in x y (z ∷ xs) (inl (inl e)) = inl e
@@ -50,9 +51,9 @@ loads_is x y e = cc (e)
 pub puts_stored : (r : EffectRow) (xs : List ℕ) (y : ℕ) → xs ≡ r.stored ++ y ∷ []
     → AddsEffect r (record { stored = xs; loaded = r.loaded; stops = r.stops }) (effect.Stores y)
 puts_stored r xs y s (effect.Stores x) = (
-  λ i. ⊎_elim (λ j. inl j) (λ e. inr (ap effect.Stores e)) (in_last x y r.stored (subst (IsIn x) s i)),
+  λ i. ⊎_elim (λ j. inl j) (λ e. inr (ap effect.Stores e)) (in_last x y r.stored (subst (IsMember x) s i)),
   λ w. subst
-      (IsIn x) (sym s) (last_in x y r.stored (⊎_elim (λ j. inl j) (λ e. inr (stores_is x y e)) w)),
+      (IsMember x) (sym s) (last_in x y r.stored (⊎_elim (λ j. inl j) (λ e. inr (stores_is x y e)) w)),
 )
 puts_stored r xs y s (effect.Loads x) = (λ i. inl i, λ w. ⊎_elim (λ j. j) (λ e. absurd (cc (e))) w)
 puts_stored r xs y s effect.Stops = (λ i. inl i, λ w. ⊎_elim (λ j. j) (λ e. absurd (cc (e))) w)
@@ -61,9 +62,9 @@ pub puts_loaded : (r : EffectRow) (xs : List ℕ) (y : ℕ) → xs ≡ r.loaded 
     → AddsEffect r (record { stored = r.stored; loaded = xs; stops = r.stops }) (effect.Loads y)
 puts_loaded r xs y s (effect.Stores x) = (λ i. inl i, λ w. ⊎_elim (λ j. j) (λ e. absurd (cc (e))) w)
 puts_loaded r xs y s (effect.Loads x) = (
-  λ i. ⊎_elim (λ j. inl j) (λ e. inr (ap effect.Loads e)) (in_last x y r.loaded (subst (IsIn x) s i)),
+  λ i. ⊎_elim (λ j. inl j) (λ e. inr (ap effect.Loads e)) (in_last x y r.loaded (subst (IsMember x) s i)),
   λ w. subst
-      (IsIn x) (sym s) (last_in x y r.loaded (⊎_elim (λ j. inl j) (λ e. inr (loads_is x y e)) w)),
+      (IsMember x) (sym s) (last_in x y r.loaded (⊎_elim (λ j. inl j) (λ e. inr (loads_is x y e)) w)),
 )
 puts_loaded r xs y s effect.Stops = (λ i. inl i, λ w. ⊎_elim (λ j. j) (λ e. absurd (cc (e))) w)
 
@@ -134,8 +135,8 @@ effect_rows_more [] none es el et h zero d (r, g, i) = empty d
     (subst (λ (x : EffectRow). InRow x d) (sym (same_Some none r g)) i)
   where
     empty : (d : Effect) → InRow none d → ⊥
-    empty (effect.Stores x) i = absurd (subst (IsIn x) es i)
-    empty (effect.Loads x) i = absurd (subst (IsIn x) el i)
+    empty (effect.Stores x) i = absurd (subst (IsMember x) es i)
+    empty (effect.Loads x) i = absurd (subst (IsMember x) el i)
     empty effect.Stops i = let z = sym et ∙ i in cc (z)
 effect_rows_more [] none es el et h (suc m) d (r, g, i) = none-some r g
 effect_rows_more (x ∷ rows) none es el et h zero d w = h 0 d w

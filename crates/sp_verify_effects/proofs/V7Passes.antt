@@ -6,6 +6,7 @@ use Rattle.std.specs.BTreeMap.{BTreeMap}
 use Rattle.std.proofs.lemmas.Bool.{eq-eqb, and_from, and_parts, or_cases, or_left, or_right}
 use Rattle.std.proofs.lemmas.Option.{slice_get_within, none-some}
 use Rattle.sp_base.proofs.Facts.{not_true_and_false}
+use Rattle.sp_tree.specs.Interference.{IsMember}
 use Rattle.sp_code.specs.declared.instr.Instr.{Instr}
 use Rattle.sp_code.specs.declared.instr.Instr.TheVariants as i
 use Rattle.sp_code.specs.declared.code.Layout.{Layout}
@@ -18,7 +19,6 @@ use Rattle.sp_verify_rules.specs.Effects.{Does, IsCalled, IsEffect, Loaded, Stor
 use Rattle.sp_verify_rules.specs.Forks as fork
 use Rattle.sp_verify_rules.specs.KeepsCodeRules.{KeepsCodeRules}
 use Rattle.sp_verify_rules.specs.NameRules.{BreaksV1, BlocksApart, IsLayout, LiesIn}
-use Rattle.sp_verify_rules.specs.Reach.{IsIn}
 use Rattle.sp_verify_rules.specs.Rules.{BreaksV2, BreaksV3, BreaksV4, BreaksV5}
 use Rattle.sp_verify_rules.specs.Verdict.{BreaksV7, HasStop, Inside}
 use Rattle.sp_verify_rules.proofs.Assembly.{fits_types, have_children}
@@ -180,10 +180,10 @@ module _ (c : Parts) (k : KeepsCodeRules c) (kept : (p : ℕ) → BreaksV1 c p �
 
     module _ (q : AsksAll e.asked (entry c (Body l.block))) (d : EffectRow)
         (effects_of : IsRowOf c e.asked (Body l.block) d) where
-      stores : (x : ℕ) → IsIn x d.stored ↔ IsEffect c (Does c) Stored (Body l.block) x
+      stores : (x : ℕ) → IsMember x d.stored ↔ IsEffect c (Does c) Stored (Body l.block) x
       stores x = effects_of.stored x (q (effect.Stores x))
 
-      loads : (x : ℕ) → IsIn x d.loaded ↔ IsEffect c (Does c) Loaded (Body l.block) x
+      loads : (x : ℕ) → IsMember x d.loaded ↔ IsEffect c (Does c) Loaded (Body l.block) x
       loads x = effects_of.loaded x (q (effect.Loads x))
 
       turn_rule : Turns (flag_at flags j) l (Some d) → fork.BreaksV7Inside c (Does c) (HasStop c) (Inside c) l l.block

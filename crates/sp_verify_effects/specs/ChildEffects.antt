@@ -10,7 +10,6 @@ use Rattle.sp_code.specs.declared.code.ChildTable.{ChildTable}
 use Rattle.sp_code.specs.declared.code.ForkTable.{ForkTable}
 use Rattle.sp_verify_rules.specs.Effects.{CountsAsEffect, Loaded, handed_to}
 use Rattle.sp_verify_rules.specs.Forks.{Clash, IsIllHanded}
-use Rattle.sp_verify_rules.specs.Reach.{IsIn}
 use Rattle.sp_verify_areas.specs.LeastPlaces.{Upto}
 use Rattle.sp_verify_effects.specs.declared.effects.EffectRow.{EffectRow}
 use Rattle.sp_verify_effects.specs.declared.effects.Effects.{Effects}
@@ -41,10 +40,10 @@ fails_alone stored loaded t =
 
 -- the same, as the rule says it
 abbrev pub StoresBeyond : List ℕ → ChildTable → Type 0
-StoresBeyond stored t = (x : ℕ) × IsIn x stored × (IsMember x t.moved → ⊥)
+StoresBeyond stored t = (x : ℕ) × IsMember x stored × (IsMember x t.moved → ⊥)
 
 abbrev pub LoadsBeyond : List ℕ → ChildTable → Type 0
-LoadsBeyond loaded t = (x : ℕ) × IsIn x loaded × CountsAsEffect Loaded t.index x × (IsMember x (handed_to t) → ⊥)
+LoadsBeyond loaded t = (x : ℕ) × IsMember x loaded × CountsAsEffect Loaded t.index x × (IsMember x (handed_to t) → ⊥)
 
 abbrev pub FailsAlone : (stored loaded : List ℕ) → ChildTable → Type 0
 FailsAlone stored loaded t = StoresBeyond stored t ⊎ (LoadsBeyond loaded t ⊎ IsIllHanded t)

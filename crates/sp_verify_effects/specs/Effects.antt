@@ -2,9 +2,10 @@
 -- What areas of code do, in a table: the variables that each stores and loads, and whether it comes to a stop. An area
 -- stands in the table under its first instruction, which is that of no other area.
 use Rattle.std.specs.Prelude.{◌≡◌, ◌⊎◌, ◌↔◌, ℕ, ◌<◌, ◌||◌, Bool, true, List, IsTrue, Some, length, slice_get}
+use Rattle.sp_tree.specs.Interference.{IsMember}
 use Rattle.sp_code.specs.declared.code.Parts.{Parts}
 use Rattle.sp_verify_rules.specs.Areas.{Area, entry}
-use Rattle.sp_verify_rules.specs.Reach.{IsIn, IsArea}
+use Rattle.sp_verify_rules.specs.Reach.{IsArea}
 use Rattle.sp_verify_rules.specs.Effects.{Stored, Loaded, Does, IsEffect, HasEffect, StopsBy}
 use Rattle.sp_verify_rules.specs.Verdict.{HasStop}
 use Rattle.sp_verify_effects.specs.declared.asked_areas.Asked.{Asked}
@@ -19,8 +20,8 @@ use Rattle.sp_verify_effects.specs.Variables.{AreOwn}
 
 -- a row says so
 abbrev pub InRow : EffectRow → Effect → Type 0
-InRow r (effect.Stores x) = IsIn x r.stored
-InRow r (effect.Loads x) = IsIn x r.loaded
+InRow r (effect.Stores x) = IsMember x r.stored
+InRow r (effect.Loads x) = IsMember x r.loaded
 InRow r effect.Stops = r.stops ≡ true
 
 -- the row of an area does
@@ -55,9 +56,9 @@ module _ (c : Parts) where
   -- these are the effects of an area that are asked about, and whether it comes to a stop
   pub record IsRowOf (k : Asked) (a : Area) (d : EffectRow) : Type 0 where
     pub stored : (x : ℕ) → is_asked k (entry c a) (effect.Stores x) ≡ true
-        → IsIn x d.stored ↔ IsEffect c (Does c) Stored a x
+        → IsMember x d.stored ↔ IsEffect c (Does c) Stored a x
     pub loaded : (x : ℕ) → is_asked k (entry c a) (effect.Loads x) ≡ true
-        → IsIn x d.loaded ↔ IsEffect c (Does c) Loaded a x
+        → IsMember x d.loaded ↔ IsEffect c (Does c) Loaded a x
     pub stops : is_asked k (entry c a) effect.Stops ≡ true → IsTrue d.stops ↔ ComesToStop a
 
   -- all that the rules ask about is asked about; each area stands under its first instruction, and the touched

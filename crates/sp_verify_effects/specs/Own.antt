@@ -9,7 +9,7 @@ use Rattle.sp_code.specs.declared.code.Parts.{Parts}
 use Rattle.sp_code.specs.Machine.{layout_of}
 use Rattle.sp_verify_rules.specs.Areas.{Area, on_option, instr_at, child_at, variable_at, entry}
 use Rattle.sp_verify_rules.specs.Shapes.{Shape, below_topmost}
-use Rattle.sp_verify_rules.specs.Reach.{IsIn, Reaches}
+use Rattle.sp_verify_rules.specs.Reach.{Reaches}
 use Rattle.sp_verify_rules.specs.Touches.{stored_by, loaded_by, topmost_variable, addresses, number_list}
 use Rattle.sp_verify_rules.specs.Effects.{IsStarted}
 use Rattle.sp_verify_rules.specs.Verdict.{is_stop}
@@ -56,8 +56,8 @@ module _ (c : Parts) where
 
   -- the instruction at p does this, where the operands have these shapes
   abbrev pub DoesBy : Area → ℕ → List Shape → Effect → Type 0
-  DoesBy a p ss (effect.Stores x) = IsIn x (stored_by c a (instr_at c p) ss)
-  DoesBy a p ss (effect.Loads x) = IsIn x (loaded_by c a (instr_at c p) ss)
+  DoesBy a p ss (effect.Stores x) = IsMember x (stored_by c a (instr_at c p) ss)
+  DoesBy a p ss (effect.Loads x) = IsMember x (loaded_by c a (instr_at c p) ss)
   DoesBy a p ss effect.Stops = is_stop (instr_at c p) ≡ true
 
 -- a child is handed this
@@ -90,7 +90,7 @@ IsStop o d = (is_stop o ≡ true) × (d ≡ effect.Stops)
 
 -- a variable among these is stored, or loaded
 abbrev pub IsEffectAmong : Bool → List ℕ → Effect → Type 0
-IsEffectAmong s xs d = (x : ℕ) × IsIn x xs × (d ≡ effect_of s x)
+IsEffectAmong s xs d = (x : ℕ) × IsMember x xs × (d ≡ effect_of s x)
 
 module _ (c : Parts) where
   -- the fork or forall at p hands it to a child

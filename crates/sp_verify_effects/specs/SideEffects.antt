@@ -4,7 +4,6 @@
 use Rattle.std.specs.Prelude.{◌≡◌, ◌⊎◌, ℕ, List, Option, Some, None, Bool, true, false, ◌&&◌, ◌||◌, slice_get}
 use Rattle.sp_tree.specs.Interference.{IsMember}
 use Rattle.sp_code.specs.declared.code.Layout.{Layout}
-use Rattle.sp_verify_rules.specs.Reach.{IsIn}
 use Rattle.sp_verify_effects.specs.declared.effects.EffectRow.{EffectRow}
 use Rattle.sp_verify_effects.specs.declared.effects.Effects.{Effects}
 use Rattle.sp_verify_effects.specs.Variables.{LayoutDoes, goes_out}
@@ -17,7 +16,7 @@ has_side_effects ks l (Some d) = l.answer && (d.stops || goes_out ks l.entry 0 d
 abbrev pub HasSideEffects : Layout → Option EffectRow → Type 0
 HasSideEffects l None = ⊥
 HasSideEffects l (Some d) = (l.answer ≡ true)
-    × (((x : ℕ) × IsIn x d.stored × (IsMember x l.variables → ⊥)) ⊎ (d.stops ≡ true))
+    × (((x : ℕ) × IsMember x d.stored × (IsMember x l.variables → ⊥)) ⊎ (d.stops ≡ true))
 
 abbrev pub LayoutHasSideEffects : Effects → List Layout → ℕ → ℕ → Type 0
 LayoutHasSideEffects e = LayoutDoes (λ j l. HasSideEffects l (slice_get e.rows l.entry))

@@ -12,7 +12,6 @@ use Rattle.sp_code.specs.declared.code.Parts.{Parts}
 use Rattle.sp_code.specs.Memory.{Home}
 use Rattle.sp_verify_rules.specs.Areas.{Area, homes, instr_at}
 use Rattle.sp_verify_rules.specs.NameRules.{is_block}
-use Rattle.sp_verify_rules.specs.Reach.{IsIn}
 use Rattle.sp_verify_areas.specs.Alone.{flag_at}
 use Rattle.sp_verify_areas.specs.Blocks.{number_of}
 use Rattle.sp_verify_areas.specs.Only.{LiesOnlyIn}
@@ -58,7 +57,7 @@ turns ks flag l (Some d) = flag && (goes_out ks l.entry 2 d.stored || goes_out k
 abbrev pub Turns : Bool → Layout → Option EffectRow → Type 0
 Turns flag l None = ⊥
 Turns flag l (Some d) = (flag ≡ true)
-    × ((x : ℕ) × (IsIn x d.stored ⊎ IsIn x d.loaded) × (IsMember x l.variables → ⊥) × (1 < x))
+    × ((x : ℕ) × (IsMember x d.stored ⊎ IsMember x d.loaded) × (IsMember x l.variables → ⊥) × (1 < x))
 
 abbrev pub LayoutTurns : Effects → List Bool → List Layout → ℕ → ℕ → Type 0
 LayoutTurns e flags = LayoutDoes (λ j l. Turns (flag_at flags j) l (slice_get e.rows l.entry))

@@ -2,9 +2,9 @@
 -- Which variables blocks have: an ordered set of the first instructions of blocks, each with a variable.
 use Rattle.std.specs.Prelude.{◌≡◌, ◌⊎◌, ◌↔◌, ℕ, List, [], ◌∷◌, Some, Bool, true, false, ◌&&◌, ◌||◌, not, nat_le}
 use Rattle.std.specs.Prelude.{slice_get}
+use Rattle.sp_tree.specs.Interference.{IsMember}
 use Rattle.sp_code.specs.declared.code.Layout.{Layout}
 use Rattle.sp_code.specs.declared.code.Parts.{Parts}
-use Rattle.sp_verify_rules.specs.Reach.{IsIn}
 use Rattle.sp_verify_effects.specs.Facts.{has_pair}
 
 -- the block that begins there has a variable
@@ -17,7 +17,7 @@ AddsPairs old new W = (q : ℕ × ℕ) → (has_pair new q ≡ true) ↔ ((has_p
 
 -- a first instruction, and a variable among these
 abbrev pub IsOwnOf : ℕ → List ℕ → ℕ × ℕ → Type 0
-IsOwnOf m xs q = (q.0 ≡ m) × IsIn q.1 xs
+IsOwnOf m xs q = (q.0 ≡ m) × IsMember q.1 xs
 
 -- of a layout, and a variable of it
 abbrev pub IsOwnIn : List Layout → ℕ × ℕ → Type 0
