@@ -4,6 +4,7 @@ use Rattle.std.proofs.Common.{◌≡◌, ◌∙◌, inl, inr, ℕ, zero, suc, �
 use Rattle.std.proofs.Common.{refl, sym, subst, ap, arith, Bool}
 use Rattle.std.proofs.lemmas.Option.{same_Some}
 use Rattle.std.specs.Prelude.{pos, slice_get}
+use Rattle.sp_tree.specs.Interference.{IsMember}
 use Rattle.sp_code.specs.declared.instr.Instr.{Instr}
 use Rattle.sp_code.specs.declared.instr.Instr.TheVariants as i
 use Rattle.sp_code.specs.declared.code.Layout.{Layout}
@@ -11,7 +12,7 @@ use Rattle.sp_code.specs.declared.code.Parts.{Parts}
 use Rattle.sp_code.specs.Machine.{layout_of}
 use Rattle.sp_verify_rules.specs.Areas.{Area, Body, instr_at, child_at}
 use Rattle.sp_verify_rules.specs.Shapes.{Shape, O, A}
-use Rattle.sp_verify_rules.specs.Reach.{IsIn, Reaches}
+use Rattle.sp_verify_rules.specs.Reach.{Reaches}
 use Rattle.sp_verify_rules.specs.Effects.{EffectKind, Stored, Loaded, Does, does_at, EffectBy, IsEffect, HasEffect}
 use Rattle.sp_verify_rules.specs.Effects.{IsCalled}
 use Rattle.sp_verify_rules.specs.Effects.{Becomes}
@@ -107,7 +108,7 @@ called_at (suc (suc zero)) f up e = let z : 1 ≡ f = cc e in sym z
 called_at (suc (suc (suc zero))) f up e = absurd (cc e)
 called_at (suc (suc (suc (suc p)))) f up e = absurd (cc e)
 
-done_at : (e : EffectKind) (p : ℕ) (ss : List Shape) (x : ℕ) → IsIn x (does_at writing e (Body 1) p ss) → x ≡ 1
+done_at : (e : EffectKind) (p : ℕ) (ss : List Shape) (x : ℕ) → IsMember x (does_at writing e (Body 1) p ss) → x ≡ 1
 done_at Stored zero ss x h = absurd h
 done_at Stored (suc zero) ss x (inl h) = h
 done_at Stored (suc zero) ss x (inr h) = absurd h
