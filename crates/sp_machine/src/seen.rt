@@ -35,16 +35,13 @@ fn asks_much(table: &ForkTable, count: u32) -> bool {
     false
 }
 
-/// Notes what a variable parameter stands for, unless there is an earlier one of its number.
-fn note_reference(
-    first: &mut BTreeMap<u32, Address>,
-    number: u32,
-    target: Address,
-) -> Result<(), Memory>
-    ensures { OnOk result (Notes first.old first.new number target) }
+/// Notes a value under a number, unless something is noted under it already: the first parameter of a number counts,
+/// and the innermost variable.
+fn note<T: Copy>(noted: &mut BTreeMap<u32, T>, number: u32, value: T) -> Result<(), Memory>
+    ensures { OnOk result (Notes noted.old noted.new number value) }
 {
-    if !first.contains_key(&number) {
-        have!(first.insert(number, target));
+    if !noted.contains_key(&number) {
+        have!(noted.insert(number, value));
     }
     Ok(())
 }
@@ -59,7 +56,7 @@ fn references_of(
 {
     let mut first = BTreeMap::new(alloc);
     for reference in references {
-        have!(note_reference(&mut first, reference.0, reference.1));
+        have!(note(&mut first, reference.0, reference.1));
     }
     Ok(first)
 }
@@ -84,16 +81,6 @@ fn spot_by(
             None => None,
         },
     }
-}
-
-/// Notes where a variable stands, unless one of its number is further inward.
-fn note(seen: &mut BTreeMap<u32, Spot>, variable: u32, spot: Spot) -> Result<(), Memory>
-    ensures { OnOk result (Notes seen.old seen.new variable spot) }
-{
-    if !seen.contains_key(&variable) {
-        have!(seen.insert(variable, spot));
-    }
-    Ok(())
 }
 
 /// Notes the variables of the frame of a block. The answer is false where a variable parameter stands for nothing.

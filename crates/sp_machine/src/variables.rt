@@ -16,16 +16,9 @@ use sp_code::Code;
 fn beyond(offset: u32, place: u64, size: u32) -> Option<u32>
     ensures { MatchOption result (4294967296 ≤ offset + place * size) (λ r. r ≡ offset + place * size) }
 {
-    let Some(cells) = place.checked_mul(u64::from(size)) else {
-        return None;
-    };
-    let Some(all) = cells.checked_add(u64::from(offset)) else {
-        return None;
-    };
-    match u32::try_from(all) {
-        Ok(offset) => Some(offset),
-        Err(_) => None,
-    }
+    let cells = place.checked_mul(u64::from(size))?;
+    let all = cells.checked_add(u64::from(offset))?;
+    u32::try_from(all).ok()
 }
 
 impl State {
@@ -44,10 +37,10 @@ impl State {
             self.new s) }
         ensures same { KeepsNumberAndInput self.old self.new }
     {
-        match self.frames.address(up, var) {
-            Some(at) => self.push_on(Operand::Pointer(at)),
-            None => unreachable!(),
-        }
+        let Some(at) = self.frames.address(up, var) else {
+            unreachable!()
+        };
+        self.push_on(Operand::Pointer(at))
     }
 
     // Pushes the address that a variable parameter stands for.
@@ -65,10 +58,10 @@ impl State {
             self.new s) }
         ensures same { KeepsNumberAndInput self.old self.new }
     {
-        match self.frames.reference(up, var) {
-            Some(at) => self.push_on(Operand::Pointer(at)),
-            None => unreachable!(),
-        }
+        let Some(at) = self.frames.reference(up, var) else {
+            unreachable!()
+        };
+        self.push_on(Operand::Pointer(at))
     }
 
     // Selects an element of an array.
@@ -87,29 +80,25 @@ impl State {
             self.old self.new s) }
         ensures same { KeepsNumberAndInput self.old self.new }
     {
-        match self.stack.pop_number() {
-            Some(n) => match self.stack.top_pointer() {
-                Some(at) => {
-                    if n < low || high < n {
-                        return unpacked(self.fail_number(n, Fault::F1));
-                    }
-                    match beyond(at.offset, n.abs_diff(low), size) {
-                        Some(offset) => {
-                            let spot = at.spot;
-                            self.stack.put(Operand::Pointer(Address { spot, offset }));
-                            self.pc += 1;
-                            Ok(None)
-                        }
-                        None => unreachable!(),
-                    }
-                }
-                None => unreachable!(),
-            },
-            None => unreachable!(),
+        let Some(n) = self.stack.pop_number() else {
+            unreachable!()
+        };
+        let Some(at) = self.stack.top_pointer() else {
+            unreachable!()
+        };
+        if n < low || high < n {
+            return unpacked(self.fail_number(n, Fault::F1));
         }
+        let Some(offset) = beyond(at.offset, n.abs_diff(low), size) else {
+            unreachable!()
+        };
+        let spot = at.spot;
+        self.stack.put(Operand::Pointer(Address { spot, offset }));
+        self.pc += 1;
+        Ok(None)
     }
 
-    // Selects what begins so many cells further on.
+    // Selects what begins this number of cells further on.
     pub(crate) fn field(
         &mut self,
         cells: u32,
@@ -122,16 +111,14 @@ impl State {
             self.new s) }
         ensures same { KeepsNumberAndInput self.old self.new }
     {
-        match self.stack.pop_pointer() {
-            Some(at) => match at.offset.checked_add(cells) {
-                Some(offset) => self.push_on(Operand::Pointer(Address {
-                    spot: at.spot,
-                    offset,
-                })),
-                None => unreachable!(),
-            },
-            None => unreachable!(),
-        }
+        let Some(at) = self.stack.pop_pointer() else {
+            unreachable!()
+        };
+        let Some(offset) = at.offset.checked_add(cells) else {
+            unreachable!()
+        };
+        let spot = at.spot;
+        self.push_on(Operand::Pointer(Address { spot, offset }))
     }
 
     // The ordinal at an address.
@@ -143,16 +130,16 @@ impl State {
             s) }
         ensures same { KeepsNumberAndInput self.old self.new }
     {
-        match self.stack.top_pointer() {
-            Some(at) => match self.store.load(at) {
-                Cell::Ordinal(value) => {
-                    self.stack.put(Operand::Number(value));
-                    self.pc += 1;
-                    Ok(None)
-                }
-                Cell::Undefined | Cell::Channel(_) => Ok(Some(Interrupt::Fault(Fault::F4))),
-            },
-            None => unreachable!(),
+        let Some(at) = self.stack.top_pointer() else {
+            unreachable!()
+        };
+        match self.store.load(at) {
+            Cell::Ordinal(value) => {
+                self.stack.put(Operand::Number(value));
+                self.pc += 1;
+                Ok(None)
+            }
+            Cell::Undefined | Cell::Channel(_) => Ok(Some(Interrupt::Fault(Fault::F4))),
         }
     }
 
@@ -168,12 +155,12 @@ impl State {
             s) }
         ensures same { KeepsNumberAndInput self.old self.new }
     {
-        match self.stack.pop_pointer() {
-            Some(at) => match self.store.load(at) {
-                Cell::Channel(channel) => self.push_on(Operand::Channel(channel)),
-                Cell::Undefined | Cell::Ordinal(_) => self.fail(Operand::Pointer(at), Fault::F5),
-            },
-            None => unreachable!(),
+        let Some(at) = self.stack.pop_pointer() else {
+            unreachable!()
+        };
+        match self.store.load(at) {
+            Cell::Channel(channel) => self.push_on(Operand::Channel(channel)),
+            Cell::Undefined | Cell::Ordinal(_) => self.fail(Operand::Pointer(at), Fault::F5),
         }
     }
 
@@ -195,14 +182,12 @@ impl State {
             Some(Operand::Channel(channel)) => Cell::Channel(channel),
             _ => unreachable!(),
         };
-        match self.stack.pop_pointer() {
-            Some(at) => {
-                have!(self.store.store(at, cell));
-                self.pc += 1;
-                Ok(None)
-            }
-            None => unreachable!(),
-        }
+        let Some(at) = self.stack.pop_pointer() else {
+            unreachable!()
+        };
+        have!(self.store.store(at, cell));
+        self.pc += 1;
+        Ok(None)
     }
 
     // Assigns cells.
@@ -218,17 +203,15 @@ impl State {
             self.new s) }
         ensures same { KeepsNumberAndInput self.old self.new }
     {
-        match self.stack.pop_pointer() {
-            Some(from) => match self.stack.pop_pointer() {
-                Some(to) => {
-                    have!(self.store.copy(to, from, cells));
-                    self.pc += 1;
-                    Ok(None)
-                }
-                None => unreachable!(),
-            },
-            None => unreachable!(),
-        }
+        let Some(from) = self.stack.pop_pointer() else {
+            unreachable!()
+        };
+        let Some(to) = self.stack.pop_pointer() else {
+            unreachable!()
+        };
+        have!(self.store.copy(to, from, cells));
+        self.pc += 1;
+        Ok(None)
     }
 
     // The cells from an address on, as one operand.
@@ -244,12 +227,10 @@ impl State {
             self.new s) }
         ensures same { KeepsNumberAndInput self.old self.new }
     {
-        match self.stack.pop_pointer() {
-            Some(at) => {
-                let taken = have!(self.store.cells(at, cells));
-                self.push_on(Operand::Cells(taken))
-            }
-            None => unreachable!(),
-        }
+        let Some(at) = self.stack.pop_pointer() else {
+            unreachable!()
+        };
+        let taken = have!(self.store.cells(at, cells));
+        self.push_on(Operand::Cells(taken))
     }
 }

@@ -19,7 +19,7 @@ loop-variable-preserved c x =
     ∙ get_or_default l.variables k 0 y inside in
     let spot = c.in-Some.ensures
     ∙ ap (spot_by f c.loop-variable.place) (c.copied-formal.ensures ∙ c.get.ensures) in
-    ap (λ n. option_or (under c.note.new.seen x)
+    ap (λ n. option_or (under c.note.new.noted x)
     (spot_at f l (place_of x n (drop (k + 1) l.variables)))) c.in-Some-checked_add.ensures.1
-    ∙ sym (block_more l f l.variables c.loop-variable.seen c.note.new.seen c.loop-variable.place k y c.in-Some.spot
+    ∙ sym (block_more l f l.variables c.loop-variable.seen c.note.new.noted c.loop-variable.place k y c.in-Some.spot
     inside item spot c.in-Ok-note.ensures x) ∙ c.loop-variable.invariant x
