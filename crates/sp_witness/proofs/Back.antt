@@ -10,7 +10,7 @@ use Rattle.sp_meaning.specs.Entries.{Happening, Opened, Forked, Offered, Faulted
 use Rattle.sp_journal.specs.Names as happenings
 use Rattle.sp_meaning.specs.Runs.{StateOf, running_process, next_state, happening_of, happening_at}
 use Rattle.sp_meaning.specs.Along.{Either, ticks_of, is_due_after, Turn, MakesEntry, JournalState, with_ticks}
-use Rattle.sp_meaning.specs.Along.{course_after}
+use Rattle.sp_meaning.specs.Along.{course_after, KernelStep}
 use Rattle.sp_meaning.specs.Along.{EntryStep, Along}
 use Rattle.sp_race.specs.Notes.{Event}
 use Rattle.sp_race.specs.RunNotes.{WithNotes}
@@ -67,15 +67,15 @@ module _ (g : RunInput) where
         → Does g label s h x m → IsLocalNotDue g turn since x → Turn g turn since h.who k m.state t paused
         → Turn g turn since h.who (suc k) s.state t paused
     more_turn since s m h x k t paused does silent go =
-        let b = due_is s h x m does since false silent.0 silent.1 in (
-          x.own,
-          does.fits.works,
-          local_says s h x m does since false silent.0 silent.1,
-          m.state,
-          next_is s h x m does,
-          subst (λ z. Either z ((k ≡ 0) × (t ≡ m.state) × (paused ≡ true))
-              (Turn g turn since h.who k m.state t paused)) (sym b) go,
-        )
+        let b = due_is s h x m does since false silent.0 silent.1 in record {
+          process = x.own;
+          runs = does.fits.works;
+          enters_none = local_says s h x m does since false silent.0 silent.1;
+          next = m.state;
+          steps = next_is s h x m does;
+          ahead = subst (λ z. Either z ((k ≡ 0) × (t ≡ m.state) × (paused ≡ true))
+              (Turn g turn since h.who k m.state t paused)) (sym b) go;
+        }
 
     -- local steps up to a kernel step
     pub turn_silent : (since : ℕ) (s m : WithNotes L) (h : Head) (xs : List (Tag g)) → AllSilent g turn since xs
@@ -85,14 +85,14 @@ module _ (g : RunInput) where
     turn_silent since s m h [] silent r own w what is =
         let e : m.state ≡ s.state = ap (λ (z : WithNotes L). z.state) r in (
           zero,
-          (
-            e,
-            refl,
-            own,
-            subst (λ (z : StateOf g). running_process g z h.who ≡ Some own) e w,
-            what,
-            subst (λ (z : StateOf g). happening_at g z h.who own ≡ Some what) e is,
-          ),
+          record {
+            stays = e;
+            unpaused = refl;
+            process = own;
+            runs = subst (λ (z : StateOf g). running_process g z h.who ≡ Some own) e w;
+            what = what;
+            happens = subst (λ (z : StateOf g). happening_at g z h.who own ≡ Some what) e is;
+          },
         )
     turn_silent since s m h (x ∷ xs) silent r own w what is =
         let t = turn_silent since r.0 m h xs silent.1 r.2 own w what is in
@@ -145,8 +145,18 @@ module _ (g : RunInput) where
               count = zero;
               mid = s.state;
               paused = false;
-              turns = (refl, refl, x.own, does.fits.works, w, is);
-              ends = ends s.state (refl, (x.own, does.fits.works, is, next_is s h x m does));
+              turns = record {
+                stays = refl;
+                unpaused = refl;
+                process = x.own;
+                runs = does.fits.works;
+                what = w;
+                happens = is;
+              };
+              ends = ends s.state (
+                refl,
+                record { process = x.own; runs = does.fits.works; happens = is; steps = next_is s h x m does },
+              );
               ticks_end = ticks_are s h x m does ∙ sym y.1;
             }
 
@@ -158,15 +168,15 @@ module _ (g : RunInput) where
               count = suc zero;
               mid = m.state;
               paused = true;
-              turns = (
-                x.own,
-                does.fits.works,
-                local_says s h x m does since true ticks y,
-                m.state,
-                next_is s h x m does,
-                subst (λ z. Either z ((zero ≡ 0) × (m.state ≡ m.state) × (true ≡ true))
-                    (Turn g turn since h.who zero m.state m.state true)) (sym b) (refl, refl, refl),
-              );
+              turns = record {
+                process = x.own;
+                runs = does.fits.works;
+                enters_none = local_says s h x m does since true ticks y;
+                next = m.state;
+                steps = next_is s h x m does;
+                ahead = subst (λ z. Either z ((zero ≡ 0) × (m.state ≡ m.state) × (true ≡ true))
+                    (Turn g turn since h.who zero m.state m.state true)) (sym b) (refl, refl, refl);
+              };
               ends = (refl, refl);
               ticks_end = ticks_are s h x m does ∙ ap (ticks_by g) y.move_is ∙ sym y.ticks_are;
             }
@@ -180,6 +190,12 @@ module _ (g : RunInput) where
     -- no fault stands, and nobody is laid
     abbrev pub IsFair : JournalState → Type 0
     IsFair c = (c.faulted ≡ false) × ((q : Name) → c.laid q ≡ false)
+
+    kernel_made : (left : JournalState → StateOf g → ℕ → Type 0) (c : JournalState) (mid u : StateOf g) (paused : Bool)
+        (q : Name) (what : Happening) (rest : ℕ) → IsFair c → (paused ≡ false) × MakesEntry g mid q what u
+        → left (course_after q what (ticks_of g u q) c) u rest → KernelStep g left c mid paused q what (suc rest)
+    kernel_made left c mid u paused q what rest fair (unpaused, makes) ahead =
+        (fair.0, record { unpaused = unpaused; next = u; rest = rest; size = refl; makes = makes; ahead = ahead })
 
     entered : (left : JournalState → StateOf g → ℕ
         → Type 0) (c : JournalState) (mid u : StateOf g) (paused : Bool) (q : Name)
@@ -200,18 +216,18 @@ module _ (g : RunInput) where
     entered left c mid u paused q (Forked n) ticks fair ends t go =
         let x = go (course_after q (Forked n) (ticks_of g u q) c) (λ i z. cond (same_name q z) (t i) (c.since z))
         fair in
-        (suc x.0, (fair.0, ends.0, u, x.0, refl, ends.1, x.1))
+        (suc x.0, kernel_made left c mid u paused q (Forked n) x.0 fair ends x.1)
     entered left c mid u paused q Opened ticks fair ends t go =
         let x = go (course_after q Opened (ticks_of g u q) c) (λ i z. cond (same_name q z) (t i) (c.since z)) fair in
-        (suc x.0, (fair.0, ends.0, u, x.0, refl, ends.1, x.1))
+        (suc x.0, kernel_made left c mid u paused q Opened x.0 fair ends x.1)
     entered left c mid u paused q (Offered w d) ticks fair ends t go =
         let x = go (course_after q (Offered w d) (ticks_of g u q) c) (λ i z. cond (same_name q z) (t i) (c.since z))
         fair in
-        (suc x.0, (fair.0, ends.0, u, x.0, refl, ends.1, x.1))
+        (suc x.0, kernel_made left c mid u paused q (Offered w d) x.0 fair ends x.1)
     entered left c mid u paused q happenings.Ended ticks fair ends t go =
         let x = go (course_after q happenings.Ended (ticks_of g u q) c) (λ i z. cond (same_name q z) (t i) (c.since z))
         fair in
-        (suc x.0, (fair.0, ends.0, u, x.0, refl, ends.1, x.1))
+        (suc x.0, kernel_made left c mid u paused q happenings.Ended x.0 fair ends x.1)
     entered left c mid u paused q (Faulted f) ticks fair ends t go = absurd ends
     entered left c mid u paused q Laid ticks fair ends t go = absurd ends
 
@@ -230,5 +246,16 @@ module _ (g : RunInput) where
         rebuilt tail t bs runs.0 u c1 runs.2 (subst (λ z. AllValid g turn z bs) (sym e) valid.1) f
         (λ c2 i. go c2 (i ∙ ap (λ z. since_all g turn z bs) e)) in
         let e = entered (λ c1 u1 r. Along g turn c1 u1 (entries bs ++ tail) r t) c k.mid runs.0.state k.paused
-        b.head.who b.head.what b.ticks fair k.ends k.ticks_end rest in
-        (k.count + e.0, (fair.1 b.head.who, k.count, e.0, k.mid, k.paused, refl, k.turns, e.1))
+        b.head.who b.head.what b.ticks fair k.ends k.ticks_end rest in (
+          k.count + e.0,
+          record {
+            not_laid = fair.1 b.head.who;
+            steps = k.count;
+            rest = e.0;
+            middle = k.mid;
+            paused = k.paused;
+            size = refl;
+            turns = k.turns;
+            enters = e.1;
+          },
+        )

@@ -111,17 +111,20 @@ module _ (g : RunInput) where
       (n : ℕ) (label : ℕ → Option Event) (h : Head) (paused : Bool) → h.who ≡ q → h.position ≡ n → h.knows ≡ j.past q
       → Turn g turn since q k s m paused → KnownAfterEntries g s v j done n label → Before s
       → Turned turn since q s m v j done n label h paused
-  turned turn since q zero s m v j done n label h paused hw ha hk (same, undue, own, runs, what, says) at way = record {
+  turned turn since q zero s m v j done n label h paused hw ha hk turns at way = record {
     notes = v;
-    known = subst (λ z. KnownAfterEntries g z v j done n label) (sym same) at;
-    way = subst Before (sym same) way;
+    known = subst (λ z. KnownAfterEntries g z v j done n label) (sym turns.stays) at;
+    way = subst Before (sym turns.stays) way;
     tags = [];
-    runs = λ lf agree. λ i. beside (same i) v;
-    kind = inl (undue, tt);
+    runs = λ lf agree. λ i. beside (turns.stays i) v;
+    kind = inl (turns.unpaused, tt);
   }
-  turned turn since q (suc k) s m v j done n label h paused hw ha hk (own, runs, silent, u, goes, onward) at way =
-      let x = stepped g s q own u runs goes (no_fault_step g s q own u None runs silent tt goes at.no_fault) in
-      let mv = local_moves g s q own u x silent in
+  turned turn since q (suc k) s m v j done n label h paused hw ha hk turns at way =
+      let own : Process = turns.process in
+      let u : StateOf g = turns.next in
+      let x = stepped g s q own u turns.runs turns.steps (no_fault_step g s q own u None turns.runs turns.enters_none tt
+      turns.steps at.no_fault) in
+      let mv = local_moves g s q own u x turns.enters_none in
       let at1 = next_at g s v j done n label q own u at x j done n label
       (moves_linked s v q x.cs at.sound at.known x.makes j done n label at.linked mv.next_own mv.writes mv.move_is) in
       let knows = subst (λ z. KnowsBefore L v q (L.next z s.store)) x.process_is (moves_know g s x.makes.own v q mv) in
@@ -135,7 +138,7 @@ module _ (g : RunInput) where
       → Does g lf (beside s v) h (tag_of s own) (beside u w) =
       λ lf agree. record {
         fits = record {
-          works = subst (λ z. own_part s z ≡ Some own) (sym hw) runs;
+          works = subst (λ z. own_part s z ≡ Some own) (sym hw) turns.runs;
           act_is = refl;
           pauses_are = refl;
           past = λ i e lt is. ap (λ z. v.past z e) hw
@@ -144,7 +147,7 @@ module _ (g : RunInput) where
         };
         good = subst (λ z. GoodStep (total_limits g) (start g) (beside s v) z (beside u w)) (sym hw) good;
       } in
-      rest own u w at1 (before_step s q own u way at.no_fault x) does (is_due_after g turn since s own q u) refl onward
+      rest own u w at1 (before_step s q own u way at.no_fault x) does (is_due_after g turn since s own q u) refl turns.ahead
       (λ y. turned turn since q k u m w j done n label h paused hw ha hk y at1
       (before_step s q own u way at.no_fault x))
       (λ b e. record {
@@ -288,42 +291,44 @@ module _ (g : RunInput) where
       → Turned turn (c.since q) q s m v j done n label (HeadOf j n q what) paused
       → KnowsOffers j done q what → Entry turn left c s v j done n label q what
   kernel_entry turn left c s m paused v j done n label q what r ok last since_is
-      (_, undue, u, rest, _, (own, runs, says, goes), after) t knows =
-      let x = stepped g m q own u runs goes (no_fault_step g m q own u
-      (Some what) runs says ok goes t.known.no_fault) in
-      let y = enters m t.notes q own u j done n label what t.known x says knows in
+      (_, k) t knows =
+      let own : Process = k.makes.process in
+      let u : StateOf g = k.next in
+      let x = stepped g m q own u k.makes.runs k.makes.steps (no_fault_step g m q own u
+      (Some what) k.makes.runs k.makes.happens ok k.makes.steps t.known.no_fault) in
+      let y = enters m t.notes q own u j done n label what t.known x k.makes.happens knows in
       let w : JudgeNotes = notes_after m t.notes q (L.next own m.store) in
       let lab = grown n t.notes q label in
-      let agree : LabelsAgree lab label n = λ k lt. rw (ne_eqb n k (λ e. omega (arith, e, lt))) in
+      let agree : LabelsAgree lab label n = λ i lt. rw (ne_eqb n i (λ e. omega (arith, e, lt))) in
       let good = good_step m t.notes j done n label q own u t.way t.known x y.knows in
       let ticks : ticks_of g u q ≡ ticks_by g (L.next own m.store) = ap (λ z. ticks_of g z q) x.to
       ∙ ticks_after g m q x.cs t.known.sound x.makes ∙ ap (λ z. ticks_by g (L.next z m.store)) x.process_is in
       let says_it : happening_of {L = L} (L.next own m.store) (Advances []) ≡ Some what =
       said_same {L = L} (L.next own m.store) [] x.cs
       ∙ ap (λ z. happening_of {L = L} (L.next z m.store) (Advances x.cs)) (sym x.process_is) ∙ sym (said g m q own u x)
-      ∙ says in
+      ∙ k.makes.happens in
       let silent : AllSilent g turn (c.since q) t.tags =
       ⊎_elim (λ (z : (paused ≡ false) × AllSilent g turn (c.since q) t.tags). z.1)
       (λ (z : (paused ≡ true) × Valid g turn (c.since q) Paused t.tags (ticks_of g m q)). absurd
-      (false≢true (sym undue ∙ z.0))) t.kind in
+      (false≢true (sym k.unpaused ∙ z.0))) t.kind in
       record {
         course = course_after q what (ticks_of g u q) c;
         state = u;
-        steps_left = rest;
-        goes_on = after;
+        steps_left = k.rest;
+        goes_on = k.ahead;
         notes = w;
         label_after = lab;
         at = y.at;
         way = before_step m q own u t.way t.known.no_fault x;
         tags = t.tags ++ tag_of m own ∷ [];
         runs = λ lf ag. run_on lf (HeadOf j n q what) t.tags (tag_of m own) (beside s v) (beside m t.notes) (beside u w)
-            (t.runs lf (λ k lt. ag k (omega (arith, lt)) ∙ agree k lt)) (record {
+            (t.runs lf (λ i lt. ag i (omega (arith, lt)) ∙ agree i lt)) (record {
               fits = record {
-                works = runs;
+                works = k.makes.runs;
                 act_is = refl;
                 pauses_are = refl;
-                past = λ i e lt is. knows_so m t.notes j done n label lf q t.known (λ k lt. ag k (omega (arith, lt))
-                    ∙ agree k lt) i e lt is;
+                past = λ i e lt is. knows_so m t.notes j done n label lf q t.known (λ z lt. ag z (omega (arith, lt))
+                    ∙ agree z lt) i e lt is;
                 named = inr (ag n (omega arith) ∙ rw (eq-eqb n n refl) refl);
               };
               good = good;
@@ -429,12 +434,12 @@ module _ (g : RunInput) where
         since = refl;
       }
   journal_front turn tail t (e ∷ pre) c s r v j done n label
-      (_, steps, rest, between, paused, _, locals, enters) clean at way
+      a clean at way
       known =
-      let tu = turned turn (c.since e.who) e.who steps s between v j done n label (HeadOf j n e.who e.what) paused refl
-      refl refl locals at way in
-      let en = entry turn (λ c1 u d. Along g turn c1 u (pre ++ tail) d t) c s between paused v j done n label e.who
-      e.what rest clean.0 enters tu known.0 in
+      let tu = turned turn (c.since e.who) e.who a.steps s a.middle v j done n label (HeadOf j n e.who e.what) a.paused
+      refl refl refl a.turns at way in
+      let en = entry turn (λ c1 u d. Along g turn c1 u (pre ++ tail) d t) c s a.middle a.paused v j done n label e.who
+      e.what a.rest clean.0 a.enters tu known.0 in
       let k : KnownFrom (knowledge_after j n e.who e.what) (With done e.who e.what) pre =
       subst (λ z. KnownFrom (knowledge_after j z e.who e.what) (With done e.who e.what) pre) at.linked.size known.1 in
       let w = journal_front turn tail t pre en.course en.state en.steps_left en.notes (knowledge_after j n e.who e.what)

@@ -270,18 +270,19 @@ module _ (g : RunInput) (disjoint : IsDisjointRun g) (turn : ℕ) (es : List Occ
 
   offer_entry : OfferEntry
   offer_entry =
-      let (_, steps, _, between, paused, _, locals, (_, undue, next, _, _, (own, runs, says, goes), _)) = walk.goes_on
-      in record {
-        steps = steps;
-        between = between;
-        paused = paused;
-        locals = locals;
-        undue = undue;
-        next = next;
-        own = own;
-        runs = runs;
-        says = says;
-        goes = goes;
+      let its = walk.goes_on in
+      let (_, kernel) = its.enters in
+      record {
+        steps = its.steps;
+        between = its.middle;
+        paused = its.paused;
+        locals = its.turns;
+        undue = kernel.unpaused;
+        next = kernel.next;
+        own = kernel.makes.process;
+        runs = kernel.makes.runs;
+        says = kernel.makes.happens;
+        goes = kernel.makes.steps;
       }
 
   open offer_entry use {steps, between, paused, locals, undue, next, own, runs, says, goes}
@@ -552,16 +553,26 @@ module _ (g : RunInput) (disjoint : IsDisjointRun g) (turn : ℕ) (es : List Occ
       (subst (λ z. AllSilent g turn z tags) (sym (ap (λ h. h second) e ∙ since_second)) tags_silent) second_first.1
       own ready_at_end.works (Faulted fault.F6) faulty.0 in (
         q.0 + 1,
-        (
-          f.1 second,
-          q.0,
-          1,
-          at_end.state,
-          false,
-          refl,
-          q.1,
-          (f.0, refl, end_state, 0, refl, (own, ready_at_end.works, faulty.0, faulty.1), (refl, refl)),
-        ),
+        record {
+          not_laid = f.1 second;
+          steps = q.0;
+          rest = 1;
+          middle = at_end.state;
+          paused = false;
+          size = refl;
+          turns = q.1;
+          enters = (
+            f.0,
+            record {
+              unpaused = refl;
+              next = end_state;
+              rest = 0;
+              size = refl;
+              makes = record { process = own; runs = ready_at_end.works; happens = faulty.0; steps = faulty.1 };
+              ahead = (refl, refl);
+            },
+          );
+        },
       ))
 
   entries_are : entries g (kept g mark blocks ++ block ∷ []) ++ tail ≡ witness es earlier later

@@ -1,6 +1,6 @@
 -- A run without a fault at its end is ordered exactly where no schedule of the program meets contention.
-use Rattle.std.proofs.Common.{◌≡◌, ℕ, zero, suc, Bool, true, false, List, [], ◌∷◌, ◌++◌, slice_get, Some, None, refl}
-use Rattle.std.proofs.Common.{sym, ap, ◌∙◌, subst}
+use Rattle.std.proofs.Common.{◌≡◌, ℕ, Bool, List, [], ◌∷◌, ◌++◌, slice_get, Some, None, refl}
+use Rattle.std.proofs.Common.{sym, ◌∙◌, subst}
 use Rattle.std.proofs.lemmas.Option.{none-some}
 use Rattle.sp_base.specs.declared.fault.Fault.{Fault}
 use Rattle.sp_base.specs.declared.fault.Fault.TheVariants as fault
@@ -9,10 +9,11 @@ use Rattle.sp_meaning.specs.Model.{Name, Channel}
 use Rattle.sp_meaning.specs.Entries.{Happening, Opened, Forked, Offered, Faulted, Laid, Paused, Occurrence}
 use Rattle.sp_meaning.specs.LocalWork.{RunInput}
 use Rattle.sp_meaning.specs.Runs.{StateOf, start, next_state, Lawful}
-use Rattle.sp_meaning.specs.Along.{Either, is_due_after, Turn, JournalState, before_entries, KernelStep, EntryStep}
+use Rattle.sp_meaning.specs.Along.{Turn, JournalState, before_entries, KernelStep, EntryStep}
 use Rattle.sp_meaning.specs.Along.{Along, IsAlong}
 use Rattle.sp_meaning.specs.Along.{IsCleanly, IsClean}
 use Rattle.sp_meaning.specs.Laws.{IsReached}
+use Rattle.sp_meaning.proofs.TurnWalks.{turn_folds}
 use Rattle.sp_meaning.proofs.JournalSchedules.{no_fault_step}
 use Rattle.sp_witness.specs.Witness.{who_at, entry_list, first_part, witness}
 use Rattle.sp_witness.specs.Contention.{Shows, NeverContends}
@@ -36,18 +37,10 @@ module _ (g : RunInput) where
   -- local steps
   turn_on : (turn since : ℕ) (q : Name) (k : ℕ) (s m : StateOf g) (paused : Bool) (t : StateOf g)
       → Turn g turn since q k s m paused → s.fault ≡ None → (m.fault ≡ None → Way_on m t) → Way_on s t
-  turn_on turn since q zero s m paused t h no_fault go =
-      subst (λ z. Way_on z t) h.0 (go (ap (λ (z : StateOf g). z.fault) h.0 ∙ no_fault))
-  turn_on turn since q (suc k) s m paused t (own, runs, silent, next, goes, onward) no_fault go =
-      let still = no_fault_step g s q own next None runs silent tt goes no_fault in
-      step_on s q next t no_fault goes
-      (rest (is_due_after g turn since s own q next) onward still
-      (λ x. turn_on turn since q k next m paused t x still go))
-    where
-      rest : (b : Bool) → Either b ((k ≡ 0) × (m ≡ next) × (paused ≡ true)) (Turn g turn since q k next m paused)
-          → next.fault ≡ None → (Turn g turn since q k next m paused → Way_on next t) → Way_on next t
-      rest true x still later = subst (λ z. Way_on z t) x.1 (go (ap (λ (z : StateOf g). z.fault) x.1 ∙ still))
-      rest false x still later = later x
+  turn_on turn since q k s m paused t turns no_fault go =
+      turn_folds g (λ i z. z.fault ≡ None → Way_on z t) turn since q m go
+      (λ i z own next runs enters_none goes later fine. step_on z q next t fine goes
+      (later (no_fault_step g z q own next None runs enters_none tt goes fine))) k s paused turns no_fault
 
   -- an entry without a fault
   module _ (left : JournalState → StateOf g → ℕ → Type 0) (c : JournalState) (m : StateOf g) (paused : Bool) (q : Name)
@@ -55,9 +48,10 @@ module _ (g : RunInput) where
     kernel_on : (w : Happening) (n : ℕ) → IsCleanly w → KernelStep g left c m paused q w n
         → ((c1 : JournalState) (u : StateOf g) (d : ℕ) → left c1 u d → u.fault ≡ None → Way_on u t) → m.fault ≡ None
         → Way_on m t
-    kernel_on w n ok (_, _, next, rest, _, (own, runs, says, goes), after) go f =
-        step_on m q next t f goes
-        (go _ next rest after (no_fault_step g m q own next (Some w) runs says ok goes f))
+    kernel_on w n ok (_, k) go f =
+        step_on m q k.next t f k.makes.steps
+        (go _ k.next k.rest k.ahead
+        (no_fault_step g m q k.makes.process k.next (Some w) k.makes.runs k.makes.happens ok k.makes.steps f))
 
     entered_on : (w : Happening) (n : ℕ) → IsCleanly w → EntryStep g left c m paused q w n
         → ((c1 : JournalState) (u : StateOf g) (d : ℕ) → left c1 u d → u.fault ≡ None → Way_on u t) → m.fault ≡ None
@@ -75,23 +69,15 @@ module _ (g : RunInput) where
       (t : StateOf g)
       → IsClean xs → Along g turn c s (xs ++ record { who = q; what = Faulted x } ∷ []) n t → s.fault ≡ None
       → Way_on s t
-  along_on turn [] q x c s n t clean (
-    _,
-    steps,
-    _,
-    between,
-    paused,
-    _,
-    locals,
-    (_, _, next, _, _, (_, _, _, goes), (_, same)),
-  ) no_fault =
-      turn_on turn (c.since q) q steps s between paused t locals no_fault
-      (λ f. step_on between q next t f goes ([], same))
-  along_on turn (e ∷ xs) q x c s n t clean (_, steps, rest, between, paused, _, locals, enters) no_fault =
-      turn_on turn (c.since e.who) e.who steps s between paused t locals no_fault
-      (λ f. entered_on (λ c1 u d. Along g turn c1 u (xs ++ record { who = q; what = Faulted x } ∷ []) d t) c between
-      paused e.who t
-      e.what rest clean.0 enters (λ c1 u d b still. along_on turn xs q x c1 u d t clean.1 b still) f)
+  along_on turn [] q x c s n t clean a no_fault =
+      let (_, k) = a.enters in
+      turn_on turn (c.since q) q a.steps s a.middle a.paused t a.turns no_fault
+      (λ f. step_on a.middle q k.next t f k.makes.steps ([], k.ahead.1))
+  along_on turn (e ∷ xs) q x c s n t clean a no_fault =
+      turn_on turn (c.since e.who) e.who a.steps s a.middle a.paused t a.turns no_fault
+      (λ f. entered_on (λ c1 u d. Along g turn c1 u (xs ++ record { who = q; what = Faulted x } ∷ []) d t) c a.middle
+      a.paused e.who t e.what a.rest clean.0 a.enters
+      (λ c1 u d b still. along_on turn xs q x c1 u d t clean.1 b still) f)
 
 -- what shows a race is a schedule that meets contention
 module _ (g : RunInput) (turn : ℕ) (es : List Occurrence) (w : Way) (c : Channel) (earlier later : ℕ) where
