@@ -2,7 +2,7 @@
 -- parent, which joins on or runs (`child_ends`).
 use Rattle.std.proofs.Common.{◌≡◌, ◌⊎◌, inl, ⊎_elim, ℕ, zero, suc, ◌-◌, ◌<◌, ◌≤◌, ◌==◌, List, [], ◌∷◌, length, Option}
 use Rattle.std.proofs.Common.{Some, None, Bool, true, false, cond, if◌then◌else◌, eqb-true, eq-eqb, refl, sym, ap, ◌∙◌}
-use Rattle.std.proofs.Common.{subst, arith, one-add}
+use Rattle.std.proofs.Common.{subst, arith}
 use Rattle.std.specs.Prelude.{◌≢◌}
 use Rattle.std.proofs.lemmas.Bool.{ne_eqb}
 use Rattle.std.proofs.lemmas.Option.{none-some, same_Some}
@@ -39,7 +39,7 @@ use Rattle.sp_code.specs.System as sys
 use Rattle.sp_link.proofs.Journal.{IsOpen, now_by}
 use Rattle.sp_link.proofs.KernelSteps.{kernel_next, kernel_says, stand_dead}
 use Rattle.sp_link.proofs.OneChanges.{here, inv_local, since_other}
-use Rattle.sp_link.proofs.Pauses.{Entry_of, Meant, turn_is, after_no_fault, way_of_step}
+use Rattle.sp_link.proofs.Pauses.{Entry_of, Meant, turn_is, after_no_fault, way_of_step, makes_step}
 use Rattle.sp_link.proofs.Rejoins.{memory_after, joins_on, runs_on, one_fewer, all_over}
 use Rattle.sp_link.proofs.Relation.{W_of, R_of, St, ProcessMatches, Joined, Performs_all}
 use Rattle.sp_link.proofs.Relation.{Linked, Began, run_is}
@@ -445,7 +445,7 @@ module _ (at_stop : AtStop) (z : MatchesNow at_stop)
     turn = tn;
     is_turn = tn_is;
     way = way_of_step at_stop x.steps x.state (x.turn happenings.Ended said) happenings.Ended t1
-        (λ left n k. (l.faulted ∙ no_fault, refl, t1, n, one-add n, (x.left, x.runs, said, goes_next), k)) _ (sym told);
+        (makes_step at_stop x.state t1 x.left happenings.Ended no_fault x.runs said goes_next) _ (sym told);
     speaks = subst (λ a. IsOpen u.births (if a then event.Laid else event.End)) (sym no_fault) tt;
     lives = lv;
     linked = λ began. now_by G lv c1 t1 (system_after_turn plain (run_is G) i tn u)

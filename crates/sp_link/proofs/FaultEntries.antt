@@ -1,6 +1,6 @@
 -- The fault of a run is that of its journal: along a journal the meaning comes to the fault that an entry of it says
 -- (`fault_told`), and where a fault stands in the machine an entry says it (`fault_entry`).
-use Rattle.std.proofs.Common.{◌≡◌, inl, inr, ℕ, zero, suc, List, [], ◌∷◌, Option, Some, None, Bool, true, false}
+use Rattle.std.proofs.Common.{◌≡◌, inl, inr, ℕ, List, [], ◌∷◌, Option, Some, None, Bool, true, false}
 use Rattle.std.proofs.Common.{if◌then◌else◌, refl, sym, ap, ◌∙◌, subst}
 use Rattle.std.proofs.lemmas.Option.{same_Some}
 use Rattle.sp_base.specs.declared.fault.Fault.{Fault}
@@ -22,9 +22,10 @@ use Rattle.sp_meaning.specs.Entries.{Happening, Occurrence, Opened, Forked, Offe
 use Rattle.sp_meaning.specs.LocalWork.{RunInput, Process}
 use Rattle.sp_meaning.specs.SuperPascal.{superpascal}
 use Rattle.sp_meaning.specs.Runs.{StateOf, total_limits, running_process, next_state, happening_at, happening_of}
-use Rattle.sp_meaning.specs.Along.{JournalState, Turn, EntryStep, Along, Either, is_due_after, with_fault, with_ticks}
+use Rattle.sp_meaning.specs.Along.{JournalState, Turn, EntryStep, Along, with_fault, with_ticks}
 use Rattle.sp_meaning.specs.Along.{course_after, ticks_of}
 use Rattle.sp_meaning.proofs.Frames.{all_in, fault_frame}
+use Rattle.sp_meaning.proofs.TurnWalks.{turn_keeps}
 use Rattle.sp_code.specs.Machine.{Config, Stop}
 use Rattle.sp_code.specs.Machine as machine
 use Rattle.sp_code.specs.Turns as turns
@@ -93,33 +94,27 @@ module _ (g : RunInput) where
 
   turn_fault : (pause since : ℕ) (q : Name) (n : ℕ) (s t : StateOf g) (paused : Bool)
       → Turn g pause since q n s t paused → t.fault ≡ s.fault
-  turn_fault pause since q zero s t paused (is, _, _, _, _, _) = ap (λ (y : StateOf g). y.fault) is
-  turn_fault pause since q (suc n) s t paused (own, runs, silent, mid, goes, rest) =
-      by (is_due_after g pause since s own q mid) (λ k. turn_fault pause since q n mid t paused k) rest
-    where
-      one : mid.fault ≡ s.fault
-      one = next_fault s mid q own runs goes ∙ ap (λ y. fault_after q y s.fault) silent
-
-      by : (b : Bool) → (Turn g pause since q n mid t paused → t.fault ≡ mid.fault)
-          → Either b ((n ≡ 0) × (t ≡ mid) × (paused ≡ true)) (Turn g pause since q n mid t paused) → t.fault ≡ s.fault
-      by true ih k = ap (λ (y : StateOf g). y.fault) k.1 ∙ one
-      by false ih k = ih k ∙ one
+  turn_fault pause since q n s t paused way = turn_keeps g (λ (y : StateOf g). y.fault ≡ s.fault) q
+      (λ z own next runs enters_none goes same. next_fault z next q own runs goes
+      ∙ ap (λ y. fault_after q y z.fault) enters_none ∙ same) pause since n s t paused way refl
 
   -- once a fault stands it stays
   faulted_stays : (pause : ℕ) (os : List Occurrence) (c : JournalState) (s t : StateOf g) (n : ℕ) → c.faulted ≡ true
       → Along g pause c s os n t → t.fault ≡ s.fault
   faulted_stays pause [] c s t n f h = ap (λ (y : StateOf g). y.fault) h.1
-  faulted_stays pause (o ∷ os) c s t n f (_, n0, rest, mid, paused, _, turn0, enters) =
-      by o.what enters (λ c1 r k. faulted_stays pause os c1 mid t r k)
-      ∙ turn_fault pause (c.since o.who) o.who n0 s mid paused turn0
+  faulted_stays pause (o ∷ os) c s t n f a =
+      by o.what a.enters (λ c1 r k. faulted_stays pause os c1 a.middle t r k)
+      ∙ turn_fault pause (c.since o.who) o.who a.steps s a.middle a.paused a.turns
     where
       no : {A : Type 0} → c.faulted ≡ false → A
       no e = let bad : true ≡ false = sym f ∙ e in absurd (cc bad)
 
-      by : (what : Happening) → EntryStep g (λ c1 u r. Along g pause c1 u os r t) c mid paused o.who what rest
-          → ((c1 : JournalState) (r : ℕ) → c1.faulted ≡ true → Along g pause c1 mid os r t → t.fault ≡ mid.fault)
-          → t.fault ≡ mid.fault
-      by Laid k ih = ih (with_fault o.who c) rest refl k.1
+      by : (what : Happening)
+          → EntryStep g (λ c1 u r. Along g pause c1 u os r t) c a.middle a.paused o.who what a.rest
+          → ((c1 : JournalState) (r : ℕ) → c1.faulted ≡ true → Along g pause c1 a.middle os r t
+          → t.fault ≡ a.middle.fault)
+          → t.fault ≡ a.middle.fault
+      by Laid k ih = ih (with_fault o.who c) a.rest refl k.1
       by _ k _ = no k.0
 
   -- an entry that is a fault says which one stands in the end
@@ -127,10 +122,10 @@ module _ (g : RunInput) where
       → (c : JournalState) (s t : StateOf g) (n : ℕ) → Along g pause c s (occurrences_from b es) n t
       → (p : ℕ) (f : Fault) → HasFaultEntry es p f → t.fault ≡ Some ((births_from b es).name p, f)
   fault_told pause [] b w m c s t n h p f i = absurd i
-  fault_told pause (e ∷ es) b w m c s t n (_, _, rest, mid, paused, _, _, enters) p f (inl x) =
+  fault_told pause (e ∷ es) b w m c s t n a p f (inl x) =
       by (subst (λ y. EntryStep g
       (λ c1 u r. Along g pause c1 u (occurrences_from (births_after_event b e.process e.event) es) r
-      t) c mid paused (b.name e.process) (happening b y) rest) event_is enters)
+      t) c a.middle a.paused (b.name e.process) (happening b y) a.rest) event_is a.enters)
     where
       event_is : e.event ≡ event.Fault f
       event_is = ap (λ (y : Entry). y.event) x
@@ -144,38 +139,40 @@ module _ (g : RunInput) where
           (λ y. (births_from b (e ∷ es)).name y) process_is
 
       by : EntryStep g (λ c1 u r. Along g pause c1 u (occurrences_from (births_after_event b e.process e.event) es) r
-          t) c mid
-          paused (b.name e.process) (Faulted f) rest → t.fault ≡ Some ((births_from b (e ∷ es)).name p, f)
-      by (_, _, to, left, _, (own, runs, says, goes), after) =
+          t) c a.middle
+          a.paused (b.name e.process) (Faulted f) a.rest → t.fault ≡ Some ((births_from b (e ∷ es)).name p, f)
+      by (_, k) =
           faulted_stays pause (occurrences_from (births_after_event b e.process e.event) es)
-          (course_after (b.name e.process) (Faulted f) (ticks_of g to (b.name e.process)) c) to t left refl after
-          ∙ next_fault mid to (b.name e.process) own runs goes
-          ∙ ap (λ y. fault_after (b.name e.process) y mid.fault) says ∙ ap (λ y. Some (pair y)) name_is
+          (course_after (b.name e.process) (Faulted f) (ticks_of g k.next (b.name e.process)) c) k.next t k.rest refl
+          k.ahead
+          ∙ next_fault a.middle k.next (b.name e.process) k.makes.process k.makes.runs k.makes.steps
+          ∙ ap (λ y. fault_after (b.name e.process) y a.middle.fault) k.makes.happens ∙ ap (λ y. Some (pair y)) name_is
         where
           pair : Name → Name × Fault
           pair y = (y, f)
-  fault_told pause (e ∷ es) b w m c s t n (_, _, rest, mid, paused, _, _, enters) p f (inr i) =
-      by (happening b e.event) enters (λ c1 u r k. fault_told pause es (births_after_event b e.process e.event)
+  fault_told pause (e ∷ es) b w m c s t n a p f (inr i) =
+      by (happening b e.event) a.enters (λ c1 u r k. fault_told pause es (births_after_event b e.process e.event)
       (lawful_after b e w m.0) m.1 c1 u t r k p f i)
     where
       by : (what : Happening) → EntryStep g (λ c1 u r. Along g pause c1 u
-          (occurrences_from (births_after_event b e.process e.event) es) r t) c mid paused (b.name e.process) what rest
+          (occurrences_from (births_after_event b e.process e.event) es) r t) c a.middle a.paused (b.name e.process) what
+          a.rest
           → ((c1 : JournalState) (u : StateOf g) (r : ℕ)
           → Along g pause c1 u (occurrences_from (births_after_event b e.process e.event) es) r t
           → t.fault ≡ Some ((births_from b (e ∷ es)).name p, f))
           → t.fault ≡ Some ((births_from b (e ∷ es)).name p, f)
-      by Laid k ih = ih (with_fault (b.name e.process) c) mid rest k.1
-      by Paused k ih = ih (with_ticks (b.name e.process) (ticks_of g mid (b.name e.process)) c) mid rest k.2
-      by (Forked x) (_, _, u, left, _, _, after) ih =
-          ih (course_after (b.name e.process) (Forked x) (ticks_of g u (b.name e.process)) c) u left after
-      by Opened (_, _, u, left, _, _, after) ih =
-          ih (course_after (b.name e.process) Opened (ticks_of g u (b.name e.process)) c) u left after
-      by (Offered x d) (_, _, u, left, _, _, after) ih =
-          ih (course_after (b.name e.process) (Offered x d) (ticks_of g u (b.name e.process)) c) u left after
-      by Ended (_, _, u, left, _, _, after) ih =
-          ih (course_after (b.name e.process) Ended (ticks_of g u (b.name e.process)) c) u left after
-      by (Faulted x) (_, _, u, left, _, _, after) ih =
-          ih (course_after (b.name e.process) (Faulted x) (ticks_of g u (b.name e.process)) c) u left after
+      by Laid k ih = ih (with_fault (b.name e.process) c) a.middle a.rest k.1
+      by Paused k ih = ih (with_ticks (b.name e.process) (ticks_of g a.middle (b.name e.process)) c) a.middle a.rest k.2
+      by (Forked x) (_, k) ih =
+          ih (course_after (b.name e.process) (Forked x) (ticks_of g k.next (b.name e.process)) c) k.next k.rest k.ahead
+      by Opened (_, k) ih =
+          ih (course_after (b.name e.process) Opened (ticks_of g k.next (b.name e.process)) c) k.next k.rest k.ahead
+      by (Offered x d) (_, k) ih =
+          ih (course_after (b.name e.process) (Offered x d) (ticks_of g k.next (b.name e.process)) c) k.next k.rest k.ahead
+      by Ended (_, k) ih =
+          ih (course_after (b.name e.process) Ended (ticks_of g k.next (b.name e.process)) c) k.next k.rest k.ahead
+      by (Faulted x) (_, k) ih =
+          ih (course_after (b.name e.process) (Faulted x) (ticks_of g k.next (b.name e.process)) c) k.next k.rest k.ahead
 
 -- ---- in the machine
 

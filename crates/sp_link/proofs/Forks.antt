@@ -3,7 +3,7 @@
 -- forall statement give for this is in `Parallels` and `Foralls`.
 use Rattle.std.proofs.Common.{◌≡◌, ◌⊎◌, inl, inr, ⊎_elim, ℕ, ◌+◌, ◌<◌, ◌≤◌, ◌==◌, ℤ, List, [], ◌∷◌, length, Option}
 use Rattle.std.proofs.Common.{Some, None, Bool, true, false, ◌&&◌, cond, if◌then◌else◌, eq-eqb, refl, sym, ap, ◌∙◌}
-use Rattle.std.proofs.Common.{subst, arith, one-add, zero-add}
+use Rattle.std.proofs.Common.{subst, arith, zero-add}
 use Rattle.std.specs.Prelude.{◌≢◌, ◌-◌, nat_lt, nat_le, IsSome, slice_get}
 use Rattle.std.specs.FinMap as fin
 use Rattle.std.proofs.lemmas.Bool.{cases_lt, le-leb, lt-ltb, ltb-false, ltb-true, ne_eqb}
@@ -66,7 +66,7 @@ use Rattle.sp_link.proofs.KernelSteps.{kernel_next, kernel_says, stand_dead}
 use Rattle.sp_link.proofs.NewRights.{does_lives, inv_same}
 use Rattle.sp_link.proofs.OneChanges.{q, pr, alone, here, present, not_ended, keeps_to, since_other}
 use Rattle.sp_link.proofs.OthersStay.{does_stay}
-use Rattle.sp_link.proofs.Pauses.{Entry_of, Meant, Kept_to, kids, turn_is, after_no_fault, way_of_step}
+use Rattle.sp_link.proofs.Pauses.{Entry_of, Meant, Kept_to, kids, turn_is, after_no_fault, way_of_step, makes_step}
 use Rattle.sp_link.proofs.Relation.{RunContext, BirthRights, RightsOfAll, W_of, R_of, ProcessMatches, Joined, Handed}
 use Rattle.sp_link.proofs.Relation.{St, Rel, law, Performs}
 use Rattle.sp_link.proofs.Relation.{Performs_all, Linked, Began, run_is, ops}
@@ -742,7 +742,7 @@ module _ (at_stop : AtStop) (z : MatchesNow at_stop)
       turn = tn;
       is_turn = tn_is;
       way = way_of_step at_stop x.steps x.state (x.turn says_now said_now) says_now t1
-          (λ left n k. (l.faulted ∙ no_fault, refl, t1, n, one-add n, (x.left, x.runs, said_now, goes_next), k)) _
+          (makes_step at_stop x.state t1 x.left says_now no_fault x.runs said_now goes_next) _
           (sym told);
       speaks = subst (λ f. IsOpen u.births f) (sym event_is) tt;
       lives = lv1;

@@ -263,8 +263,17 @@ module _ (at_stop : AtStop) where
         cost = 1;
         course = c1;
         state = t1;
-        enters = λ left n y. subst (λ e. EntryStep G.g left c h.state h.paused v e (1 + n)) k
-            (l.faulted ∙ no_fault, whole, t1, n, one-add n, (h.left, h.runs, says_it, goes_next), y);
+        enters = λ left n y. subst (λ e. EntryStep G.g left c h.state h.paused v e (1 + n)) k (
+          l.faulted ∙ no_fault,
+          record {
+            unpaused = whole;
+            next = t1;
+            rest = n;
+            size = one-add n;
+            makes = record { process = h.left; runs = h.runs; happens = says_it; steps = goes_next };
+            ahead = y;
+          },
+        );
       }
 
   -- ---- the first process where the frame of the program is too large
@@ -291,14 +300,14 @@ module _ (at_stop : AtStop) where
       steps = 0;
       state = s;
       paused = false;
-      way = (
-        refl,
-        refl,
-        at.p1 at_stop,
-        runs_as_pr at_stop,
-        happenings.Faulted fault.F12,
-        says_it,
-      );
+      way = record {
+        stays = refl;
+        unpaused = refl;
+        process = at.p1 at_stop;
+        runs = runs_as_pr at_stop;
+        what = happenings.Faulted fault.F12;
+        happens = says_it;
+      };
       left = at.p1 at_stop;
       runs = runs_as_pr at_stop;
       others_stay = λ r a. refl;

@@ -126,19 +126,19 @@ module _ (G : RunContext) where
         state = y.state;
         along = subst (λ z. Along G.g G.pause c s
             (z ∷ occurrences_from (births_after_event u.births e.process e.event) es)
-            (x.way.steps + (x.way.cost + y.steps)) y.state) (sym names) (
-              x.way.unlaid,
-              x.way.steps,
-              x.way.cost + y.steps,
-              x.way.source,
-              x.way.paused,
-              refl,
-              x.way.turn,
-              x.way.enters (λ c1 u1 r. Along G.g G.pause c1 u1
+            (x.way.steps + (x.way.cost + y.steps)) y.state) (sym names) (record {
+              not_laid = x.way.unlaid;
+              steps = x.way.steps;
+              rest = x.way.cost + y.steps;
+              middle = x.way.source;
+              paused = x.way.paused;
+              size = refl;
+              turns = x.way.turn;
+              enters = x.way.enters (λ c1 u1 r. Along G.g G.pause c1 u1
                   (occurrences_from (births_after_event u.births e.process e.event) es) r y.state) y.steps
                   (subst (λ z. Along G.g G.pause x.way.course x.way.state (occurrences_from z es) y.steps y.state) given
-                  y.along),
-            );
+                  y.along);
+            });
         lives = y.lives;
         linked = y.linked;
       }

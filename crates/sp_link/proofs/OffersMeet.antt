@@ -3,7 +3,6 @@
 -- (`clashes`).
 use Rattle.std.proofs.Common.{◌≡◌, ◌⊎◌, inl, inr, ⊎_elim, ℕ, ◌+◌, ◌<◌, ◌==◌, List, [], ◌∷◌, Option, Some, None, Bool}
 use Rattle.std.proofs.Common.{true, false, cond, if◌then◌else◌, eqb-true, eq-eqb, refl, sym, ap, ◌∙◌, subst, arith}
-use Rattle.std.proofs.Common.{one-add}
 use Rattle.std.specs.Prelude.{◌≢◌, nat_lt}
 use Rattle.std.proofs.lemmas.Bool.{ne_eqb}
 use Rattle.sp_base.specs.declared.fault.Fault.{Fault}
@@ -60,7 +59,7 @@ use Rattle.sp_link.proofs.KernelSteps.{kernel_next, kernel_says}
 use Rattle.sp_link.proofs.Messages.{sent_flat, receiver_stands}
 use Rattle.sp_link.proofs.OneChanges.{here, inv_local, since_other}
 use Rattle.sp_link.proofs.OthersStay.{does_stay, stands_stay}
-use Rattle.sp_link.proofs.Pauses.{Entry_of, Meant, Kept_to, after_no_fault, way_of_step}
+use Rattle.sp_link.proofs.Pauses.{Entry_of, Meant, Kept_to, after_no_fault, way_of_step, makes_step}
 use Rattle.sp_link.proofs.Relation.{W_of, R_of, Named, ProcessMatches, Ca, Performs_all}
 use Rattle.sp_link.proofs.Relation.{IsPending, Linked}
 use Rattle.sp_link.proofs.Relation.{run_is}
@@ -394,7 +393,7 @@ module _ (at_stop : AtStop) (z : MatchesNow at_stop)
           turn = Stopped t.stop (At t.pc t.stack t.memory);
           is_turn = ao.tn_is at_stop z ch kd cg todo o m x t y;
           way = way_of_step at_stop x.steps x.state (x.turn says_now said_now) says_now t1
-              (λ left n k. (l.faulted ∙ no_fault, refl, t1, n, one-add n, (x.left, x.runs, said_now, goes_next), k)) _
+              (makes_step at_stop x.state t1 x.left says_now no_fault x.runs said_now goes_next) _
               (sym told);
           speaks = speaks;
           lives = lv;

@@ -1,7 +1,7 @@
 -- The entry `Send` or `Receive` on both sides where nothing is pending on the channel: the offer waits
 -- (`waiting_entry`).
 use Rattle.std.proofs.Common.{◌≡◌, ◌⊎◌, inl, ⊎_elim, ℕ, ◌+◌, ◌<◌, ◌==◌, List, ◌∷◌, length, Option, Some, None, false}
-use Rattle.std.proofs.Common.{cond, if◌then◌else◌, eq-eqb, refl, sym, ap, ◌∙◌, subst, arith, one-add}
+use Rattle.std.proofs.Common.{cond, if◌then◌else◌, eq-eqb, refl, sym, ap, ◌∙◌, subst, arith}
 use Rattle.std.specs.Prelude.{◌≢◌, nat_lt}
 use Rattle.std.proofs.lemmas.Bool.{ne_eqb}
 use Rattle.sp_journal.specs.Births.{channel}
@@ -46,7 +46,7 @@ use Rattle.sp_link.proofs.Messages.{owned_ready}
 use Rattle.sp_link.proofs.Journal.{IsOpen, now_by}
 use Rattle.sp_link.proofs.KernelSteps.{kernel_next, kernel_says, stand_dead}
 use Rattle.sp_link.proofs.OneChanges.{here, inv_local, since_other}
-use Rattle.sp_link.proofs.Pauses.{Entry_of, Meant, Kept_to, turn_is, after_no_fault, way_of_step}
+use Rattle.sp_link.proofs.Pauses.{Entry_of, Meant, Kept_to, turn_is, after_no_fault, way_of_step, makes_step}
 use Rattle.sp_link.proofs.Relation.{W_of, R_of, ProcessMatches, Performs_all, Ca, IsPending}
 use Rattle.sp_link.proofs.Relation.{Linked, run_is, ops}
 use Rattle.sp_link.proofs.OthersStay.{does_stay}
@@ -388,7 +388,7 @@ module _ (at_stop : AtStop) (z : MatchesNow at_stop)
       turn = turn_of t.stop;
       is_turn = tn_is;
       way = way_of_step at_stop x.steps x.state (x.turn what said) what t1
-          (λ left n k. (l.faulted ∙ no_fault, refl, t1, n, one-add n, (x.left, x.runs, said, goes_next), k)) _
+          (makes_step at_stop x.state t1 x.left what no_fault x.runs said goes_next) _
           (sym told);
       speaks = speaks;
       lives = lv;

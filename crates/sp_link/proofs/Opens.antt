@@ -1,7 +1,7 @@
 -- The entry `Open` on both sides: the new channel has the next number and its name, and stands in the target
 -- (`opening_entry`); or the entries or the channels are at their limit: F15, F14.
 use Rattle.std.proofs.Common.{◌≡◌, ◌⊎◌, inl, ⊎_elim, ℕ, ◌+◌, ◌<◌, ◌==◌, List, ◌∷◌, length, Option, Some, None, Bool}
-use Rattle.std.proofs.Common.{true, false, cond, if◌then◌else◌, eq-eqb, refl, sym, ap, ◌∙◌, subst, arith, one-add}
+use Rattle.std.proofs.Common.{true, false, cond, if◌then◌else◌, eq-eqb, refl, sym, ap, ◌∙◌, subst, arith}
 use Rattle.std.specs.Prelude.{◌≢◌, nat_lt}
 use Rattle.std.proofs.lemmas.Bool.{ne_eqb}
 use Rattle.sp_base.specs.declared.fault.Fault.{Fault}
@@ -55,7 +55,7 @@ use Rattle.sp_link.proofs.KernelSteps.{kernel_next, kernel_says}
 use Rattle.sp_link.proofs.MoreChannels.{one_more, stands_more, does_more}
 use Rattle.sp_link.proofs.OneChanges.{q, pr, alone, here, present, not_ended, keeps_to, inv_local, since_other}
 use Rattle.sp_link.proofs.OthersStay.{does_stay}
-use Rattle.sp_link.proofs.Pauses.{Entry_of, Meant, Kept_to, turn_is, after_no_fault, way_of_step}
+use Rattle.sp_link.proofs.Pauses.{Entry_of, Meant, Kept_to, turn_is, after_no_fault, way_of_step, makes_step}
 use Rattle.sp_link.proofs.Relation.{RunContext, BirthRights, RightsOfAll, W_of, R_of, Called, Named, ProcessMatches, Ca}
 use Rattle.sp_link.proofs.Relation.{Rel, St, Performs_all}
 use Rattle.sp_link.proofs.Relation.{IsPending, Linked, Began, at_open, run_is, ops}
@@ -466,7 +466,7 @@ module _ (at_stop : AtStop) (z : MatchesNow at_stop)
       turn = tn;
       is_turn = tn_is;
       way = way_of_step at_stop x.steps x.state (x.turn Is_opened said_now) Is_opened t1
-          (λ left n k. (l.faulted ∙ no_fault, refl, t1, n, one-add n, (x.left, x.runs, said_now, goes_next), k)) _
+          (makes_step at_stop x.state t1 x.left Is_opened no_fault x.runs said_now goes_next) _
           (sym told);
       speaks = subst (λ f. IsOpen u.births f) (sym event_is) tt;
       lives = lv;

@@ -1,7 +1,7 @@
 -- The entry `Pause` on both sides (`pausing`). `Entry_of` is the form of every event's lemma: the turn of the machine,
 -- the way of the meaning to the same entry, and the relation after it.
 use Rattle.std.proofs.Common.{◌≡◌, ◌⊎◌, inl, ℕ, ◌+◌, ◌==◌, List, ◌∷◌, true, false, if◌then◌else◌, cond, refl, sym, ap}
-use Rattle.std.proofs.Common.{◌∙◌, subst}
+use Rattle.std.proofs.Common.{◌∙◌, subst, Some, one-add}
 use Rattle.sp_base.proofs.Facts.{is_none_plus}
 use Rattle.sp_journal.specs.Births.{births_after_event}
 use Rattle.sp_journal.specs.Maps.{at_key}
@@ -13,8 +13,9 @@ use Rattle.sp_meaning.specs.Entries.{Happening, Paused as Is_paused}
 use Rattle.sp_meaning.specs.LocalWork.{Loc, LocationContent, Address, LocalState, Item, Process, WorkOutcome, Computed}
 use Rattle.sp_meaning.specs.SuperPascal.{with_todo}
 use Rattle.sp_meaning.specs.Run.{Store}
-use Rattle.sp_meaning.specs.Runs.{StateOf}
-use Rattle.sp_meaning.specs.Along.{JournalState, ticks_in, ticks_of, with_ticks, EntryStep, Turn as source_turn}
+use Rattle.sp_meaning.specs.Runs.{StateOf, running_process, happening_at, next_state}
+use Rattle.sp_meaning.specs.Along.{JournalState, ticks_in, ticks_of, with_ticks, course_after, KernelStep, EntryStep}
+use Rattle.sp_meaning.specs.Along.{Turn as source_turn}
 use Rattle.sp_meaning.specs.Turn as source
 use Rattle.sp_meaning.proofs.Keys.{name_test}
 use Rattle.sp_meaning.proofs.RightsInvariant.{Keeps_to}
@@ -92,6 +93,23 @@ module _ (at_stop : AtStop) where
 
   abbrev pub kt : Keeps_to G.g.program (W_of G lv) (R_of G lv) s.forks w p1
   kt = keeps_to at_stop
+
+  -- the step that makes the entry, where no fault stands, and then what is left
+  pub makes_step : (at t1 : StateOf G.g) (own : Process) (what : Happening) → u.faulted ≡ false
+      → running_process G.g at w ≡ Some own → happening_at G.g at w own ≡ Some what → next_state G.g at w ≡ Some t1
+      → (left : JournalState → StateOf G.g → ℕ → Type 0) (n : ℕ)
+      → left (course_after w what (ticks_of G.g t1 w) c) t1 n → KernelStep G.g left c at false w what (1 + n)
+  makes_step at t1 own what no_fault runs happens steps left n ahead = (
+    l.faulted ∙ no_fault,
+    record {
+      unpaused = refl;
+      next = t1;
+      rest = n;
+      size = one-add n;
+      makes = record { process = own; runs = runs; happens = happens; steps = steps };
+      ahead = ahead;
+    },
+  )
 
   -- the way to an entry that the next step makes, once it is known what the machine says
   abbrev pub way_of_step : (steps : ℕ) (at : StateOf G.g) → source_turn G.g G.pause (c.since w) w steps s at false

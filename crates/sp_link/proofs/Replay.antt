@@ -19,6 +19,7 @@ use Rattle.sp_meaning.specs.LocalWork.{RunInput, Process}
 use Rattle.sp_meaning.specs.Runs.{StateOf, running_process, happening_at}
 use Rattle.sp_meaning.specs.Along.{Turn, JournalState, KernelStep, EntryStep, Along, with_fault, with_ticks, ticks_of}
 use Rattle.sp_meaning.specs.Along.{course_after}
+use Rattle.sp_meaning.proofs.TurnWalks.{turn_runs}
 use Rattle.sp_code.specs.Machine.{Config}
 use Rattle.sp_code.specs.Memory.{Memory}
 use Rattle.sp_code.specs.PlainStore.{plain}
@@ -70,16 +71,18 @@ module _ (g : RunInput) where
       both (inr (inl x)) (inr (inr y)) = absurd (not_true_and_false p x.2 y.1)
       both (inr (inr x)) (inl y) = absurd (not_true_and_false c.faulted y.1 x.0)
       both (inr (inr x)) (inr (inl y)) = absurd (not_true_and_false p y.2 x.1)
-      both (inr (inr (_, _, to, _, _, (own, runs, says, goes), after)))
-          (inr (inr (_, _, to1, rest1, _, (own1, runs1, says1, goes1), after1))) =
-          let one : own ≡ own1 = same_Some own own1 (sym runs ∙ runs1) in
-          let what : a ≡ b = same_Some a b (sym says ∙ ap (λ z. happening_at g m q z) one ∙ says1) in
-          let meets : to ≡ to1 = same_Some to to1 (sym goes ∙ goes1) in (
+      both (inr (inr (_, x))) (inr (inr (_, y))) =
+          let one : x.makes.process ≡ y.makes.process =
+          same_Some x.makes.process y.makes.process (sym x.makes.runs ∙ y.makes.runs) in
+          let what : a ≡ b = same_Some a b (sym x.makes.happens ∙ ap (λ z. happening_at g m q z) one
+          ∙ y.makes.happens) in
+          let meets : x.next ≡ y.next = same_Some x.next y.next (sym x.makes.steps ∙ y.makes.steps) in (
             what,
             (
-              rest1,
-              moved _ _ rest1 after (subst (λ z. left (course_after q z (ticks_of g to q) c) to rest1) (sym what)
-                  (subst (λ z. left (course_after q b (ticks_of g z q) c) z rest1) (sym meets) after1)),
+              y.rest,
+              moved _ _ y.rest x.ahead (subst (λ z. left (course_after q z (ticks_of g x.next q) c) x.next y.rest)
+                  (sym what)
+                  (subst (λ z. left (course_after q b (ticks_of g z q) c) z y.rest) (sym meets) y.ahead)),
             ),
           )
 
@@ -226,18 +229,13 @@ module _ (G : RunContext) where
       go (sys.Over d) h z = absurd (none-some own (idle Ended z.0))
 
 module _ (G : RunContext) where
-  turn_runs : (s m : StateOf G.g) (q : Name) (since n : ℕ) (p : Bool) → Turn G.g G.pause since q n s m p
-      → (own : Process) × (running_process G.g s q ≡ Some own)
-  turn_runs s m q since zero p (_, _, own, runs, _, _) = (own, runs)
-  turn_runs s m q since (suc n) p (own, runs, _, _, _, _) = (own, runs)
-
   pub replays : (es : List Entry) (lv : RightsOfAll G) (c : JournalState) (s : StateOf G.g) (u : System Plain)
       → Now G lv c s u
       → AllBegan G u.births es → NameableFrom u.births es → (n : ℕ) (t : StateOf G.g)
       → Along G.g G.pause c s (occurrences_from u.births es) n t → (v : System Plain)
       × EntriesLead plain (run_is G) u es v
   replays [] lv c s u l b y n t h = (u, refl)
-  replays (e ∷ es) lv c s u l b y n t (free, k0, rest, mid, paused, _, turn0, enters) =
+  replays (e ∷ es) lv c s u l b y n t along =
       on (λ lv1 c1 s1 u1 k b1 y1 r h1. replays es lv1 c1 s1 u1 k b1 y1 r t h1)
     where
       w : Name
@@ -250,19 +248,24 @@ module _ (G : RunContext) where
       name_is = l.began.names e.process lt
 
       unlaid : c.laid (G.births.name e.process) ≡ false
-      unlaid = subst (λ a. c.laid a ≡ false) name_is free
+      unlaid = subst (λ a. c.laid a ≡ false) name_is along.not_laid
 
-      way : Turn G.g G.pause (c.since (G.births.name e.process)) (G.births.name e.process) k0 s mid paused
-      way = subst (λ a. Turn G.g G.pause (c.since a) a k0 s mid paused) name_is turn0
+      way : Turn G.g G.pause (c.since (G.births.name e.process)) (G.births.name e.process) along.steps s
+          along.middle along.paused
+      way = subst (λ a. Turn G.g G.pause (c.since a) a along.steps s along.middle along.paused) name_is
+          along.turns
 
       left : JournalState → StateOf G.g → ℕ → Type 0
       left c1 s1 r = Along G.g G.pause c1 s1 (occurrences_from (births_after_event u.births e.process e.event) es) r t
 
-      entered : EntryStep G.g left c mid paused (G.births.name e.process) (happening u.births e.event) rest
-      entered = subst (λ a. EntryStep G.g left c mid paused a (happening u.births e.event) rest) name_is enters
+      entered : EntryStep G.g left c along.middle along.paused (G.births.name e.process) (happening u.births e.event)
+          along.rest
+      entered = subst (λ a. EntryStep G.g left c along.middle along.paused a (happening u.births e.event) along.rest)
+          name_is along.enters
 
       own : (a : Process) × (running_process G.g s (G.births.name e.process) ≡ Some a)
-      own = turn_runs s mid (G.births.name e.process) (c.since (G.births.name e.process)) k0 paused way
+      own = turn_runs G.g G.pause (c.since (G.births.name e.process)) (G.births.name e.process) along.steps s along.middle
+          along.paused way
 
       at : (d : Config (Memory Plain)) × (u.condition e.process ≡ sys.Working d)
       at = runs_there (at_open G u.births.channels) lv c s u l e.process lt own.0 own.1 unlaid
@@ -276,24 +279,24 @@ module _ (G : RunContext) where
       u1 : System Plain
       u1 = sys.system_after_turn plain (run_is G) e.process en.turn u
 
-      same : SameTurnEnd G.g G.pause (c.since (G.births.name e.process)) (G.births.name e.process) en.way.steps k0
-          en.way.source
-          mid en.way.paused paused
-      same = turn_one G.g G.pause (c.since (G.births.name e.process)) (G.births.name e.process) en.way.steps k0 s
-          en.way.source mid en.way.paused paused en.way.turn way
+      same : SameTurnEnd G.g G.pause (c.since (G.births.name e.process)) (G.births.name e.process) en.way.steps
+          along.steps en.way.source along.middle en.way.paused along.paused
+      same = turn_one G.g G.pause (c.since (G.births.name e.process)) (G.births.name e.process) en.way.steps
+          along.steps s en.way.source along.middle en.way.paused along.paused en.way.turn way
 
-      its : EntryStep G.g (Here G.g en.way.course en.way.state) c mid paused (G.births.name e.process)
+      its : EntryStep G.g (Here G.g en.way.course en.way.state) c along.middle along.paused (G.births.name e.process)
           (happening u.births f)
           (en.way.cost + 0)
-      its = subst (λ a. EntryStep G.g (Here G.g en.way.course en.way.state) c a paused (G.births.name e.process)
+      its = subst (λ a. EntryStep G.g (Here G.g en.way.course en.way.state) c a along.paused (G.births.name e.process)
           (happening u.births f) (en.way.cost + 0)) same.state
           (subst (λ a. EntryStep G.g (Here G.g en.way.course en.way.state) c en.way.source a (G.births.name e.process)
           (happening u.births f) (en.way.cost + 0)) same.paused
           (en.way.enters (Here G.g en.way.course en.way.state) 0 (refl, refl)))
 
       one : (happening u.births f ≡ happening u.births e.event) × ((r : ℕ) × left en.way.course en.way.state r)
-      one = entry_one G.g left c en.way.course mid en.way.state paused (G.births.name e.process) (happening u.births f)
-          (happening u.births e.event) (en.way.cost + 0) rest its entered
+      one = entry_one G.g left c en.way.course along.middle en.way.state along.paused (G.births.name e.process)
+          (happening u.births f)
+          (happening u.births e.event) (en.way.cost + 0) along.rest its entered
 
       event_is : f ≡ e.event
       event_is = one_event (at_open G u.births.channels) u.births l.began f e.event en.speaks

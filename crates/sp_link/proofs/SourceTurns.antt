@@ -127,15 +127,15 @@ module _ (g : RunInput) (q : Name) (pause since : ℕ) (P : Process → Store �
       → Either b ((n ≡ 0) × (at ≡ moved g s q (with_todo todo pr.who o) m) × (paused ≡ true))
       (Turn g pause since q n (moved g s q (with_todo todo pr.who o) m) at paused)
       → Turn g pause since q (suc n) s at paused
-  front s pr e todo o m d er k st b eb n at paused h = (
-    pr,
-    e,
-    says_none s pr todo o m d er k,
-    moved g s q (with_todo todo pr.who o) m,
-    st,
-    subst (λ z. Either z ((n ≡ 0) × (at ≡ moved g s q (with_todo todo pr.who o) m) × (paused ≡ true))
-        (Turn g pause since q n (moved g s q (with_todo todo pr.who o) m) at paused)) (sym due_is) h,
-  )
+  front s pr e todo o m d er k st b eb n at paused h = record {
+    process = pr;
+    runs = e;
+    enters_none = says_none s pr todo o m d er k;
+    next = moved g s q (with_todo todo pr.who o) m;
+    steps = st;
+    ahead = subst (λ z. Either z ((n ≡ 0) × (at ≡ moved g s q (with_todo todo pr.who o) m) × (paused ≡ true))
+        (Turn g pause since q n (moved g s q (with_todo todo pr.who o) m) at paused)) (sym due_is) h;
+  }
     where
       due_is : is_due_after g pause since s pr q (moved g s q (with_todo todo pr.who o) m) ≡ b
       due_is = ap (λ (x : WorkOutcome Action × Store). is_pausing x.0
@@ -204,7 +204,14 @@ module _ (g : RunInput) (q : Name) (pause since : ℕ) (P : Process → Store �
     runs = e;
     who_is = refl;
     does = er;
-    turn = λ what h. (refl, refl, pr, e, what, h);
+    turn = λ what h. record {
+      stays = refl;
+      unpaused = refl;
+      process = pr;
+      runs = e;
+      what = what;
+      happens = h;
+    };
   }
 
   -- the run of a turn

@@ -1,7 +1,7 @@
 -- The turn of a process that stands, on both sides: how it ends in the meaning (`outcome`), what it kept to (`kept`),
 -- how it ends in the machine (`turned`), that it does end (`ends`), and that no instruction of it lacks what it needs
 -- (`safe`).
-use Rattle.std.proofs.Common.{◌≡◌, ◌⊎◌, inl, inr, ℕ, zero, suc, List, [], Some, Bool, true, false, refl, sym, subst}
+use Rattle.std.proofs.Common.{◌≡◌, ◌⊎◌, inl, inr, ℕ, List, [], Some, Bool, true, refl, sym, subst}
 use Rattle.sp_cell.specs.Map.{Plain}
 use Rattle.sp_meaning.specs.Model.{Name}
 use Rattle.sp_meaning.specs.EffectTree.{run_tree}
@@ -12,7 +12,7 @@ use Rattle.sp_meaning.specs.Rights.{Fit, Fair}
 use Rattle.sp_meaning.specs.SuperPascal.{action_of, with_todo, fuel_of, weight_of}
 use Rattle.sp_meaning.specs.Run.{Store, run}
 use Rattle.sp_meaning.specs.Runs.{StateOf, total_limits, running_process}
-use Rattle.sp_meaning.specs.Along.{Turn, Either, is_due_after, ticks_in}
+use Rattle.sp_meaning.specs.Along.{Turn, ticks_in}
 use Rattle.sp_meaning.specs.Turn as source
 use Rattle.sp_meaning.proofs.ActionRights.{next_action_from}
 use Rattle.sp_meaning.proofs.Pure.{PureItems, AreBlocksPure}
@@ -22,6 +22,7 @@ use Rattle.sp_meaning.proofs.RightsInvariant.{Result, result_within}
 use Rattle.sp_meaning.proofs.StepLaws.{StateKeeps, step_well, raised, lowered}
 use Rattle.sp_meaning.proofs.Rights.{OwnLocation}
 use Rattle.sp_meaning.proofs.Sound.{step_sound}
+use Rattle.sp_meaning.proofs.TurnWalks.{turn_keeps as walk_keeps}
 use Rattle.sp_meaning.proofs.Within.{StaysWithin}
 use Rattle.sp_meaning.proofs.Weights.{AreLight}
 use Rattle.sp_code.specs.Machine.{Config, At}
@@ -39,20 +40,12 @@ use Rattle.sp_link.proofs.SourceTurns.{Outcome, turns}
 -- what is known of every state is known after local steps
 pub turn_known : (g : RunInput) (turn since : ℕ) (q : Name) (n : ℕ) (s t : StateOf g) (paused : Bool) → StateKeeps g s
     → Turn g turn since q n s t paused → StateKeeps g t
-turn_known g turn since q zero s t paused k (same_state, _, _, _, _, _) = subst (StateKeeps g) (sym same_state) k
-turn_known g turn since q (suc n) s t paused k (own, _, _, mid, goes, rest) =
-    by (is_due_after g turn since s own q mid) rest (λ x. turn_known g turn since q n mid t paused after x)
-  where
-    after : StateKeeps g mid
-    after = record {
-      sound = step_sound (total_limits g) s q mid k.sound goes;
-      well = lowered g (λ r. ticks_in (s.condition r)) mid (step_well g s k.sound q (raised g s k.well) mid goes);
-    }
-
-    by : (b : Bool) → Either b ((n ≡ 0) × (t ≡ mid) × (paused ≡ true)) (Turn g turn since q n mid t paused)
-        → (Turn g turn since q n mid t paused → StateKeeps g t) → StateKeeps g t
-    by true x go = subst (StateKeeps g) (sym x.1) after
-    by false x go = go x
+turn_known g turn since q n s t paused k turns = walk_keeps g (StateKeeps g) q
+    (λ z own next runs enters_none goes known. record {
+      sound = step_sound (total_limits g) z q next known.sound goes;
+      well = lowered g (λ r. ticks_in (z.condition r)) next
+          (step_well g z known.sound q (raised g z known.well) next goes);
+    }) turn since n s t paused turns k
 
 -- all expressions of the program are pure
 pub pure_blocks : (G : RunContext) → AreBlocksPure G.g.program
