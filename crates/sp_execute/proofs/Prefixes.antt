@@ -25,17 +25,42 @@ module _ (g : RunInput) (turn : ℕ) where
         → (k : ℕ) × (z : StateOf g) × EntryStep g (λ c1 u r. Along g turn c1 u ps r z) c m paused q what k
     entered c m paused q Laid n t h = let r = shorter _ _ n t h.1 in (r.0, r.1, (h.0, r.2))
     entered c m paused q Paused n t h = let r = shorter _ _ n t h.2 in (r.0, r.1, (h.0, h.1, r.2))
-    entered _ _ _ _ _ _ t (a, b, u, rest, e, i, l) = let r = shorter _ _ rest t l in
-        (suc r.0, r.1, (a, b, u, r.0, refl, i, r.2))
+    entered _ _ _ _ _ _ t (no_fault, k) = let (steps, end, along) = shorter _ k.next k.rest t k.ahead in (
+      suc steps,
+      end,
+      (
+        no_fault,
+        record {
+          unpaused = k.unpaused;
+          next = k.next;
+          rest = steps;
+          size = refl;
+          makes = k.makes;
+          ahead = along;
+        },
+      ),
+    )
 
   first_part : (b : Births) (xs ys : List Entry) (c : JournalState) (s : StateOf g) (n : ℕ) (t : StateOf g)
       → Along g turn c s (occurrences_from b (xs ++ ys)) n t → Defined (occurrences_from b xs) c s
   first_part b [] ys c s n t h = (0, s, (refl, refl))
-  first_part b (x ∷ xs) ys c s n t (laid, k, rest, m, paused, e, made, h) =
-      let r = entered (occurrences_from (births_after_entry b x) (xs
+  first_part b (x ∷ xs) ys c s n t a =
+      let (steps, end, enters) = entered (occurrences_from (births_after_entry b x) (xs
       ++ ys)) (occurrences_from (births_after_entry b x) xs)
-      (first_part (births_after_entry b x) xs ys) c m paused _ _ rest t h in
-      (k + r.0, r.1, (laid, k, r.0, m, paused, refl, made, r.2))
+      (first_part (births_after_entry b x) xs ys) c a.middle a.paused _ _ a.rest t a.enters in (
+        a.steps + steps,
+        end,
+        record {
+          not_laid = a.not_laid;
+          steps = a.steps;
+          rest = steps;
+          middle = a.middle;
+          paused = a.paused;
+          size = refl;
+          turns = a.turns;
+          enters = enters;
+        },
+      )
 
 -- a shorter first part is a first part of a longer one
 shorter_take : (n m : ℕ) (es : List Entry) → n ≤ m → (ys : List Entry) × (take m es ≡ take n es ++ ys)
