@@ -12,6 +12,7 @@ use Rattle.sp_meaning.specs.LocalWork.{RunInput, Process}
 use Rattle.sp_meaning.specs.Model.{Name}
 use Rattle.sp_meaning.specs.Runs.{StateOf, happening_at, next_state, running_process}
 use Rattle.sp_meaning.specs.SuperPascal.{pauses_next}
+use Rattle.sp_meaning.proofs.TurnWalks.{turn_runs}
 
 -- the process that is there
 abbrev pub own_in : Option Process → Process
@@ -62,34 +63,35 @@ module _ (g : RunInput) where
   module _ (turn since : ℕ) where
     pub comes : (w : Happening) (u s : StateOf g) → Leads w u s → (k : ℕ) (q : Name) (t : StateOf g) (paused : Bool)
         → Turn g turn since q k s t paused → Comes w u q t paused
-    comes w u s (by_entry own r h n) zero [] t paused (e, p, x, run, what, happens) =
-        subst (λ m. Comes w u [] m paused) (sym e) (record {
+    comes w u s (by_entry own r h n) zero [] t paused turns =
+        subst (λ m. Comes w u [] m paused) (sym turns.stays) (record {
           own = own;
           who = refl;
           runs = r;
           makes = h;
           next = n;
-          unpaused = p;
+          unpaused = turns.unpaused;
         })
-    comes w u s (by_entry own r h n) zero (a ∷ q) t paused (e, p, x, run, what, happens) =
-        some_none (Comes w u (a ∷ q) t paused) (running_process g s (a ∷ q)) x run (r.alone a q)
-    comes w u s (by_entry own r h n) (suc k) [] t paused (x, run, quiet, y, next, either) =
+    comes w u s (by_entry own r h n) zero (a ∷ q) t paused turns =
+        some_none (Comes w u (a ∷ q) t paused) (running_process g s (a ∷ q)) turns.process turns.runs (r.alone a q)
+    comes w u s (by_entry own r h n) (suc k) [] t paused turns =
         some_none (Comes w u [] t paused) (happening_at g s [] own) w h
-        (subst (λ z. happening_at g s [] z ≡ None) (own_is s own x r run) quiet)
-    comes w u s (by_entry own r h n) (suc k) (a ∷ q) t paused (x, run, quiet, y, next, either) =
-        some_none (Comes w u (a ∷ q) t paused) (running_process g s (a ∷ q)) x run (r.alone a q)
-    comes w u s (by_step own m r h d n l) zero [] t paused (e, p, x, run, what, happens) =
-        some_none (Comes w u [] t paused) (happening_at g s [] own) what
-        (subst (λ y. happening_at g s [] y ≡ Some what) (own_is s own x r run) happens) h
-    comes w u s (by_step own m r h d n l) zero (a ∷ q) t paused (e, p, x, run, what, happens) =
-        some_none (Comes w u (a ∷ q) t paused) (running_process g s (a ∷ q)) x run (r.alone a q)
-    comes w u s (by_step own m r h d n l) (suc k) [] t paused (x, run, quiet, y, next, either) =
-        comes w u m l k [] t paused (subst (λ z. Turn g turn since [] k z t paused) (same_Some y m (sym next ∙ n))
-        (either_second _ _ (is_due_after g turn since s x [] y)
-        (no_and (pauses_next g x s.store) _
-        (subst (λ z. pauses_next g z s.store ≡ false) (sym (own_is s own x r run)) d)) either))
-    comes w u s (by_step own m r h d n l) (suc k) (a ∷ q) t paused (x, run, quiet, y, next, either) =
-        some_none (Comes w u (a ∷ q) t paused) (running_process g s (a ∷ q)) x run (r.alone a q)
+        (subst (λ z. happening_at g s [] z ≡ None) (own_is s own turns.process r turns.runs) turns.enters_none)
+    comes w u s (by_entry own r h n) (suc k) (a ∷ q) t paused turns =
+        some_none (Comes w u (a ∷ q) t paused) (running_process g s (a ∷ q)) turns.process turns.runs (r.alone a q)
+    comes w u s (by_step own m r h d n l) zero [] t paused turns =
+        some_none (Comes w u [] t paused) (happening_at g s [] own) turns.what
+        (subst (λ y. happening_at g s [] y ≡ Some turns.what) (own_is s own turns.process r turns.runs) turns.happens) h
+    comes w u s (by_step own m r h d n l) zero (a ∷ q) t paused turns =
+        some_none (Comes w u (a ∷ q) t paused) (running_process g s (a ∷ q)) turns.process turns.runs (r.alone a q)
+    comes w u s (by_step own m r h d n l) (suc k) [] t paused turns =
+        comes w u m l k [] t paused
+        (subst (λ z. Turn g turn since [] k z t paused) (same_Some turns.next m (sym turns.steps ∙ n))
+        (either_second _ _ (is_due_after g turn since s turns.process [] turns.next)
+        (no_and (pauses_next g turns.process s.store) _
+        (subst (λ z. pauses_next g z s.store ≡ false) (sym (own_is s own turns.process r turns.runs)) d)) turns.ahead))
+    comes w u s (by_step own m r h d n l) (suc k) (a ∷ q) t paused turns =
+        some_none (Comes w u (a ∷ q) t paused) (running_process g s (a ∷ q)) turns.process turns.runs (r.alone a q)
 
   -- the entry is this one, and what is left goes on from u
   pub record Made (left : JournalState → StateOf g → ℕ
@@ -104,18 +106,18 @@ module _ (g : RunInput) where
     by_kernel : (q : Name) (m : StateOf g) (paused : Bool) → Comes w u q m paused → (what : Happening) (n : ℕ)
         → KernelStep g left c m paused q what n → Made left c w what u
     by_kernel (a ∷ q) m paused k what n h = absurd cc
-    by_kernel [] m paused k what n (f, p, v, rest, e, (x, run, happens, next), l) =
-        let own : x ≡ k.own = own_is m k.own x k.runs run in
+    by_kernel [] m paused k what n (_, step) =
+        let own : step.makes.process ≡ k.own = own_is m k.own step.makes.process k.runs step.makes.runs in
         let made : happening_at g m [] k.own ≡ Some what =
-        subst (λ y. happening_at g m [] y ≡ Some what) own happens in
+        subst (λ y. happening_at g m [] y ≡ Some what) own step.makes.happens in
         let is : what ≡ w = same_Some what w (sym made ∙ k.makes) in
-        let to : v ≡ u = same_Some v u (sym next ∙ k.next) in
+        let to : step.next ≡ u = same_Some step.next u (sym step.makes.steps ∙ k.next) in
         record {
           same = is;
           ticks = ticks_of g u [];
-          rest = rest;
-          goes_on = subst (λ x. left (course_after [] w (ticks_of g x []) c) x rest) to
-              (subst (λ y. left (course_after [] y (ticks_of g v []) c) v rest) is l);
+          rest = step.rest;
+          goes_on = subst (λ x. left (course_after [] w (ticks_of g x []) c) x step.rest) to
+              (subst (λ y. left (course_after [] y (ticks_of g step.next []) c) step.next step.rest) is step.ahead);
         }
 
     pub made : (q : Name) (m : StateOf g) (paused : Bool) → Comes w u q m paused → c.faulted ≡ false
@@ -142,16 +144,16 @@ module _ (g : RunInput) where
   pub forced : (turn : ℕ) (c : JournalState) (w : Happening) (u s : StateOf g) → Leads w u s → c.faulted ≡ false
       → (e : Occurrence) (es : List Occurrence) (n : ℕ) (t : StateOf g) → Along g turn c s (e ∷ es) n t
       → GoesOn turn c w u e es t
-  forced turn c w u s l f e es n t (laid, k, rest, m, paused, sum, turns, entry) =
-      let k : Comes w u e.who m paused = comes turn (c.since e.who) w u s l k e.who m paused turns in
-      let h = made (λ c1 v r. Along g turn c1 v es r t) c w u e.who m paused k f e.what rest entry in
+  forced turn c w u s l f e es n t a =
+      let k : Comes w u e.who a.middle a.paused =
+      comes turn (c.since e.who) w u s l a.steps e.who a.middle a.paused a.turns in
+      let h = made (λ c1 v r. Along g turn c1 v es r t) c w u e.who a.middle a.paused k f e.what a.rest a.enters in
       record { who = k.who; what = h.same; ticks = h.ticks; rest = h.rest; along = h.goes_on }
 
   -- where nobody runs, no entry follows
   pub over : (turn : ℕ) (c : JournalState) (s : StateOf g) → ((q : Name) → running_process g s q ≡ None)
       → (e : Occurrence)
       (es : List Occurrence) (n : ℕ) (t : StateOf g) → Along g turn c s (e ∷ es) n t → ⊥
-  over turn c s idle e es n t (laid, zero, rest, m, paused, sum, (a, b, x, run, what, happens), entry) =
-      some_none ⊥ (running_process g s e.who) x run (idle e.who)
-  over turn c s idle e es n t (laid, suc k, rest, m, paused, sum, (x, run, quiet, y, next, either), entry) =
-      some_none ⊥ (running_process g s e.who) x run (idle e.who)
+  over turn c s idle e es n t a =
+      let run = turn_runs g turn (c.since e.who) e.who a.steps s a.middle a.paused a.turns in
+      some_none ⊥ (running_process g s e.who) run.0 run.1 (idle e.who)
