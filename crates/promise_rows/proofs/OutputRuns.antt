@@ -93,16 +93,40 @@ is_over (e ∷ es) n t x a h = go es (forced g TURN_TICKS before_entries happeni
 
 -- the meaning is defined along the end alone, and leads to that state
 pub meant : Along g TURN_TICKS before_entries (start g) one_end 2 ended
-meant = (
-  refl,
-  1,
-  1,
-  written,
-  false,
-  refl,
-  (own_at (start g), refl, refl, written, refl, (refl, refl, own_at written, refl, happenings.Ended, refl)),
-  (refl, refl, ended, 0, refl, (own_at written, refl, refl, refl), (refl, refl)),
-)
+meant = record {
+  not_laid = refl;
+  steps = 1;
+  rest = 1;
+  middle = written;
+  paused = false;
+  size = refl;
+  turns = record {
+    process = own_at (start g);
+    runs = refl;
+    enters_none = refl;
+    next = written;
+    steps = refl;
+    ahead = record {
+      stays = refl;
+      unpaused = refl;
+      process = own_at written;
+      runs = refl;
+      what = happenings.Ended;
+      happens = refl;
+    };
+  };
+  enters = (
+    refl,
+    record {
+      unpaused = refl;
+      next = ended;
+      rest = 0;
+      size = refl;
+      makes = record { process = own_at written; runs = refl; happens = refl; steps = refl };
+      ahead = (refl, refl);
+    },
+  );
+}
 
 -- and so does each way along it
 pub at_end : (n : ℕ) (t : StateOf g) → Along g TURN_TICKS before_entries (start g) one_end n t → t ≡ ended
