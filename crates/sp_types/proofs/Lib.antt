@@ -3,7 +3,6 @@ mod DeclarationRows
 mod TreeRows
 mod TextRows
 pub mod Laws
-mod Steps
 mod ExpectedTypes
 mod Counts
 mod NextNumbers

@@ -82,6 +82,9 @@ statement_first = w.statement_sites none_more then_rest at_node
 abbrev pub statement_form_first : Env → n.Form → Onward
 statement_form_first = w.statement_form_sites none_more then_rest at_node
 
+abbrev pub other_first : Env → n.ElsePart → Onward
+other_first = w.other_sites none_more then_rest at_node
+
 abbrev pub statements_first : Env → n.Statements → Onward
 statements_first = w.statements_sites none_more then_rest at_node
 

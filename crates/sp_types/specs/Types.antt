@@ -1,16 +1,12 @@
 -- None of this belongs to what the program promises: it is for contracts between crates.
--- What a part of the walk answers: its tree as the plain one, its type, and the first broken rule up to its end. The
+-- What a part of the walk gives: its tree as the plain one, its type, and the first broken rule up to its end. The
 -- contracts of all walks of this crate cite it.
-use Rattle.std.specs.Prelude.{ℕ, Option, Result, Ok}
-use Rattle.sp_base.specs.declared.halt.Halt.{Halt}
-pub use Rattle.sp_tree.specs.PhaseResults.{PassesTo}
-use Rattle.sp_tree.specs.PhaseResults.{FirstRefusal, AnswersAs}
+use Rattle.std.specs.Prelude.{◌≡◌, ℕ, Option}
+use Rattle.sp_tree.specs.PhaseResults.{FirstRefusal}
+use Rattle.sp_tree.specs.Carried.{Keeps}
+use Rattle.sp_tree.specs.declared.walk.Walk.{Walk}
 use Rattle.sp_types.specs.declared.pass_results.Typed.{Typed}
 
--- a part in memory as the plain tree that it stands for, with its type and the first broken rule
-abbrev pub typed_as : {A B : Type 0} → (A → B) → Typed A → B × Option ℕ × FirstRefusal
-typed_as view w = (view w.tree, w.kind, w.first)
-
--- This tree, this type and this first broken rule up to its end, or memory was refused.
-abbrev pub ChecksTo : {A B : Type 0} → (A → B) → Result (Typed A) Halt → B → Option ℕ → FirstRefusal → Type 0
-ChecksTo view result tree kind first = AnswersAs (typed_as view) result (Ok (tree, kind, first))
+-- This tree, this type and this first broken rule up to its end, if the walk is not lost.
+abbrev pub Types : {A B : Type 0} → (A → B) → Walk → Walk → Typed A → B → Option ℕ → FirstRefusal → Type 0
+Types view old new result tree kind first = Keeps old new first ((view result.tree ≡ tree) × (result.kind ≡ kind))

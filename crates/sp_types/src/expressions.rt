@@ -1,10 +1,12 @@
 //! The pass over expressions, which consumes the tree and gives tree, type and first broken rule at once.
 
-ghost use Rattle.std.specs.Prelude.{◌≡◌, map, None, Some, Ok};
+ghost use Rattle.std.specs.Prelude.{◌≡◌, map, option_map, None, Some};
 ghost use Rattle.sp_tree.specs.NamedOf.{expression_of, expression_form_of, variable_of, selector_of, argument_of};
 ghost use Rattle.sp_tree.specs.NamedOf.{arguments, selectors};
-ghost use Rattle.sp_tree.specs.PlainNamed.{Unary, Binary, Quoted, Standard};
-ghost use Rattle.sp_types.specs.Types.{ChecksTo, PassesTo};
+ghost use Rattle.sp_tree.specs.PlainNamed.{Quoted};
+ghost use Rattle.sp_tree.specs.Carried.{Keeps};
+ghost use Rattle.sp_types.specs.Types.{Types};
+ghost use Rattle.sp_types.specs.Tables.{Env};
 ghost use Rattle.sp_tree.specs.CheckedOf as checked;
 ghost use Rattle.sp_tree.specs.PlainChecked as c;
 ghost use Rattle.sp_types.specs.Kinds.{expression_kind, form_kind, selected, selected_kind, selection, parameter_kind};
@@ -18,129 +20,136 @@ ghost use Rattle.sp_types.specs.CheckedTree.{checked_selector, checked_actuals, 
 ghost use Rattle.sp_types.specs.CheckedTree.{checked_argument, variable_actual, actual_for_role};
 ghost use Rattle.sp_types.specs.TypeWalk.{is_variable, place, formal, formals_behind, formal_role};
 
-use crate::have;
-use crate::pass_results::{PassResult, Typed};
+use crate::pass_results::Typed;
 use crate::rules::{
     actual_rule, binary_gives, element, index_rule, left_rule, right_rule, standard_gives,
     standard_rule, text_rule, unary_rule, unary_takes,
 };
 use crate::tables::{Tables, ordinal_kind};
 use crate::values::{char_of, field, field_rule, integer, number_or, numbered_field, or_zero};
-use sp_base::{Boxed, Halt, List, Place, Text};
+use sp_base::{Boxed, List, Place, Text};
 use sp_tree::{
-    Actual, BinaryOp, Expr, ExprForm, FirstRefusal, NamedArg, NamedExpr, NamedExprForm,
-    NamedSelector, NamedVar, Role, Selector, StandardFn, UnaryOp, Var, earlier_refusal,
+    Actual, BinaryOp, Expr, ExprForm, NamedArg, NamedExpr, NamedExprForm, NamedSelector, NamedVar,
+    Role, Selector, StandardFn, UnaryOp, Var, Walk,
 };
 use std::alloc::Global;
 
 /// An expression.
 #[cycle(expression)]
-pub fn type_expression(
-    alloc: Global,
-    t: &Tables,
-    e: NamedExpr,
-    first: FirstRefusal,
-) -> Result<Typed<Expr>, Halt>
-    ensures { ChecksTo checked.expression_of result (checked_expression t.now (expression_of e))
-        (expression_kind t.now (expression_of e)) (expression_first t.now (expression_of e) first) }
+pub fn type_expression(alloc: Global, t: &Tables, walk: &mut Walk, e: NamedExpr) -> Typed<Expr>
+    ensures { Types checked.expression_of walk.old walk.new result (checked_expression t.now (expression_of e))
+        (expression_kind t.now (expression_of e)) (expression_first t.now (expression_of e) walk.old.first) }
 {
     let (at, form) = e.parts();
-    let Typed { tree, kind, first } = have!(type_form(alloc, t, form, at, first));
-    Ok(Typed {
+    let Typed { tree, kind } = type_form(alloc, t, walk, form, at);
+    Typed {
         tree: Expr {
             at,
             kind: or_zero(kind),
             form: tree,
         },
         kind,
-        first,
-    })
+    }
 }
 
 #[cycle(expression)]
 fn type_boxed(
     alloc: Global,
     t: &Tables,
+    walk: &mut Walk,
     e: Boxed<NamedExpr>,
-    first: FirstRefusal,
-) -> Result<Typed<Boxed<Expr>>, Halt>
-    ensures { ChecksTo checked.expression_of result (checked_expression t.now (expression_of e))
-        (expression_kind t.now (expression_of e)) (expression_first t.now (expression_of e) first) }
+) -> Typed<Option<Boxed<Expr>>>
+    ensures { Types (option_map checked.expression_of) walk.old walk.new result
+        (Some (checked_expression t.now (expression_of e)))
+        (expression_kind t.now (expression_of e)) (expression_first t.now (expression_of e) walk.old.first) }
 {
-    let Typed { tree, kind, first } = have!(type_expression(alloc, t, e.into_inner(), first));
-    let tree = have!(Boxed::new(alloc, tree));
-    Ok(Typed { tree, kind, first })
+    let Typed { tree, kind } = type_expression(alloc, t, walk, e.into_inner());
+    Typed {
+        tree: walk.boxed(alloc, tree),
+        kind,
+    }
 }
 
 #[cycle(expression)]
 fn type_form(
     alloc: Global,
     t: &Tables,
+    walk: &mut Walk,
     form: NamedExprForm,
     at: Place,
-    first: FirstRefusal,
-) -> Result<Typed<ExprForm>, Halt>
-    ensures { ChecksTo checked.expression_form_of result (checked_form t.now (expression_form_of form))
-        (form_kind t.now (expression_form_of form)) (form_first t.now at (expression_form_of form) first) }
+) -> Typed<ExprForm>
+    ensures { Types checked.expression_form_of walk.old walk.new result (checked_form t.now (expression_form_of form))
+        (form_kind t.now (expression_form_of form)) (form_first t.now at (expression_form_of form) walk.old.first) }
 {
     match form {
-        NamedExprForm::Number(n) => Ok(Typed {
-            tree: ExprForm::Number(have!(integer(n))),
+        NamedExprForm::Number(n) => Typed {
+            tree: ExprForm::Number(walk.integer(integer(n))),
             kind: Some(0),
-            first,
-        }),
-        NamedExprForm::Quoted(text) => type_text(t, &text, at, first),
+        },
+        NamedExprForm::Quoted(text) => type_text(walk, &text, at),
         NamedExprForm::Constant(k) => {
             let o = t.constant(k);
-            Ok(Typed {
+            Typed {
                 tree: ExprForm::Number(number_or(0, o)),
                 kind: ordinal_kind(o),
-                first,
-            })
+            }
         }
         NamedExprForm::Read(v) => {
-            let Typed { tree, kind, first } = have!(type_variable(alloc, t, v, first));
-            Ok(Typed {
+            let Typed { tree, kind } = type_variable(alloc, t, walk, v);
+            Typed {
                 tree: ExprForm::Read(tree),
                 kind,
-                first,
-            })
+            }
         }
         NamedExprForm::Call(f, name, args) => {
-            let formals = t.formals(f);
-            let PassResult { tree, first } = have!(type_actuals(alloc, t, args, formals, first));
-            Ok(Typed {
+            let tree = type_actuals(alloc, t, walk, args, t.formals(f));
+            Typed {
                 tree: ExprForm::Call(f, name, tree),
                 kind: t.answer_kind(f),
-                first,
-            })
+            }
         }
         NamedExprForm::Standard(f, args) => {
-            let Typed { tree, kind, first } = have!(type_standard(alloc, t, args, f, first));
-            Ok(Typed {
+            let Typed { tree, kind } = type_standard(alloc, t, walk, args, f);
+            Typed {
                 tree: ExprForm::Standard(f, tree),
                 kind: standard_gives(t, f, kind),
-                first,
-            })
+            }
         }
-        NamedExprForm::Unary(op, a) => type_unary(alloc, t, a, op, first),
+        NamedExprForm::Unary(op, a) => type_unary(alloc, t, walk, a, op),
         NamedExprForm::Binary(op, a, b) => {
-            let a = have!(type_left(alloc, t, a, op, first));
-            type_right(alloc, t, b, a.tree, a.kind, op, a.first)
+            let a = type_left(alloc, t, walk, a, op);
+            let b = type_right(alloc, t, walk, b, a.kind, op);
+            Typed {
+                tree: binary(op, a.tree, b.tree),
+                kind: Some(binary_gives(op)),
+            }
         }
     }
 }
 
-fn unary(op: UnaryOp, a: Boxed<Expr>) -> ExprForm
-    ensures { checked.expression_form_of result ≡ c.Unary op (checked.expression_of a) }
+/// An operand under its operator. If it is missing, the walk is lost, and this is no answer.
+fn unary(op: UnaryOp, a: Option<Boxed<Expr>>) -> ExprForm
+    ensures { (x : c.Expression) → option_map checked.expression_of a ≡ Some x
+        → checked.expression_form_of result ≡ c.Unary op x }
 {
-    ExprForm::Unary(op, a)
+    match a {
+        Some(a) => ExprForm::Unary(op, a),
+        None => ExprForm::Number(0),
+    }
 }
 
-fn binary(op: BinaryOp, a: Boxed<Expr>, b: Boxed<Expr>) -> ExprForm
-    ensures { checked.expression_form_of result ≡ c.Binary op (checked.expression_of a) (checked.expression_of b) }
+/// Both operands, in the same way.
+fn binary(op: BinaryOp, a: Option<Boxed<Expr>>, b: Option<Boxed<Expr>>) -> ExprForm
+    ensures { (x y : c.Expression) → option_map checked.expression_of a ≡ Some x
+        → option_map checked.expression_of b ≡ Some y → checked.expression_form_of result ≡ c.Binary op x y }
 {
-    ExprForm::Binary(op, a, b)
+    match a {
+        Some(a) => match b {
+            Some(b) => ExprForm::Binary(op, a, b),
+            None => ExprForm::Unary(UnaryOp::Plus, a),
+        },
+        None => unary(UnaryOp::Plus, b),
+    }
 }
 
 pub fn place_of(e: &NamedExpr) -> Place
@@ -149,44 +158,39 @@ pub fn place_of(e: &NamedExpr) -> Place
     e.at
 }
 
-fn type_text(
-    t: &Tables,
-    text: &Text,
-    at: Place,
-    first: FirstRefusal,
-) -> Result<Typed<ExprForm>, Halt>
-    ensures { ChecksTo checked.expression_form_of result (checked_form t.now (Quoted text.now))
-        (form_kind t.now (Quoted text.now))
-        (form_first t.now at (Quoted text.now) first) }
+fn type_text(walk: &mut Walk, text: &Text, at: Place) -> Typed<ExprForm>
+    ensures { (env : Env) → Types checked.expression_form_of walk.old walk.new result
+        (checked_form env (Quoted text.now)) (form_kind env (Quoted text.now))
+        (form_first env at (Quoted text.now) walk.old.first) }
 {
     let o = char_of(text);
-    Ok(Typed {
+    walk.note(text_rule(at, text));
+    Typed {
         tree: ExprForm::Number(number_or(0, o)),
         kind: ordinal_kind(o),
-        first: earlier_refusal(first, text_rule(at, text)),
-    })
+    }
 }
 
 #[cycle(expression)]
 fn type_unary(
     alloc: Global,
     t: &Tables,
+    walk: &mut Walk,
     a: Boxed<NamedExpr>,
     op: UnaryOp,
-    first: FirstRefusal,
-) -> Result<Typed<ExprForm>, Halt>
-    ensures { ChecksTo checked.expression_form_of result (c.Unary op (checked_expression t.now (expression_of a)))
-        (Some (unary_takes op)) (at_node (unary_rule op (place (expression_of a))
-        (expression_kind t.now (expression_of a)))
-        (expression_first t.now (expression_of a) first)) }
+) -> Typed<ExprForm>
+    ensures { Types checked.expression_form_of walk.old walk.new result
+        (c.Unary op (checked_expression t.now (expression_of a))) (Some (unary_takes op))
+        (at_node (unary_rule op (place (expression_of a)) (expression_kind t.now (expression_of a)))
+        (expression_first t.now (expression_of a) walk.old.first)) }
 {
     let at = place_of(a.get());
-    let e = have!(type_boxed(alloc, t, a, first));
-    Ok(Typed {
-        first: earlier_refusal(e.first, unary_rule(op, at, e.kind)),
-        kind: Some(unary_takes(op)),
+    let e = type_boxed(alloc, t, walk, a);
+    walk.note(unary_rule(op, at, e.kind));
+    Typed {
         tree: unary(op, e.tree),
-    })
+        kind: Some(unary_takes(op)),
+    }
 }
 
 /// The left operand.
@@ -194,22 +198,19 @@ fn type_unary(
 fn type_left(
     alloc: Global,
     t: &Tables,
+    walk: &mut Walk,
     a: Boxed<NamedExpr>,
     op: BinaryOp,
-    first: FirstRefusal,
-) -> Result<Typed<Boxed<Expr>>, Halt>
-    ensures { ChecksTo checked.expression_of result (checked_expression t.now (expression_of a))
-        (expression_kind t.now (expression_of a))
+) -> Typed<Option<Boxed<Expr>>>
+    ensures { Types (option_map checked.expression_of) walk.old walk.new result
+        (Some (checked_expression t.now (expression_of a))) (expression_kind t.now (expression_of a))
         (at_node (left_rule t.now op (place (expression_of a)) (expression_kind t.now (expression_of a)))
-        (expression_first t.now (expression_of a) first)) }
+        (expression_first t.now (expression_of a) walk.old.first)) }
 {
     let at = place_of(a.get());
-    let e = have!(type_boxed(alloc, t, a, first));
-    Ok(Typed {
-        first: earlier_refusal(e.first, left_rule(t, op, at, e.kind)),
-        kind: e.kind,
-        tree: e.tree,
-    })
+    let e = type_boxed(alloc, t, walk, a);
+    walk.note(left_rule(t, op, at, e.kind));
+    e
 }
 
 /// The right operand, behind the left, which has this type.
@@ -217,37 +218,27 @@ fn type_left(
 fn type_right(
     alloc: Global,
     t: &Tables,
+    walk: &mut Walk,
     b: Boxed<NamedExpr>,
-    a: Boxed<Expr>,
     left: Option<u32>,
     op: BinaryOp,
-    first: FirstRefusal,
-) -> Result<Typed<ExprForm>, Halt>
-    ensures { ChecksTo checked.expression_form_of result
-        (c.Binary op (checked.expression_of a) (checked_expression t.now (expression_of b))) (Some (binary_gives op))
+) -> Typed<Option<Boxed<Expr>>>
+    ensures { Types (option_map checked.expression_of) walk.old walk.new result
+        (Some (checked_expression t.now (expression_of b))) (expression_kind t.now (expression_of b))
         (at_node (right_rule t.now op (place (expression_of b)) left (expression_kind t.now (expression_of b)))
-        (expression_first t.now (expression_of b) first)) }
+        (expression_first t.now (expression_of b) walk.old.first)) }
 {
     let at = place_of(b.get());
-    let e = have!(type_boxed(alloc, t, b, first));
-    Ok(Typed {
-        first: earlier_refusal(e.first, right_rule(t, op, at, left, e.kind)),
-        kind: Some(binary_gives(op)),
-        tree: binary(op, a, e.tree),
-    })
+    let e = type_boxed(alloc, t, walk, b);
+    walk.note(right_rule(t, op, at, left, e.kind));
+    e
 }
 
 /// A variable with its selectors.
 #[cycle(expression)]
-pub fn type_variable(
-    alloc: Global,
-    t: &Tables,
-    v: NamedVar,
-    first: FirstRefusal,
-) -> Result<Typed<Var>, Halt>
-    ensures { ChecksTo checked.variable_of result (checked_variable t.now (variable_of v))
-        (selected t.now (variable_of v))
-        (variable_first t.now (variable_of v) first) }
+pub fn type_variable(alloc: Global, t: &Tables, walk: &mut Walk, v: NamedVar) -> Typed<Var>
+    ensures { Types checked.variable_of walk.old walk.new result (checked_variable t.now (variable_of v))
+        (selected t.now (variable_of v)) (variable_first t.now (variable_of v) walk.old.first) }
 {
     let NamedVar {
         variable,
@@ -255,45 +246,42 @@ pub fn type_variable(
         selectors,
     } = v;
     let kind = t.variable_kind(variable);
-    let Typed { tree, kind, first } = have!(type_selectors(alloc, t, selectors, at, kind, first));
-    Ok(Typed {
+    let Typed { tree, kind } = type_selectors(alloc, t, walk, selectors, at, kind);
+    Typed {
         tree: Var {
             variable,
             at,
             selectors: tree,
         },
         kind,
-        first,
-    })
+    }
 }
 
 #[cycle(expression)]
 fn type_selectors(
     alloc: Global,
     t: &Tables,
+    walk: &mut Walk,
     xs: List<NamedSelector>,
     at: Place,
     kind: Option<u32>,
-    first: FirstRefusal,
-) -> Result<Typed<List<Selector>>, Halt>
-    ensures { ChecksTo (map checked.selector_of) result (checked_selectors t.now kind (selectors (map selector_of xs)))
+) -> Typed<List<Selector>>
+    ensures { Types (map checked.selector_of) walk.old walk.new result
+        (checked_selectors t.now kind (selectors (map selector_of xs)))
         (selected_kind t.now kind (selectors (map selector_of xs)))
-        (selectors_first t.now at kind (selectors (map selector_of xs)) first) }
+        (selectors_first t.now at kind (selectors (map selector_of xs)) walk.old.first) }
 {
     let mut out = Vec::new(alloc);
     let mut kind = kind;
-    let mut first = first;
     for x in xs.into_vec() {
-        let y = have!(type_selector(alloc, t, x, at, kind, first));
+        let y = type_selector(alloc, t, walk, x, at, kind);
         kind = y.kind;
-        first = y.first;
-        out.push(y.tree)?;
+        walk.push(&mut out, y.tree);
     }
-    Ok(Typed {
+    Typed {
         tree: List::of(out),
         kind,
-        first,
-    })
+    }
 }
 
 /// A selector of a variable that has a type so far.
@@ -301,30 +289,31 @@ fn type_selectors(
 fn type_selector(
     alloc: Global,
     t: &Tables,
+    walk: &mut Walk,
     s: NamedSelector,
     at: Place,
     kind: Option<u32>,
-    first: FirstRefusal,
-) -> Result<Typed<Selector>, Halt>
-    ensures { ChecksTo checked.selector_of result (checked_selector t.now kind (selector_of s))
-        (selection t.now kind (selector_of s))
-        (selector_first t.now at kind (selector_of s) first) }
+) -> Typed<Selector>
+    ensures { Types checked.selector_of walk.old walk.new result (checked_selector t.now kind (selector_of s))
+        (selection t.now kind (selector_of s)) (selector_first t.now at kind (selector_of s) walk.old.first) }
 {
     match s {
         NamedSelector::Index(e) => {
             let e_at = e.at;
-            let e = have!(type_expression(alloc, t, e, first));
-            Ok(Typed {
-                first: earlier_refusal(e.first, index_rule(t, at, kind, e_at, e.kind)),
+            let e = type_expression(alloc, t, walk, e);
+            walk.note(index_rule(t, at, kind, e_at, e.kind));
+            Typed {
                 kind: element(t, kind, e.kind),
                 tree: Selector::Index(e.tree),
-            })
+            }
         }
-        NamedSelector::Field(name) => Ok(Typed {
-            tree: Selector::Field(have!(numbered_field(t, kind, &name))),
-            kind: field(t, kind, &name),
-            first: earlier_refusal(first, field_rule(t, at, kind, &name)),
-        }),
+        NamedSelector::Field(name) => {
+            walk.note(field_rule(t, at, kind, &name));
+            Typed {
+                tree: Selector::Field(walk.number(numbered_field(t, kind, &name))),
+                kind: field(t, kind, &name),
+            }
+        }
     }
 }
 
@@ -351,27 +340,22 @@ fn others(xs: &[u32]) -> &[u32]
 pub fn type_actuals(
     alloc: Global,
     t: &Tables,
+    walk: &mut Walk,
     xs: List<NamedArg>,
     formals: &[u32],
-    first: FirstRefusal,
-) -> Result<PassResult<List<Actual>>, Halt>
-    ensures { PassesTo (map checked.actual_of) result
-        (checked_actuals t.now formals.now (arguments (map argument_of xs)))
-        (actuals_first t.now formals.now (arguments (map argument_of xs)) first) }
+) -> List<Actual>
+    ensures { Keeps walk.old walk.new
+        (actuals_first t.now formals.now (arguments (map argument_of xs)) walk.old.first)
+        (map checked.actual_of result ≡ checked_actuals t.now formals.now (arguments (map argument_of xs))) }
 {
     let mut out = Vec::new(alloc);
-    let mut first = first;
     let mut formals = formals;
     for x in xs.into_vec() {
-        let y = have!(type_actual(alloc, t, x, formal(formals), first));
-        first = y.first;
+        let y = type_actual(alloc, t, walk, x, formal(formals));
         formals = others(formals);
-        out.push(y.tree)?;
+        walk.push(&mut out, y);
     }
-    Ok(PassResult {
-        tree: List::of(out),
-        first,
-    })
+    List::of(out)
 }
 
 fn is_variable(e: &NamedExpr) -> bool
@@ -379,13 +363,7 @@ fn is_variable(e: &NamedExpr) -> bool
 {
     match &e.form {
         NamedExprForm::Read(v) => e.at == v.at,
-        NamedExprForm::Number(_) => false,
-        NamedExprForm::Quoted(_) => false,
-        NamedExprForm::Constant(_) => false,
-        NamedExprForm::Call(_, _, _) => false,
-        NamedExprForm::Standard(_, _) => false,
-        NamedExprForm::Unary(_, _) => false,
-        NamedExprForm::Binary(_, _, _) => false,
+        _ => false,
     }
 }
 
@@ -396,18 +374,8 @@ fn referenced(e: Expr) -> Actual
     let (at, kind, form) = e.parts();
     match form {
         ExprForm::Read(v) => Actual::Reference(v),
-        ExprForm::Number(n) => by_value(at, kind, ExprForm::Number(n)),
-        ExprForm::Unary(op, a) => by_value(at, kind, ExprForm::Unary(op, a)),
-        ExprForm::Binary(op, a, b) => by_value(at, kind, ExprForm::Binary(op, a, b)),
-        ExprForm::Call(f, name, args) => by_value(at, kind, ExprForm::Call(f, name, args)),
-        ExprForm::Standard(f, args) => by_value(at, kind, ExprForm::Standard(f, args)),
+        form => Actual::Value(Expr { at, kind, form }),
     }
-}
-
-fn by_value(at: Place, kind: u32, form: ExprForm) -> Actual
-    ensures { checked.actual_of result ≡ c.ByValue (c.ExpressionAt at kind (checked.expression_form_of form)) }
-{
-    Actual::Value(Expr { at, kind, form })
 }
 
 /// An actual parameter, by the role of the formal.
@@ -421,26 +389,17 @@ fn passed(role: Option<Role>, e: Expr) -> Actual
 }
 
 #[cycle(expression)]
-fn type_actual(
-    alloc: Global,
-    t: &Tables,
-    a: NamedArg,
-    x: Option<u32>,
-    first: FirstRefusal,
-) -> Result<PassResult<Actual>, Halt>
-    ensures { PassesTo checked.actual_of result (checked_actual t.now (formal_role t.now x) (argument_of a))
-        (actual_first t.now x (argument_of a) first) }
+fn type_actual(alloc: Global, t: &Tables, walk: &mut Walk, a: NamedArg, x: Option<u32>) -> Actual
+    ensures { Keeps walk.old walk.new (actual_first t.now x (argument_of a) walk.old.first)
+        (checked.actual_of result ≡ checked_actual t.now (formal_role t.now x) (argument_of a)) }
 {
     let NamedArg { value, width: _ } = a;
     let at = value.at;
     let written = is_variable(&value);
     let role = t.formal_role(x);
-    let e = have!(type_expression(alloc, t, value, first));
-    let broken = actual_rule(role, at, written, t.formal_kind(x), e.kind);
-    Ok(PassResult {
-        first: earlier_refusal(e.first, broken),
-        tree: passed(role, e.tree),
-    })
+    let e = type_expression(alloc, t, walk, value);
+    walk.note(actual_rule(role, at, written, t.formal_kind(x), e.kind));
+    passed(role, e.tree)
 }
 
 /// The parameters of a standard function, and the type of its parameter.
@@ -448,64 +407,58 @@ fn type_actual(
 fn type_standard(
     alloc: Global,
     t: &Tables,
+    walk: &mut Walk,
     xs: List<NamedArg>,
     f: StandardFn,
-    first: FirstRefusal,
-) -> Result<Typed<List<Expr>>, Halt>
-    ensures { ChecksTo (map checked.expression_of) result (checked_arguments t.now (arguments (map argument_of xs)))
+) -> Typed<List<Expr>>
+    ensures { Types (map checked.expression_of) walk.old walk.new result
+        (checked_arguments t.now (arguments (map argument_of xs)))
         (parameter_kind t.now None (arguments (map argument_of xs)))
-        (standard_first t.now f (arguments (map argument_of xs)) first) }
+        (standard_first t.now f (arguments (map argument_of xs)) walk.old.first) }
 {
     let mut out = Vec::new(alloc);
     let mut kind = None;
-    let mut first = first;
     for x in xs.into_vec() {
-        let y = have!(type_parameter(alloc, t, x, f, first));
+        let y = type_parameter(alloc, t, walk, x, f);
         kind = y.kind;
-        first = y.first;
-        out.push(y.tree)?;
+        walk.push(&mut out, y.tree);
     }
-    Ok(Typed {
+    Typed {
         tree: List::of(out),
         kind,
-        first,
-    })
+    }
 }
 
 #[cycle(expression)]
 fn type_parameter(
     alloc: Global,
     t: &Tables,
+    walk: &mut Walk,
     a: NamedArg,
     f: StandardFn,
-    first: FirstRefusal,
-) -> Result<Typed<Expr>, Halt>
-    ensures { ChecksTo checked.expression_of result (checked_argument t.now (argument_of a))
-        (argument_kind t.now (argument_of a))
-        (parameter_first t.now f (argument_of a) first) }
+) -> Typed<Expr>
+    ensures { Types checked.expression_of walk.old walk.new result (checked_argument t.now (argument_of a))
+        (argument_kind t.now (argument_of a)) (parameter_first t.now f (argument_of a) walk.old.first) }
 {
     let NamedArg { value, width: _ } = a;
-    type_operand(alloc, t, value, f, first)
+    type_operand(alloc, t, walk, value, f)
 }
 
 #[cycle(expression)]
 fn type_operand(
     alloc: Global,
     t: &Tables,
+    walk: &mut Walk,
     e: NamedExpr,
     f: StandardFn,
-    first: FirstRefusal,
-) -> Result<Typed<Expr>, Halt>
-    ensures { ChecksTo checked.expression_of result (checked_expression t.now (expression_of e))
+) -> Typed<Expr>
+    ensures { Types checked.expression_of walk.old walk.new result (checked_expression t.now (expression_of e))
         (expression_kind t.now (expression_of e))
         (at_node (standard_rule t.now f (place (expression_of e)) (expression_kind t.now (expression_of e)))
-        (expression_first t.now (expression_of e) first)) }
+        (expression_first t.now (expression_of e) walk.old.first)) }
 {
     let at = place_of(&e);
-    let e = have!(type_expression(alloc, t, e, first));
-    Ok(Typed {
-        first: earlier_refusal(e.first, standard_rule(t, f, at, e.kind)),
-        kind: e.kind,
-        tree: e.tree,
-    })
+    let e = type_expression(alloc, t, walk, e);
+    walk.note(standard_rule(t, f, at, e.kind));
+    e
 }

@@ -19,8 +19,10 @@
 //!   variables, headings), `TypeRules` a clause for each row of the rules of types, `Kinds` the types of expressions,
 //!   `TypeWalk` what stands where, `CheckedTree` the checked tree of a program, in `sp_tree`'s `PlainChecked`,
 //!   `StatementNumbers` the numbers of its statements, `TypeFirst` the first broken rule or the tree.
-//! - `specs/Types.antt` is the one form of contract of the pass: it consumes the tree, and gives tree, type and first
-//!   broken rule at once.
+//! - `specs/Types.antt` is the one form of contract of the pass: it consumes the tree, gives tree and type, and carries
+//!   the first broken rule so far.
+//! - `Walk` of `sp_tree` is what the pass carries: the first broken rule, and whether memory was refused. A pass that
+//!   was refused memory is lost: it goes on to its end and lets nothing go on the way, and what it gives is no answer.
 //! - `src/rules.rt` has the rules in code. `src/expressions.rt` and `statements.rt` are the pass, with `checks.rt` for
 //!   an expression at its place, `calls.rt` and `performs.rt` for calls, `choices.rt` and `seen.rt` for the constants
 //!   of a `case`.

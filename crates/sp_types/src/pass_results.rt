@@ -1,8 +1,4 @@
-//! What the pass gives of a part of the tree: the part with types, its own type, and the first broken rule up to its
-//! end.
-
-use sp_tree::FirstRefusal;
-pub use sp_tree::PassResult;
+//! What the pass gives of a part of the tree that has a type: the part with types, and its own type.
 
 /// What a call gives; where memory is refused to it, the function around ends so. One match, where `?` is two generic
 /// calls, which cost the proof more.
@@ -16,10 +12,9 @@ macro_rules! have {
     };
 }
 
-/// A part with its types, its own type if it is not broken, and the first rule that is broken up to its end.
+/// A part with its types, and its own type if it is not broken.
 #[derive(Drop)]
 pub struct Typed<T> {
     pub tree: T,
     pub kind: Option<u32>,
-    pub first: FirstRefusal,
 }

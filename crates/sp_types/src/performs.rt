@@ -1,11 +1,13 @@
 //! Assignments, calls of procedures, and calls of standard procedures as the single statements that they stand for.
 
-ghost use Rattle.std.specs.Prelude.{◌≡◌, ◌++◌, ◌∷◌, [], map, Ok, OnOk};
+ghost use Rattle.std.specs.Prelude.{◌≡◌, false, map, Ok};
 ghost use Rattle.std.specs.Vec.Iter.{into_iter_items};
 ghost use Rattle.sp_tree.specs.NamedOf.{variable_of, expression_of, argument_of, arguments};
 ghost use Rattle.sp_tree.specs.PlainNamed.{Assign, Call, Perform};
-ghost use Rattle.sp_types.specs.Types.{ChecksTo, PassesTo};
+ghost use Rattle.sp_tree.specs.Carried.{Keeps};
+ghost use Rattle.sp_types.specs.Types.{Types};
 ghost use Rattle.sp_tree.specs.CheckedOf as checked;
+ghost use Rattle.sp_tree.specs.PlainChecked as c;
 ghost use Rattle.sp_types.specs.Firsts.{channel_first, statement_form_first, perform_first, each_first, message_first};
 ghost use Rattle.sp_types.specs.Firsts.{messages_first};
 ghost use Rattle.sp_types.specs.Kinds.{argument_kind};
@@ -21,14 +23,12 @@ use crate::calls::{Part, target, type_parts};
 use crate::checks::type_wanted;
 use crate::expressions::{type_actuals, type_variable};
 use crate::have;
-use crate::pass_results::{PassResult, Typed};
+use crate::pass_results::Typed;
 use crate::rules::Wanted;
 use crate::statement_counts::{parts_count, sum};
 use crate::tables::Tables;
 use sp_base::{Halt, List, Place};
-use sp_tree::{
-    Expr, FirstRefusal, Form, NamedArg, NamedExpr, NamedVar, StandardProcedure, Stmt, Var,
-};
+use sp_tree::{Expr, Form, NamedArg, NamedExpr, NamedVar, StandardProcedure, Stmt, Var, Walk};
 use std::alloc::Global;
 use std::vec::IntoIter;
 
@@ -36,144 +36,106 @@ use std::vec::IntoIter;
 pub fn type_assign(
     alloc: Global,
     t: &Tables,
+    walk: &mut Walk,
     v: NamedVar,
     e: NamedExpr,
     at: Place,
-    first: FirstRefusal,
-) -> Result<PassResult<Form>, Halt>
-    ensures { PassesTo checked.statement_form_of result
-        (checked_statement_form t.now at (Assign (variable_of v) (expression_of e)))
-        (statement_form_first t.now (Assign (variable_of v) (expression_of e)) first) }
+) -> Form
+    ensures { Keeps walk.old walk.new
+        (statement_form_first t.now (Assign (variable_of v) (expression_of e)) walk.old.first)
+        (checked.statement_form_of result
+        ≡ checked_statement_form t.now at (Assign (variable_of v) (expression_of e))) }
 {
-    let v = have!(type_variable(alloc, t, v, first));
-    let e = have!(type_wanted(alloc, t, e, Wanted::Assigned(v.kind), v.first));
-    Ok(PassResult {
-        first: e.first,
-        tree: Form::Assign(v.tree, e.tree),
-    })
+    let v = type_variable(alloc, t, walk, v);
+    let e = type_wanted(alloc, t, walk, e, Wanted::Assigned(v.kind));
+    Form::Assign(v.tree, e.tree)
 }
 
 /// A call of a procedure.
 pub fn type_call(
     alloc: Global,
     t: &Tables,
+    walk: &mut Walk,
     f: u32,
     args: List<NamedArg>,
     at: Place,
-    first: FirstRefusal,
-) -> Result<PassResult<Form>, Halt>
-    ensures { PassesTo checked.statement_form_of result
-        (checked_statement_form t.now at (Call f (arguments (map argument_of args))))
-        (statement_form_first t.now (Call f (arguments (map argument_of args))) first) }
+) -> Form
+    ensures { Keeps walk.old walk.new
+        (statement_form_first t.now (Call f (arguments (map argument_of args))) walk.old.first)
+        (checked.statement_form_of result
+        ≡ checked_statement_form t.now at (Call f (arguments (map argument_of args)))) }
 {
-    let args = have!(type_actuals(alloc, t, args, t.formals(f), first));
-    Ok(PassResult {
-        first: args.first,
-        tree: Form::Call(f, args.tree),
-    })
+    Form::Call(f, type_actuals(alloc, t, walk, args, t.formals(f)))
 }
 
 /// What is sent on a channel of a type.
-fn type_value(
-    alloc: Global,
-    t: &Tables,
-    a: NamedArg,
-    kind: Option<u32>,
-    first: FirstRefusal,
-) -> Result<PassResult<Expr>, Halt>
-    ensures { PassesTo checked.expression_of result (checked_argument t.now (argument_of a))
-        (message_first t.now kind (argument_of a) first) }
+fn type_value(alloc: Global, t: &Tables, walk: &mut Walk, a: NamedArg, kind: Option<u32>) -> Expr
+    ensures { Keeps walk.old walk.new (message_first t.now kind (argument_of a) walk.old.first)
+        (checked.expression_of result ≡ checked_argument t.now (argument_of a)) }
 {
     let NamedArg { value, width: _ } = a;
-    let e = have!(type_wanted(alloc, t, value, Wanted::Message(kind), first));
-    Ok(PassResult {
-        first: e.first,
-        tree: e.tree,
-    })
+    let e = type_wanted(alloc, t, walk, value, Wanted::Message(kind));
+    e.tree
 }
 
 /// What is received on a channel of a type.
-fn type_received(
-    alloc: Global,
-    t: &Tables,
-    a: NamedArg,
-    kind: Option<u32>,
-    first: FirstRefusal,
-) -> Result<PassResult<Var>, Halt>
-    ensures { PassesTo checked.variable_of result (argument_variable t.now (argument_of a))
-        (message_first t.now kind (argument_of a) first) }
+fn type_received(alloc: Global, t: &Tables, walk: &mut Walk, a: NamedArg, kind: Option<u32>) -> Var
+    ensures { Keeps walk.old walk.new (message_first t.now kind (argument_of a) walk.old.first)
+        (checked.variable_of result ≡ argument_variable t.now (argument_of a)) }
 {
-    let NamedArg { value, width: _ } = a;
-    let e = have!(type_wanted(alloc, t, value, Wanted::Message(kind), first));
-    Ok(PassResult {
-        first: e.first,
-        tree: target(alloc, e.tree),
-    })
+    let e = type_value(alloc, t, walk, a, kind);
+    target(alloc, e)
 }
 
 /// All that is sent on a channel of a type.
 fn type_values(
     alloc: Global,
     t: &Tables,
+    walk: &mut Walk,
     xs: IntoIter<NamedArg>,
     kind: Option<u32>,
-    first: FirstRefusal,
-) -> Result<PassResult<List<Expr>>, Halt>
-    ensures { PassesTo (map checked.expression_of) result
-        (checked_arguments t.now (arguments (map argument_of (into_iter_items xs))))
-        (each_first t.now (message_first t.now kind) (arguments (map argument_of (into_iter_items xs))) first) }
+) -> List<Expr>
+    ensures { Keeps walk.old walk.new
+        (each_first t.now (message_first t.now kind) (arguments (map argument_of (into_iter_items xs))) walk.old.first)
+        (map checked.expression_of result
+        ≡ checked_arguments t.now (arguments (map argument_of (into_iter_items xs)))) }
 {
     let mut out = Vec::new(alloc);
-    let mut first = first;
     for x in xs {
-        let y = have!(type_value(alloc, t, x, kind, first));
-        first = y.first;
-        out.push(y.tree)?;
+        let y = type_value(alloc, t, walk, x, kind);
+        walk.push(&mut out, y);
     }
-    Ok(PassResult {
-        tree: List::of(out),
-        first,
-    })
+    List::of(out)
 }
 
 /// All that is received on a channel of a type.
 fn type_variables(
     alloc: Global,
     t: &Tables,
+    walk: &mut Walk,
     xs: IntoIter<NamedArg>,
     kind: Option<u32>,
-    first: FirstRefusal,
-) -> Result<PassResult<List<Var>>, Halt>
-    ensures { PassesTo (map checked.variable_of) result
-        (argument_variables t.now (arguments (map argument_of (into_iter_items xs))))
-        (each_first t.now (message_first t.now kind) (arguments (map argument_of (into_iter_items xs))) first) }
+) -> List<Var>
+    ensures { Keeps walk.old walk.new
+        (each_first t.now (message_first t.now kind) (arguments (map argument_of (into_iter_items xs))) walk.old.first)
+        (map checked.variable_of result
+        ≡ argument_variables t.now (arguments (map argument_of (into_iter_items xs)))) }
 {
     let mut out = Vec::new(alloc);
-    let mut first = first;
     for x in xs {
-        let y = have!(type_received(alloc, t, x, kind, first));
-        first = y.first;
-        out.push(y.tree)?;
+        let y = type_received(alloc, t, walk, x, kind);
+        walk.push(&mut out, y);
     }
-    Ok(PassResult {
-        tree: List::of(out),
-        first,
-    })
+    List::of(out)
 }
 
 /// The channel of `send` or `receive`.
-fn type_channel(
-    alloc: Global,
-    t: &Tables,
-    a: NamedArg,
-    first: FirstRefusal,
-) -> Result<Typed<Expr>, Halt>
-    ensures { ChecksTo checked.expression_of result (checked_argument t.now (argument_of a))
-        (argument_kind t.now (argument_of a))
-        (channel_first t.now (argument_of a) first) }
+fn type_channel(alloc: Global, t: &Tables, walk: &mut Walk, a: NamedArg) -> Typed<Expr>
+    ensures { Types checked.expression_of walk.old walk.new result (checked_argument t.now (argument_of a))
+        (argument_kind t.now (argument_of a)) (channel_first t.now (argument_of a) walk.old.first) }
 {
     let NamedArg { value, width: _ } = a;
-    type_wanted(alloc, t, value, Wanted::Channel, first)
+    type_wanted(alloc, t, walk, value, Wanted::Channel)
 }
 
 /// Values sent on one channel: one alone is a single statement, of several the channel stands once in memory.
@@ -236,72 +198,52 @@ fn received(n: u32, at: Place, channel: Expr, variables: List<Var>) -> Result<Fo
     }
 }
 
+/// The form. If there is none it loses the walk and gives an empty one.
+fn found(walk: &mut Walk, form: Result<Form, Halt>) -> Form
+    ensures { (x : c.Form) → AnswersAs checked.statement_form_of form (Ok x)
+        → Keeps walk.old walk.new walk.old.first (checked.statement_form_of result ≡ x) }
+{
+    match form {
+        Ok(form) => form,
+        Err(_) => {
+            walk.is_lost = true;
+            Form::Empty
+        }
+    }
+}
+
 /// A call of `send`: its channel, and what is sent on it.
-fn type_send(
-    alloc: Global,
-    t: &Tables,
-    args: List<NamedArg>,
-    at: Place,
-    first: FirstRefusal,
-) -> Result<PassResult<Form>, Halt>
-    ensures { PassesTo checked.statement_form_of result
-        (expanded_form t.now.next at (singles t.now procedure.Send (arguments (map argument_of args))))
-        (messages_first t.now (arguments (map argument_of args)) first) }
+fn type_send(alloc: Global, t: &Tables, walk: &mut Walk, args: List<NamedArg>, at: Place) -> Form
+    ensures { Keeps walk.old walk.new (messages_first t.now (arguments (map argument_of args)) walk.old.first)
+        (checked.statement_form_of result
+        ≡ expanded_form t.now.next at (singles t.now procedure.Send (arguments (map argument_of args)))) }
 {
     let mut xs = args.into_vec().into_iter();
     match xs.next() {
-        None => Ok(PassResult {
-            tree: Form::Sequence(List::new(alloc)),
-            first,
-        }),
+        None => Form::Sequence(List::new(alloc)),
         Some(a) => {
-            let channel = have!(type_channel(alloc, t, a, first));
-            let values = have!(type_values(alloc, t, xs, channel.kind, channel.first));
-            Ok(PassResult {
-                tree: have!(sent(t.next, at, channel.tree, values.tree)),
-                first: values.first,
-            })
+            let channel = type_channel(alloc, t, walk, a);
+            let values = type_values(alloc, t, walk, xs, channel.kind);
+            found(walk, sent(t.next, at, channel.tree, values))
         }
     }
 }
 
 /// A call of `receive`: its channel, and what is received on it.
-fn type_receive(
-    alloc: Global,
-    t: &Tables,
-    args: List<NamedArg>,
-    at: Place,
-    first: FirstRefusal,
-) -> Result<PassResult<Form>, Halt>
-    ensures { PassesTo checked.statement_form_of result
-        (expanded_form t.now.next at (singles t.now procedure.Receive (arguments (map argument_of args))))
-        (messages_first t.now (arguments (map argument_of args)) first) }
+fn type_receive(alloc: Global, t: &Tables, walk: &mut Walk, args: List<NamedArg>, at: Place) -> Form
+    ensures { Keeps walk.old walk.new (messages_first t.now (arguments (map argument_of args)) walk.old.first)
+        (checked.statement_form_of result
+        ≡ expanded_form t.now.next at (singles t.now procedure.Receive (arguments (map argument_of args)))) }
 {
     let mut xs = args.into_vec().into_iter();
     match xs.next() {
-        None => Ok(PassResult {
-            tree: Form::Sequence(List::new(alloc)),
-            first,
-        }),
+        None => Form::Sequence(List::new(alloc)),
         Some(a) => {
-            let channel = have!(type_channel(alloc, t, a, first));
-            let variables = have!(type_variables(alloc, t, xs, channel.kind, channel.first));
-            Ok(PassResult {
-                tree: have!(received(t.next, at, channel.tree, variables.tree)),
-                first: variables.first,
-            })
+            let channel = type_channel(alloc, t, walk, a);
+            let variables = type_variables(alloc, t, walk, xs, channel.kind);
+            found(walk, received(t.next, at, channel.tree, variables))
         }
     }
-}
-
-/// One more statement, behind the others.
-fn behind(forms: List<Form>, last: Form) -> Result<List<Form>, Halt>
-    ensures { AnswersAs (map checked.statement_form_of) result
-        (Ok (map checked.statement_form_of forms ++ checked.statement_form_of last ∷ [])) }
-{
-    let mut forms = forms;
-    forms.push(last)?;
-    Ok(forms)
 }
 
 /// Statements at one place, numbered from a number on.
@@ -346,83 +288,65 @@ fn expanded(alloc: Global, n: u32, at: Place, forms: List<Form>) -> Result<Form,
 fn type_each(
     alloc: Global,
     t: &Tables,
+    walk: &mut Walk,
     part: Part,
     args: List<NamedArg>,
     at: Place,
-    first: FirstRefusal,
-) -> Result<PassResult<Form>, Halt>
-    ensures { PassesTo checked.statement_form_of result
-        (expanded_form t.now.next at (part_forms t.now part (arguments (map argument_of args))))
-        (each_first t.now (part_first t.now part) (arguments (map argument_of args)) first) }
+) -> Form
+    ensures { Keeps walk.old walk.new
+        (each_first t.now (part_first t.now part) (arguments (map argument_of args)) walk.old.first)
+        (checked.statement_form_of result
+        ≡ expanded_form t.now.next at (part_forms t.now part (arguments (map argument_of args)))) }
 {
-    let forms = have!(type_parts(alloc, t, part, args, first));
-    Ok(PassResult {
-        tree: have!(expanded(alloc, t.next, at, forms.tree)),
-        first: forms.first,
-    })
+    let forms = type_parts(alloc, t, walk, part, args);
+    found(walk, expanded(alloc, t.next, at, forms))
 }
 
 /// A call of `readln`.
-fn type_readln(
-    alloc: Global,
-    t: &Tables,
-    args: List<NamedArg>,
-    at: Place,
-    first: FirstRefusal,
-) -> Result<PassResult<Form>, Halt>
-    ensures { PassesTo checked.statement_form_of result
-        (expanded_form t.now.next at (singles t.now procedure.Readln (arguments (map argument_of args))))
-        (perform_first t.now procedure.Readln (arguments (map argument_of args)) first) }
+fn type_readln(alloc: Global, t: &Tables, walk: &mut Walk, args: List<NamedArg>, at: Place) -> Form
+    ensures { Keeps walk.old walk.new
+        (perform_first t.now procedure.Readln (arguments (map argument_of args)) walk.old.first)
+        (checked.statement_form_of result
+        ≡ expanded_form t.now.next at (singles t.now procedure.Readln (arguments (map argument_of args)))) }
 {
-    let forms = have!(type_parts(alloc, t, Part::Read, args, first));
-    let all = have!(behind(forms.tree, Form::ReadLine));
-    Ok(PassResult {
-        tree: have!(expanded(alloc, t.next, at, all)),
-        first: forms.first,
-    })
+    let mut forms = type_parts(alloc, t, walk, Part::Read, args).into_vec();
+    walk.push(&mut forms, Form::ReadLine);
+    found(walk, expanded(alloc, t.next, at, List::of(forms)))
 }
 
 /// A call of `writeln`.
-fn type_writeln(
-    alloc: Global,
-    t: &Tables,
-    args: List<NamedArg>,
-    at: Place,
-    first: FirstRefusal,
-) -> Result<PassResult<Form>, Halt>
-    ensures { PassesTo checked.statement_form_of result
-        (expanded_form t.now.next at (singles t.now procedure.Writeln (arguments (map argument_of args))))
-        (perform_first t.now procedure.Writeln (arguments (map argument_of args)) first) }
+fn type_writeln(alloc: Global, t: &Tables, walk: &mut Walk, args: List<NamedArg>, at: Place) -> Form
+    ensures { Keeps walk.old walk.new
+        (perform_first t.now procedure.Writeln (arguments (map argument_of args)) walk.old.first)
+        (checked.statement_form_of result
+        ≡ expanded_form t.now.next at (singles t.now procedure.Writeln (arguments (map argument_of args)))) }
 {
-    let forms = have!(type_parts(alloc, t, Part::Write, args, first));
-    let all = have!(behind(forms.tree, Form::WriteLine));
-    Ok(PassResult {
-        tree: have!(expanded(alloc, t.next, at, all)),
-        first: forms.first,
-    })
+    let mut forms = type_parts(alloc, t, walk, Part::Write, args).into_vec();
+    walk.push(&mut forms, Form::WriteLine);
+    found(walk, expanded(alloc, t.next, at, List::of(forms)))
 }
 
 /// A call of a standard procedure, as the single statements that it stands for.
 fn type_call_of_standard(
     alloc: Global,
     t: &Tables,
+    walk: &mut Walk,
     p: StandardProcedure,
     args: List<NamedArg>,
     at: Place,
-    first: FirstRefusal,
-) -> Result<PassResult<Form>, Halt>
-    ensures { PassesTo checked.statement_form_of result
-        (expanded_form t.now.next at (singles t.now p (arguments (map argument_of args))))
-        (perform_first t.now p (arguments (map argument_of args)) first) }
+) -> Form
+    ensures { Keeps walk.old walk.new (perform_first t.now p (arguments (map argument_of args)) walk.old.first)
+        (checked.statement_form_of result
+        ≡ expanded_form t.now.next at (singles t.now p (arguments (map argument_of args)))) }
 {
     match p {
-        StandardProcedure::Read => type_each(alloc, t, Part::Read, args, at, first),
-        StandardProcedure::Readln => type_readln(alloc, t, args, at, first),
-        StandardProcedure::Write => type_each(alloc, t, Part::Write, args, at, first),
-        StandardProcedure::Writeln => type_writeln(alloc, t, args, at, first),
-        StandardProcedure::Open => type_each(alloc, t, Part::Open, args, at, first),
-        StandardProcedure::Send => type_send(alloc, t, args, at, first),
-        StandardProcedure::Receive => type_receive(alloc, t, args, at, first),
+        StandardProcedure::Read => type_each(alloc, t, walk, Part::Read, args, at),
+        StandardProcedure::Readln => type_readln(alloc, t, walk, args, at),
+        StandardProcedure::Write => type_each(alloc, t, walk, Part::Write, args, at),
+        StandardProcedure::Writeln => type_writeln(alloc, t, walk, args, at),
+        StandardProcedure::Open => type_each(alloc, t, walk, Part::Open, args, at),
+        StandardProcedure::Send => type_send(alloc, t, walk, args, at),
+        StandardProcedure::Receive => type_receive(alloc, t, walk, args, at),
     }
 }
 
@@ -430,21 +354,19 @@ fn type_call_of_standard(
 pub fn type_perform(
     alloc: Global,
     t: &mut Tables,
+    walk: &mut Walk,
     p: StandardProcedure,
     args: List<NamedArg>,
     at: Place,
-    first: FirstRefusal,
-) -> Result<PassResult<Form>, Halt>
-    ensures tree { PassesTo checked.statement_form_of result
-        (checked_statement_form t.old at (Perform p (arguments (map argument_of args))))
-        (statement_form_first t.old (Perform p (arguments (map argument_of args))) first) }
-    ensures after { OnOk result (t.new ≡ form_after t.old (Perform p (arguments (map argument_of args)))) }
+) -> Form
+    ensures tree { Keeps walk.old walk.new
+        (statement_form_first t.old (Perform p (arguments (map argument_of args))) walk.old.first)
+        (checked.statement_form_of result
+        ≡ checked_statement_form t.old at (Perform p (arguments (map argument_of args)))) }
+    ensures after { walk.new.is_lost ≡ false → t.new ≡ form_after t.old (Perform p (arguments (map argument_of args))) }
 {
-    let count = have!(parts_count(p, args.items()));
-    let form = have!(type_call_of_standard(alloc, t, p, args, at, first));
-    let Ok(()) = t.count(count) else {
-        drop(form.tree);
-        return Err(Halt::Memory);
-    };
-    Ok(form)
+    let count = walk.number(parts_count(p, args.items()));
+    let form = type_call_of_standard(alloc, t, walk, p, args, at);
+    walk.after(t.count(count));
+    form
 }

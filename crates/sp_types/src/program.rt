@@ -2,10 +2,9 @@
 
 ghost use Rattle.std.specs.Prelude.{◌≡◌, ◌++◌, ◌∷◌, [], drop, map, None, Ok, OnOk};
 ghost use Rattle.sp_tree.specs.Cells.{sizes};
-ghost use Rattle.sp_tree.specs.PhaseResults.{Answers, AnswersAs};
+ghost use Rattle.sp_tree.specs.PhaseResults.{Answers, AnswersAs, PassesTo};
 ghost use Rattle.sp_tree.specs.NamedOf as plain;
 ghost use Rattle.sp_tree.specs.CheckedOf as checked;
-ghost use Rattle.sp_types.specs.Types.{PassesTo};
 ghost use Rattle.sp_types.specs.TypeWalk.{starts_of, blocks_after};
 ghost use Rattle.sp_types.specs.CheckedTree.{checked_blocks, checked_variables};
 ghost use Rattle.sp_types.specs.DeclarationFirsts.{constants_first, kinds_first, blocks_first};
@@ -19,7 +18,6 @@ use crate::declarations::{check_cells, check_constants, check_kinds, places_of};
 use crate::have;
 use crate::kinds::kinds_of;
 use crate::numbers::numbers_of;
-use crate::pass_results::PassResult;
 use crate::program_tables::{kinds_in, tables_of};
 use crate::sizes::sizes_of;
 use crate::statement_counts::sum;
@@ -27,7 +25,8 @@ use crate::tables::{Ordinal, Tables};
 use crate::values::or_zero;
 use sp_base::{Halt, List, Place};
 use sp_tree::{
-    Block, Checked, FirstRefusal, KindOf, Named, NamedBlock, NamedConstant, NamedKind, Variable,
+    Block, Checked, FirstRefusal, KindOf, Named, NamedBlock, NamedConstant, NamedKind, PassResult,
+    Variable, Walk,
 };
 use std::alloc::Global;
 
@@ -109,17 +108,29 @@ fn type_bodies(
     ensures after { OnOk result (t.new ≡ blocks_after t.old (starts_of (map plain.block_of blocks))
         (map plain.block_of blocks)) }
 {
-    let bodies = have!(bodies(alloc, blocks.items()));
-    type_blocks(
+    let mut walk = Walk {
+        first,
+        is_lost: false,
+    };
+    let bodies = walk.list(alloc, bodies(alloc, blocks.items()));
+    let tree = type_blocks(
         blocks,
         alloc,
         t,
+        &mut walk,
         numbers,
         cells,
         variables,
         bodies.items(),
-        first,
-    )
+    );
+    if walk.is_lost {
+        Err(Halt::Memory)
+    } else {
+        Ok(PassResult {
+            tree,
+            first: walk.first,
+        })
+    }
 }
 
 /// The checked tree, from the tables behind the blocks.

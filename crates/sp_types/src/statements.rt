@@ -1,64 +1,46 @@
 //! The pass over statements: with types, numbered, each call of a standard procedure as single statements.
 
-ghost use Rattle.std.specs.Prelude.{◌≡◌, map, Ok, OnOk};
+ghost use Rattle.std.specs.Prelude.{◌≡◌, false, map, option_map, Some};
 ghost use Rattle.sp_tree.specs.NamedOf.{expression_of, statement_of, statement_form_of, statements, arms, arm_of};
-ghost use Rattle.sp_tree.specs.NamedOf.{branches, branch_of};
+ghost use Rattle.sp_tree.specs.NamedOf.{branches, branch_of, else_part};
 ghost use Rattle.sp_tree.specs.PlainNamed.{Repeat, Case, For, Forall};
-ghost use Rattle.sp_types.specs.Types.{PassesTo};
+ghost use Rattle.sp_tree.specs.Carried.{Keeps};
 ghost use Rattle.sp_tree.specs.CheckedOf as checked;
 ghost use Rattle.sp_tree.specs.PlainChecked as c;
 ghost use Rattle.sp_types.specs.Tables.{with_next_number, with_index_type};
 ghost use Rattle.sp_types.specs.Kinds.{expression_kind};
 ghost use Rattle.sp_types.specs.TypeWalk.{statement_after, form_after, statements_after, arms_after, arm_after};
-ghost use Rattle.sp_types.specs.TypeWalk.{branches_after};
+ghost use Rattle.sp_types.specs.TypeWalk.{branches_after, other_after};
 ghost use Rattle.sp_types.specs.Firsts.{statement_first, statement_form_first, statements_first, arms_first, arm_first};
-ghost use Rattle.sp_types.specs.Firsts.{branches_first};
+ghost use Rattle.sp_types.specs.Firsts.{branches_first, other_first};
 ghost use Rattle.sp_types.specs.CheckedTree.{checked_expression, checked_statement, checked_statement_form};
 ghost use Rattle.sp_types.specs.CheckedTree.{checked_statements, checked_arms, checked_arm, checked_branches};
-ghost use Rattle.sp_types.specs.CheckedTree.{first_place, in_sequence};
+ghost use Rattle.sp_types.specs.CheckedTree.{first_place, in_sequence, checked_other};
 
 use crate::checks::type_wanted;
 use crate::choices::{check_choices, constant_numbers};
-use crate::have;
-use crate::pass_results::PassResult;
 use crate::performs::{type_assign, type_call, type_perform};
 use crate::rules::{Wanted, wanted_rule};
 use crate::tables::Tables;
-use sp_base::{Boxed, Halt, List, Place};
+use sp_base::{Boxed, List, Place};
 use sp_tree::{
-    Arm, Expr, FirstRefusal, Form, NamedArm, NamedBranch, NamedExpr, NamedForm, NamedStmt, Stmt,
-    earlier_refusal,
+    Arm, Expr, Form, NamedArm, NamedBranch, NamedExpr, NamedForm, NamedStmt, Stmt, Walk,
 };
 use std::alloc::Global;
 
 /// A statement. Its number is the next one; afterwards the tables have the number behind it, and the types of the
 /// indices in it.
 #[cycle(statement)]
-pub fn type_statement(
-    s: NamedStmt,
-    alloc: Global,
-    t: &mut Tables,
-    first: FirstRefusal,
-) -> Result<PassResult<Stmt>, Halt>
-    ensures tree { PassesTo checked.statement_of result (checked_statement t.old (statement_of s))
-        (statement_first t.old (statement_of s) first) }
-    ensures after { OnOk result (t.new ≡ statement_after t.old (statement_of s)) }
+pub fn type_statement(s: NamedStmt, alloc: Global, t: &mut Tables, walk: &mut Walk) -> Stmt
+    ensures tree { Keeps walk.old walk.new (statement_first t.old (statement_of s) walk.old.first)
+        (checked.statement_of result ≡ checked_statement t.old (statement_of s)) }
+    ensures after { walk.new.is_lost ≡ false → t.new ≡ statement_after t.old (statement_of s) }
 {
     let NamedStmt { at, form } = s;
     let number = t.next;
-    let Ok(()) = t.count(1) else {
-        drop(form);
-        return Err(Halt::Memory);
-    };
-    let PassResult { tree, first } = have!(type_statement_form(form, alloc, t, at, first));
-    Ok(PassResult {
-        tree: Stmt {
-            number,
-            at,
-            form: tree,
-        },
-        first,
-    })
+    walk.after(t.count(1));
+    let form = type_statement_form(form, alloc, t, walk, at);
+    Stmt { number, at, form }
 }
 
 #[cycle(statement)]
@@ -66,15 +48,14 @@ fn type_boxed(
     s: Boxed<NamedStmt>,
     alloc: Global,
     t: &mut Tables,
-    first: FirstRefusal,
-) -> Result<PassResult<Boxed<Stmt>>, Halt>
-    ensures tree { PassesTo checked.statement_of result (checked_statement t.old (statement_of s))
-        (statement_first t.old (statement_of s) first) }
-    ensures after { OnOk result (t.new ≡ statement_after t.old (statement_of s)) }
+    walk: &mut Walk,
+) -> Option<Boxed<Stmt>>
+    ensures tree { Keeps walk.old walk.new (statement_first t.old (statement_of s) walk.old.first)
+        (option_map checked.statement_of result ≡ Some (checked_statement t.old (statement_of s))) }
+    ensures after { walk.new.is_lost ≡ false → t.new ≡ statement_after t.old (statement_of s) }
 {
-    let PassResult { tree, first } = have!(type_statement(s.into_inner(), alloc, t, first));
-    let tree = have!(Boxed::new(alloc, tree));
-    Ok(PassResult { tree, first })
+    let s = type_statement(s.into_inner(), alloc, t, walk);
+    walk.boxed(alloc, s)
 }
 
 #[cycle(statement)]
@@ -82,49 +63,32 @@ fn type_statement_form(
     form: NamedForm,
     alloc: Global,
     t: &mut Tables,
+    walk: &mut Walk,
     at: Place,
-    first: FirstRefusal,
-) -> Result<PassResult<Form>, Halt>
-    ensures tree { PassesTo checked.statement_form_of result (checked_statement_form t.old at (statement_form_of form))
-        (statement_form_first t.old (statement_form_of form) first) }
-    ensures after { OnOk result (t.new ≡ form_after t.old (statement_form_of form)) }
+) -> Form
+    ensures tree { Keeps walk.old walk.new (statement_form_first t.old (statement_form_of form) walk.old.first)
+        (checked.statement_form_of result ≡ checked_statement_form t.old at (statement_form_of form)) }
+    ensures after { walk.new.is_lost ≡ false → t.new ≡ form_after t.old (statement_form_of form) }
 {
     match form {
-        NamedForm::Empty => Ok(PassResult {
-            tree: Form::Empty,
-            first,
-        }),
-        NamedForm::Assign(v, e) => type_assign(alloc, t, v, e, at, first),
-        NamedForm::Call(f, args) => type_call(alloc, t, f, args, at, first),
-        NamedForm::Standard(p, args) => type_perform(alloc, t, p, args, at, first),
-        NamedForm::Sequence(ss) => {
-            let PassResult { tree, first } = have!(type_statements(ss, alloc, t, first));
-            Ok(PassResult {
-                tree: Form::Sequence(tree),
-                first,
-            })
-        }
+        NamedForm::Empty => Form::Empty,
+        NamedForm::Assign(v, e) => type_assign(alloc, t, walk, v, e, at),
+        NamedForm::Call(f, args) => type_call(alloc, t, walk, f, args, at),
+        NamedForm::Standard(p, args) => type_perform(alloc, t, walk, p, args, at),
+        NamedForm::Sequence(ss) => Form::Sequence(type_statements(ss, alloc, t, walk)),
         NamedForm::If(e, s, o) => {
-            let e = have!(type_wanted(alloc, t, e, Wanted::Condition, first));
-            let s = have!(type_boxed(s, alloc, t, e.first));
-            match o {
-                None => Ok(PassResult {
-                    tree: Form::If(e.tree, s.tree, None),
-                    first: s.first,
-                }),
-                Some(o) => type_else(o, alloc, t, e.tree, s.tree, s.first),
-            }
+            let e = type_wanted(alloc, t, walk, e, Wanted::Condition);
+            let s = type_boxed(s, alloc, t, walk);
+            let o = type_else(o, alloc, t, walk);
+            if_form(e.tree, s, o)
         }
         NamedForm::While(e, s) => {
-            let e = have!(type_wanted(alloc, t, e, Wanted::Condition, first));
-            let s = have!(type_boxed(s, alloc, t, e.first));
-            Ok(PassResult {
-                tree: Form::While(e.tree, s.tree),
-                first: s.first,
-            })
+            let e = type_wanted(alloc, t, walk, e, Wanted::Condition);
+            let s = type_boxed(s, alloc, t, walk);
+            while_form(e.tree, s)
         }
-        NamedForm::Repeat(ss, e) => type_repeat(ss, alloc, t, at, e, first),
-        NamedForm::Case(e, choices) => type_choices(choices, alloc, t, e, first),
+        NamedForm::Repeat(ss, e) => type_repeat(ss, alloc, t, walk, at, e),
+        NamedForm::Case(e, choices) => type_choices(choices, alloc, t, walk, e),
         NamedForm::For {
             variable,
             at,
@@ -132,27 +96,73 @@ fn type_statement_form(
             down,
             to,
             body,
-        } => type_for(body, alloc, t, variable, at, from, down, to, first),
-        NamedForm::Parallel(bs) => {
-            let PassResult { tree, first } = have!(type_branches(bs, alloc, t, at, first));
-            Ok(PassResult {
-                tree: Form::Parallel(tree),
-                first,
-            })
-        }
+        } => type_for(body, alloc, t, walk, variable, at, from, down, to),
+        NamedForm::Parallel(bs) => Form::Parallel(type_branches(bs, alloc, t, walk, at)),
         NamedForm::Forall {
             index,
             from,
             to,
             body,
-        } => type_forall(body, alloc, t, index, from, to, first),
+        } => type_forall(body, alloc, t, walk, index, from, to),
         NamedForm::Assume(e) => {
-            let e = have!(type_wanted(alloc, t, e, Wanted::Condition, first));
-            Ok(PassResult {
-                tree: Form::Assume(e.tree),
-                first: e.first,
-            })
+            let e = type_wanted(alloc, t, walk, e, Wanted::Condition);
+            Form::Assume(e.tree)
         }
+    }
+}
+
+/// The statement of an `else`, if there is one.
+#[cycle(statement)]
+fn type_else(
+    o: Option<Boxed<NamedStmt>>,
+    alloc: Global,
+    t: &mut Tables,
+    walk: &mut Walk,
+) -> Option<Boxed<Stmt>>
+    ensures tree { Keeps walk.old walk.new (other_first t.old (else_part (option_map statement_of o)) walk.old.first)
+        (checked.else_part (option_map checked.statement_of result)
+        ≡ checked_other t.old (else_part (option_map statement_of o))) }
+    ensures after { walk.new.is_lost ≡ false → t.new ≡ other_after t.old (else_part (option_map statement_of o)) }
+{
+    match o {
+        None => None,
+        Some(s) => {
+            let s = type_statement(s.into_inner(), alloc, t, walk);
+            walk.boxed(alloc, s)
+        }
+    }
+}
+
+/// An `if`. If its statement is missing, the walk is lost, and this is no answer.
+fn if_form(e: Expr, s: Option<Boxed<Stmt>>, o: Option<Boxed<Stmt>>) -> Form
+    ensures { (x : c.Statement) → option_map checked.statement_of s ≡ Some x → checked.statement_form_of result
+        ≡ c.If (checked.expression_of e) x (checked.else_part (option_map checked.statement_of o)) }
+{
+    match s {
+        Some(s) => Form::If(e, s, o),
+        None => while_form(e, o),
+    }
+}
+
+/// A `while`, in the same way.
+fn while_form(e: Expr, s: Option<Boxed<Stmt>>) -> Form
+    ensures { (x : c.Statement) → option_map checked.statement_of s ≡ Some x
+        → checked.statement_form_of result ≡ c.While (checked.expression_of e) x }
+{
+    match s {
+        Some(s) => Form::While(e, s),
+        None => Form::Assume(e),
+    }
+}
+
+/// A repeated statement, in the same way.
+fn repeat_form(s: Option<Boxed<Stmt>>, e: Expr) -> Form
+    ensures { (x : c.Statement) → option_map checked.statement_of s ≡ Some x
+        → checked.statement_form_of result ≡ c.Repeat x (checked.expression_of e) }
+{
+    match s {
+        Some(s) => Form::Repeat(s, e),
+        None => Form::Assume(e),
     }
 }
 
@@ -162,22 +172,21 @@ fn type_repeat(
     ss: List<NamedStmt>,
     alloc: Global,
     t: &mut Tables,
+    walk: &mut Walk,
     at: Place,
     e: NamedExpr,
-    first: FirstRefusal,
-) -> Result<PassResult<Form>, Halt>
-    ensures tree { PassesTo checked.statement_form_of result
-        (checked_statement_form t.old at (Repeat (statements (map statement_of ss)) (expression_of e)))
-        (statement_form_first t.old (Repeat (statements (map statement_of ss)) (expression_of e)) first) }
-    ensures after { OnOk result (t.new ≡ statements_after (with_next_number t.old) (statements (map statement_of ss))) }
+) -> Form
+    ensures tree { Keeps walk.old walk.new (statement_form_first t.old
+        (Repeat (statements (map statement_of ss)) (expression_of e)) walk.old.first)
+        (checked.statement_form_of result
+        ≡ checked_statement_form t.old at (Repeat (statements (map statement_of ss)) (expression_of e))) }
+    ensures after { walk.new.is_lost ≡ false → t.new ≡ statements_after (with_next_number t.old)
+        (statements (map statement_of ss)) }
 {
-    let ss = have!(type_sequence(ss, alloc, t, at, first));
-    let s = have!(Boxed::new(alloc, ss.tree));
-    let e = have!(type_wanted(alloc, t, e, Wanted::Condition, ss.first));
-    Ok(PassResult {
-        tree: Form::Repeat(s, e.tree),
-        first: e.first,
-    })
+    let s = type_sequence(ss, alloc, t, walk, at);
+    let s = walk.boxed(alloc, s);
+    let e = type_wanted(alloc, t, walk, e, Wanted::Condition);
+    repeat_form(s, e.tree)
 }
 
 /// A `case` statement: its selector, the constants of all choices, then their statements.
@@ -186,22 +195,19 @@ fn type_choices(
     choices: List<NamedArm>,
     alloc: Global,
     t: &mut Tables,
+    walk: &mut Walk,
     e: NamedExpr,
-    first: FirstRefusal,
-) -> Result<PassResult<Form>, Halt>
-    ensures tree { PassesTo checked.statement_form_of result
-        (c.Case (checked_expression t.old (expression_of e))
-        (checked.arms (checked_arms t.old (arms (map arm_of choices)))))
-        (statement_form_first t.old (Case (expression_of e) (arms (map arm_of choices))) first) }
-    ensures after { OnOk result (t.new ≡ arms_after t.old (arms (map arm_of choices))) }
+) -> Form
+    ensures tree { Keeps walk.old walk.new (statement_form_first t.old (Case (expression_of e) (arms
+        (map arm_of choices))) walk.old.first)
+        (checked.statement_form_of result ≡ c.Case (checked_expression t.old (expression_of e))
+        (checked.arms (checked_arms t.old (arms (map arm_of choices))))) }
+    ensures after { walk.new.is_lost ≡ false → t.new ≡ arms_after t.old (arms (map arm_of choices)) }
 {
-    let e = have!(type_wanted(alloc, t, e, Wanted::Selector, first));
-    let first = have!(check_choices(alloc, t, e.kind, choices.items(), e.first));
-    let choices = have!(type_arms(choices, alloc, t, first));
-    Ok(PassResult {
-        first: choices.first,
-        tree: Form::Case(e.tree, choices.tree),
-    })
+    let e = type_wanted(alloc, t, walk, e, Wanted::Selector);
+    walk.take(check_choices(alloc, t, e.kind, choices.items(), walk.first));
+    let choices = type_arms(choices, alloc, t, walk);
+    Form::Case(e.tree, choices)
 }
 
 /// A forall, whose index gets the type of its first limit.
@@ -210,61 +216,72 @@ fn type_forall(
     body: Boxed<NamedStmt>,
     alloc: Global,
     t: &mut Tables,
+    walk: &mut Walk,
     index: u32,
     from: NamedExpr,
     to: NamedExpr,
-    first: FirstRefusal,
-) -> Result<PassResult<Form>, Halt>
-    ensures tree { PassesTo checked.statement_form_of result
-        (c.Forall index (checked_expression t.old (expression_of from)) (checked_expression t.old (expression_of to))
+) -> Form
+    ensures tree { Keeps walk.old walk.new (statement_form_first t.old
+        (Forall index (expression_of from) (expression_of to) (statement_of body)) walk.old.first)
+        (checked.statement_form_of result
+        ≡ c.Forall index (checked_expression t.old (expression_of from)) (checked_expression t.old (expression_of to))
         (checked_statement (with_index_type t.old index (expression_kind t.old (expression_of from)))
-        (statement_of body)))
-        (statement_form_first t.old (Forall index (expression_of from) (expression_of to) (statement_of body)) first) }
-    ensures after { OnOk result (t.new ≡ form_after t.old
-        (Forall index (expression_of from) (expression_of to) (statement_of body))) }
+        (statement_of body))) }
+    ensures after { walk.new.is_lost ≡ false → t.new ≡ form_after t.old
+        (Forall index (expression_of from) (expression_of to) (statement_of body)) }
 {
-    let from = have!(type_wanted(alloc, t, from, Wanted::Range, first));
-    let to = have!(type_wanted(alloc, t, to, Wanted::Limit(from.kind), from.first));
+    let from = type_wanted(alloc, t, walk, from, Wanted::Range);
+    let to = type_wanted(alloc, t, walk, to, Wanted::Limit(from.kind));
     t.index(index, from.kind);
-    let body = have!(type_boxed(body, alloc, t, to.first));
-    Ok(PassResult {
-        first: body.first,
-        tree: Form::Forall {
+    let body = type_boxed(body, alloc, t, walk);
+    forall_form(index, from.tree, to.tree, body)
+}
+
+/// A forall. If its statement is missing, the walk is lost, and this is no answer.
+fn forall_form(index: u32, from: Expr, to: Expr, body: Option<Boxed<Stmt>>) -> Form
+    ensures { (x : c.Statement) → option_map checked.statement_of body ≡ Some x → checked.statement_form_of result
+        ≡ c.Forall index (checked.expression_of from) (checked.expression_of to) x }
+{
+    match body {
+        Some(body) => Form::Forall {
             index,
-            from: from.tree,
-            to: to.tree,
-            body: body.tree,
+            from,
+            to,
+            body,
         },
-    })
+        None => {
+            drop(to);
+            Form::Assume(from)
+        }
+    }
 }
 
-/// The statement of an `else`.
-#[cycle(statement)]
-fn type_else(
-    o: Boxed<NamedStmt>,
-    alloc: Global,
-    t: &mut Tables,
-    e: Expr,
-    s: Boxed<Stmt>,
-    first: FirstRefusal,
-) -> Result<PassResult<Form>, Halt>
-    ensures tree { PassesTo checked.statement_form_of result
-        (c.If (checked.expression_of e) (checked.statement_of s) (c.Else (checked_statement t.old (statement_of o))))
-        (statement_first t.old (statement_of o) first) }
-    ensures after { OnOk result (t.new ≡ statement_after t.old (statement_of o)) }
+/// A `for`, in the same way.
+fn for_form(
+    variable: u32,
+    at: Place,
+    from: Expr,
+    down: bool,
+    to: Expr,
+    body: Option<Boxed<Stmt>>,
+) -> Form
+    ensures { (x : c.Statement) → option_map checked.statement_of body ≡ Some x → checked.statement_form_of result
+        ≡ c.For variable at (checked.expression_of from) down (checked.expression_of to) x }
 {
-    let o = have!(type_boxed(o, alloc, t, first));
-    Ok(PassResult {
-        tree: else_form(e, s, o.tree),
-        first: o.first,
-    })
-}
-
-fn else_form(e: Expr, s: Boxed<Stmt>, o: Boxed<Stmt>) -> Form
-    ensures { checked.statement_form_of result
-        ≡ c.If (checked.expression_of e) (checked.statement_of s) (c.Else (checked.statement_of o)) }
-{
-    Form::If(e, s, Some(o))
+    match body {
+        Some(body) => Form::For {
+            variable,
+            at,
+            from,
+            down,
+            to,
+            body,
+        },
+        None => {
+            drop(to);
+            Form::Assume(from)
+        }
+    }
 }
 
 /// A `for` statement, whose limits have the type of its variable.
@@ -273,43 +290,26 @@ fn type_for(
     body: Boxed<NamedStmt>,
     alloc: Global,
     t: &mut Tables,
+    walk: &mut Walk,
     variable: u32,
     at: Place,
     from: NamedExpr,
     down: bool,
     to: NamedExpr,
-    first: FirstRefusal,
-) -> Result<PassResult<Form>, Halt>
-    ensures tree { PassesTo checked.statement_form_of result
-        (c.For variable at (checked_expression t.old (expression_of from)) down
-        (checked_expression t.old (expression_of to))
-        (checked_statement t.old (statement_of body)))
-        (statement_form_first t.old (For variable at (expression_of from) down (expression_of to) (statement_of body))
-        first) }
-    ensures after { OnOk result (t.new ≡ statement_after t.old (statement_of body)) }
+) -> Form
+    ensures tree { Keeps walk.old walk.new (statement_form_first t.old
+        (For variable at (expression_of from) down (expression_of to) (statement_of body)) walk.old.first)
+        (checked.statement_form_of result
+        ≡ c.For variable at (checked_expression t.old (expression_of from)) down
+        (checked_expression t.old (expression_of to)) (checked_statement t.old (statement_of body))) }
+    ensures after { walk.new.is_lost ≡ false → t.new ≡ statement_after t.old (statement_of body) }
 {
     let kind = t.variable_kind(variable);
-    let broken = wanted_rule(t, Wanted::Range, at, kind);
-    let from = have!(type_wanted(
-        alloc,
-        t,
-        from,
-        Wanted::Limit(kind),
-        earlier_refusal(first, broken)
-    ));
-    let to = have!(type_wanted(alloc, t, to, Wanted::Limit(kind), from.first));
-    let body = have!(type_boxed(body, alloc, t, to.first));
-    Ok(PassResult {
-        first: body.first,
-        tree: Form::For {
-            variable,
-            at,
-            from: from.tree,
-            down,
-            to: to.tree,
-            body: body.tree,
-        },
-    })
+    walk.note(wanted_rule(t, Wanted::Range, at, kind));
+    let from = type_wanted(alloc, t, walk, from, Wanted::Limit(kind));
+    let to = type_wanted(alloc, t, walk, to, Wanted::Limit(kind));
+    let body = type_boxed(body, alloc, t, walk);
+    for_form(variable, at, from.tree, down, to.tree, body)
 }
 
 #[cycle(statement)]
@@ -317,24 +317,19 @@ fn type_statements(
     ss: List<NamedStmt>,
     alloc: Global,
     t: &mut Tables,
-    first: FirstRefusal,
-) -> Result<PassResult<List<Stmt>>, Halt>
-    ensures tree { PassesTo (map checked.statement_of) result
-        (checked_statements t.old (statements (map statement_of ss)))
-        (statements_first t.old (statements (map statement_of ss)) first) }
-    ensures after { OnOk result (t.new ≡ statements_after t.old (statements (map statement_of ss))) }
+    walk: &mut Walk,
+) -> List<Stmt>
+    ensures tree { Keeps walk.old walk.new (statements_first t.old (statements (map statement_of ss)) walk.old.first)
+        (map checked.statement_of result
+        ≡ checked_statements t.old (statements (map statement_of ss))) }
+    ensures after { walk.new.is_lost ≡ false → t.new ≡ statements_after t.old (statements (map statement_of ss)) }
 {
     let mut out = Vec::new(alloc);
-    let mut first = first;
     for s in ss.into_vec() {
-        let y = have!(type_statement(s, alloc, t, first));
-        first = y.first;
-        out.push(y.tree)?;
+        let y = type_statement(s, alloc, t, walk);
+        walk.push(&mut out, y);
     }
-    Ok(PassResult {
-        tree: List::of(out),
-        first,
-    })
+    List::of(out)
 }
 
 /// The place of the first of some statements.
@@ -353,27 +348,26 @@ fn type_sequence(
     ss: List<NamedStmt>,
     alloc: Global,
     t: &mut Tables,
+    walk: &mut Walk,
     at: Place,
-    first: FirstRefusal,
-) -> Result<PassResult<Stmt>, Halt>
-    ensures tree { PassesTo checked.statement_of result
-        (in_sequence t.old.next (first_place at (statements (map statement_of ss)))
-        (checked_statements (with_next_number t.old) (statements (map statement_of ss))))
-        (statements_first (with_next_number t.old) (statements (map statement_of ss)) first) }
-    ensures after { OnOk result (t.new ≡ statements_after (with_next_number t.old) (statements (map statement_of ss))) }
+) -> Stmt
+    ensures tree { Keeps walk.old walk.new (statements_first (with_next_number t.old) (statements
+        (map statement_of ss)) walk.old.first)
+        (checked.statement_of result
+        ≡ in_sequence t.old.next (first_place at (statements (map statement_of ss)))
+        (checked_statements (with_next_number t.old) (statements (map statement_of ss)))) }
+    ensures after { walk.new.is_lost ≡ false → t.new ≡ statements_after (with_next_number t.old)
+        (statements (map statement_of ss)) }
 {
     let number = t.next;
     let at = first_place(at, ss.items());
-    have!(t.count(1));
-    let PassResult { tree, first } = have!(type_statements(ss, alloc, t, first));
-    Ok(PassResult {
-        tree: Stmt {
-            number,
-            at,
-            form: Form::Sequence(tree),
-        },
-        first,
-    })
+    walk.after(t.count(1));
+    let ss = type_statements(ss, alloc, t, walk);
+    Stmt {
+        number,
+        at,
+        form: Form::Sequence(ss),
+    }
 }
 
 #[cycle(statement)]
@@ -381,72 +375,46 @@ fn type_branches(
     bs: List<NamedBranch>,
     alloc: Global,
     t: &mut Tables,
+    walk: &mut Walk,
     at: Place,
-    first: FirstRefusal,
-) -> Result<PassResult<List<Stmt>>, Halt>
-    ensures tree { PassesTo (map checked.statement_of) result (checked_branches t.old at (branches (map branch_of bs)))
-        (branches_first t.old (branches (map branch_of bs)) first) }
-    ensures after { OnOk result (t.new ≡ branches_after t.old (branches (map branch_of bs))) }
+) -> List<Stmt>
+    ensures tree { Keeps walk.old walk.new (branches_first t.old (branches (map branch_of bs)) walk.old.first)
+        (map checked.statement_of result
+        ≡ checked_branches t.old at (branches (map branch_of bs))) }
+    ensures after { walk.new.is_lost ≡ false → t.new ≡ branches_after t.old (branches (map branch_of bs)) }
 {
     let mut out = Vec::new(alloc);
-    let mut first = first;
     for b in bs.into_vec() {
         let NamedBranch { statements } = b;
-        let y = have!(type_sequence(statements, alloc, t, at, first));
-        first = y.first;
-        out.push(y.tree)?;
+        let y = type_sequence(statements, alloc, t, walk, at);
+        walk.push(&mut out, y);
     }
-    Ok(PassResult {
-        tree: List::of(out),
-        first,
-    })
+    List::of(out)
 }
 
 #[cycle(statement)]
-fn type_arms(
-    xs: List<NamedArm>,
-    alloc: Global,
-    t: &mut Tables,
-    first: FirstRefusal,
-) -> Result<PassResult<List<Arm>>, Halt>
-    ensures tree { PassesTo (map checked.arm_of) result (checked_arms t.old (arms (map arm_of xs)))
-        (arms_first t.old (arms (map arm_of xs)) first) }
-    ensures after { OnOk result (t.new ≡ arms_after t.old (arms (map arm_of xs))) }
+fn type_arms(xs: List<NamedArm>, alloc: Global, t: &mut Tables, walk: &mut Walk) -> List<Arm>
+    ensures tree { Keeps walk.old walk.new (arms_first t.old (arms (map arm_of xs)) walk.old.first)
+        (map checked.arm_of result
+        ≡ checked_arms t.old (arms (map arm_of xs))) }
+    ensures after { walk.new.is_lost ≡ false → t.new ≡ arms_after t.old (arms (map arm_of xs)) }
 {
     let mut out = Vec::new(alloc);
-    let mut first = first;
     for x in xs.into_vec() {
-        let y = have!(type_arm(x, alloc, t, first));
-        first = y.first;
-        out.push(y.tree)?;
+        let y = type_arm(x, alloc, t, walk);
+        walk.push(&mut out, y);
     }
-    Ok(PassResult {
-        tree: List::of(out),
-        first,
-    })
+    List::of(out)
 }
 
 #[cycle(statement)]
-fn type_arm(
-    a: NamedArm,
-    alloc: Global,
-    t: &mut Tables,
-    first: FirstRefusal,
-) -> Result<PassResult<Arm>, Halt>
-    ensures tree { PassesTo checked.arm_of result (checked_arm t.old (arm_of a)) (arm_first t.old (arm_of a) first) }
-    ensures after { OnOk result (t.new ≡ arm_after t.old (arm_of a)) }
+fn type_arm(a: NamedArm, alloc: Global, t: &mut Tables, walk: &mut Walk) -> Arm
+    ensures tree { Keeps walk.old walk.new (arm_first t.old (arm_of a) walk.old.first)
+        (checked.arm_of result ≡ checked_arm t.old (arm_of a)) }
+    ensures after { walk.new.is_lost ≡ false → t.new ≡ arm_after t.old (arm_of a) }
 {
     let NamedArm { constants, body } = a;
-    let Ok(constants) = constant_numbers(alloc, t, constants.items()) else {
-        drop(body);
-        return Err(Halt::Memory);
-    };
-    let PassResult { tree, first } = have!(type_statement(body, alloc, t, first));
-    Ok(PassResult {
-        tree: Arm {
-            constants,
-            body: tree,
-        },
-        first,
-    })
+    let constants = walk.list(alloc, constant_numbers(alloc, t, constants.items()));
+    let body = type_statement(body, alloc, t, walk);
+    Arm { constants, body }
 }

@@ -1,9 +1,11 @@
-use Rattle.std.proofs.Common.{ℕ, Option}
-use Rattle.sp_tree.specs.PlainChecked as k
+use Rattle.std.proofs.Common.{sym, ◌∙◌}
+use Rattle.sp_tree.specs.PhaseResults.{earlier_refusal}
 use Rattle.sp_types.specs.Expectations.{wanted_rule}
-use Rattle.sp_types.proofs.Steps.{ruled}
 use Rattle.sp_types.proofs.checks.type_wanted.Goals as goal
 
 pub returns : goal.returns
-returns c = ruled (λ (e : k.Expression). e) (λ (j : Option ℕ). j) (wanted_rule c.args.t.now c.args.wanted) _ _ _ _ _ _
-    _ _ _ _ c.place_of-at.ensures c.in-Ok.ensures c.wanted_rule.ensures c.earlier_refusal.ensures
+returns c k =
+    let (kept, first, typed) = c.type_expression-e.ensures (sym (λ j. (c.note.ensures j).is_lost) ∙ k) in
+    let broken = c.wanted_rule.ensures
+    ∙ (λ j. wanted_rule c.args.t.now c.args.wanted (c.place_of-at.ensures j) (typed.1 j)) in
+    (kept, (λ j. (c.note.ensures j).first) ∙ (λ j. earlier_refusal (first j) (broken j)), typed)

@@ -1,9 +1,10 @@
-use Rattle.std.proofs.Common.{ℕ, Option, refl}
-use Rattle.sp_tree.specs.PlainChecked as k
+use Rattle.std.proofs.Common.{sym, ◌∙◌}
+use Rattle.sp_tree.specs.PhaseResults.{earlier_refusal}
 use Rattle.sp_types.specs.TypeRules.{width_rule}
-use Rattle.sp_types.proofs.Steps.{ruled}
 use Rattle.sp_types.proofs.checks.type_width.Goals as goal
 
 pub returns : goal.returns
-returns c = ruled (λ (e : k.Expression). e) (λ (j : Option ℕ). j) width_rule c.args.at c.args.at _ _ _ _ _ _ _ _ refl
-    c.in-Ok.ensures c.width_rule.ensures c.earlier_refusal.ensures
+returns c k =
+    let (kept, first, typed) = c.type_expression-e.ensures (sym (λ j. (c.note.ensures j).is_lost) ∙ k) in
+    let broken = c.width_rule.ensures ∙ (λ j. width_rule c.args.at (typed.1 j)) in
+    (kept, (λ j. (c.note.ensures j).first) ∙ (λ j. earlier_refusal (first j) (broken j)), typed)

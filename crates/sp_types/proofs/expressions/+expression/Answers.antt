@@ -1,34 +1,66 @@
-use Rattle.std.proofs.Common.{ℕ, ap, ◌∙◌, Some, Option, arith}
+use Rattle.std.proofs.Common.{arith, rules, ap, sym, Some, ◌≡◌, ◌∙◌}
 use Rattle.std.proofs.lemmas.Grind.{common_steps}
-use Rattle.sp_tree.specs.NamedOf.{expression_of}
-use Rattle.sp_tree.specs.PlainChecked as k
-use Rattle.sp_tree.specs.CheckedOf as checked
-use Rattle.sp_types.specs.TypeRules.{unary_rule, unary_takes, left_rule, right_rule, binary_gives, standard_rule}
+use Rattle.sp_tree.specs.declared.named.NamedExprForm.TheFolds.{the_lemmas}
+use Rattle.sp_tree.specs.NamedOf.{expression_of, expression_form_of}
+use Rattle.sp_tree.specs.PlainNamed as n
+use Rattle.sp_tree.specs.PhaseResults.{earlier_refusal}
+use Rattle.sp_types.specs.TypeRules.{unary_rule, unary_takes, left_rule, right_rule, standard_rule}
+use Rattle.sp_types.specs.Kinds.{expression_kind}
+use Rattle.sp_types.specs.TypeFirst.{at_node}
 use Rattle.sp_types.specs.TypeWalk.{place}
-use Rattle.sp_types.proofs.Steps.{ruled}
+use Rattle.sp_types.specs.Firsts.{expression_first}
 use Rattle.sp_types.proofs.expressions.+expression.Goals as goal
 
-pub type_left-returns : goal.type_left-returns
-type_left-returns t c = ruled (λ (e : k.Expression). e) (λ (j : Option ℕ). j) (left_rule c.args.t.now c.args.op) _ _ _ _
-    _ _ _ _ _ _ (c.place_of-at.ensures ∙ ap (λ e. place (expression_of e)) c.get.ensures) c.in-Ok.ensures
-    c.left_rule.ensures c.earlier_refusal.ensures
+pub type_form-returns-in-Quoted : goal.type_form-returns-in-Quoted
+type_form-returns-in-Quoted t c k =
+    let i : expression_form_of c.args.form ≡ n.Quoted c.in-Quoted.text = search (rules, the_lemmas) in
+    rw i (c.type_text.ensures c.args.t.now k)
 
-pub type_operand-returns : goal.type_operand-returns
-type_operand-returns t c = ruled (λ (e : k.Expression). e) (λ (j : Option ℕ). j) (standard_rule c.args.t.now c.args.f) _
-    _ _ _ _ _ _ _ _ _ c.place_of-at.ensures c.in-Ok.ensures c.standard_rule.ensures c.earlier_refusal.ensures
+pub type_form-returns-in-Binary : goal.type_form-returns-in-Binary
+type_form-returns-in-Binary t c k =
+    let a = expression_of c.in-Binary.a in
+    let b = expression_of c.in-Binary.b in
+    let i : expression_form_of c.args.form ≡ n.Binary c.in-Binary.op a b = search (rules, the_lemmas) in
+    let (before, right_first, right) = c.type_right-b.ensures k in
+    let (kept, left_first, left) = c.type_left-a.ensures before in
+    rw i (
+      kept,
+      right_first ∙ (λ j. at_node
+          (right_rule c.args.t.now c.in-Binary.op (place b) (left.1 j) (expression_kind c.args.t.now b))
+          (expression_first c.args.t.now b (left_first j))),
+      (c.binary.ensures _ _ left.0 right.0, ap Some c.binary_gives.ensures),
+    )
+
+pub type_left-returns : goal.type_left-returns
+type_left-returns t c k =
+    let (kept, first, typed) = c.type_boxed-e.ensures (sym (λ j. (c.note.ensures j).is_lost) ∙ k) in
+    let at = c.place_of-at.ensures ∙ ap (λ e. place (expression_of e)) c.get.ensures in
+    let broken = c.left_rule.ensures ∙ (λ j. left_rule c.args.t.now c.args.op (at j) (typed.1 j)) in
+    (kept, (λ j. (c.note.ensures j).first) ∙ (λ j. earlier_refusal (first j) (broken j)), typed)
 
 pub type_right-returns : goal.type_right-returns
-type_right-returns t c = rw (c.binary_gives.ensures, c.binary.ensures)
-    (ruled (λ (e : k.Expression). k.Binary c.args.op (checked.expression_of c.args.a) e)
-    (λ (j : Option ℕ). Some (binary_gives c.args.op)) (λ p j. right_rule c.args.t.now c.args.op p c.args.left j) _ _ _ _
-    _ _ _ _ _ _ (c.place_of-at.ensures ∙ ap (λ e. place (expression_of e)) c.get.ensures) c.in-Ok.ensures
-    c.right_rule.ensures c.earlier_refusal.ensures)
+type_right-returns t c k =
+    let (kept, first, typed) = c.type_boxed-e.ensures (sym (λ j. (c.note.ensures j).is_lost) ∙ k) in
+    let at = c.place_of-at.ensures ∙ ap (λ e. place (expression_of e)) c.get.ensures in
+    let broken = c.right_rule.ensures ∙ (λ j. right_rule c.args.t.now c.args.op (at j) c.args.left (typed.1 j)) in
+    (kept, (λ j. (c.note.ensures j).first) ∙ (λ j. earlier_refusal (first j) (broken j)), typed)
 
 pub type_unary-returns : goal.type_unary-returns
-type_unary-returns t c = rw (c.unary_takes.ensures, c.unary.ensures)
-    (ruled (λ (e : k.Expression). k.Unary c.args.op e) (λ (j : Option ℕ). Some (unary_takes c.args.op))
-    (unary_rule c.args.op) _ _ _ _ _ _ _ _ _ _ (c.place_of-at.ensures ∙ ap (λ e. place (expression_of e)) c.get.ensures)
-    c.in-Ok.ensures c.unary_rule.ensures c.earlier_refusal.ensures)
+type_unary-returns t c k =
+    let (kept, first, typed) = c.type_boxed-e.ensures (sym (λ j. (c.note.ensures j).is_lost) ∙ k) in
+    let at = c.place_of-at.ensures ∙ ap (λ e. place (expression_of e)) c.get.ensures in
+    let broken = c.unary_rule.ensures ∙ (λ j. unary_rule c.args.op (at j) (typed.1 j)) in (
+      kept,
+      (λ j. (c.note.ensures j).first) ∙ (λ j. earlier_refusal (first j) (broken j)),
+      (c.unary.ensures _ typed.0, ap Some c.unary_takes.ensures),
+    )
+
+pub type_operand-returns : goal.type_operand-returns
+type_operand-returns t c k =
+    let (kept, first, typed) = c.type_expression-e.ensures (sym (λ j. (c.note.ensures j).is_lost) ∙ k) in
+    let broken = c.standard_rule.ensures
+    ∙ (λ j. standard_rule c.args.t.now c.args.f (c.place_of-at.ensures j) (typed.1 j)) in
+    (kept, (λ j. (c.note.ensures j).first) ∙ (λ j. earlier_refusal (first j) (broken j)), typed)
 
 pub type_selectors-loop-x-preserved : goal.type_selectors-loop-x-preserved
 type_selectors-loop-x-preserved t c = grind (arith, common_steps)

@@ -1,18 +1,52 @@
-use Rattle.std.proofs.Common.{arith}
+use Rattle.std.proofs.Common.{arith, option_map, ◌∙◌}
 use Rattle.std.proofs.lemmas.Grind.{common_steps}
+use Rattle.sp_tree.specs.CheckedOf as checked
+use Rattle.sp_tree.specs.NamedOf.{expression_of}
+use Rattle.sp_tree.specs.PlainChecked as plain
+use Rattle.sp_types.specs.declared.rules.Wanted.TheVariants as wanted
+use Rattle.sp_types.specs.CheckedTree.{checked_expression}
+use Rattle.sp_types.specs.Expectations.{wanted_rule}
+use Rattle.sp_types.specs.Firsts.{expression_first}
+use Rattle.sp_types.specs.Kinds.{expression_kind}
+use Rattle.sp_types.specs.TypeFirst.{at_node}
+use Rattle.sp_types.specs.TypeWalk.{place}
 use Rattle.sp_types.proofs.statements.+statement.Goals as goal
 
 pub type_statements-loop-s-preserved : goal.type_statements-loop-s-preserved
 type_statements-loop-s-preserved t c = grind (arith, common_steps)
 
+pub type_statements-returns-clause-tree : goal.type_statements-returns-clause-tree
+type_statements-returns-clause-tree t c = grind (arith, common_steps)
+
+pub type_statements-returns-clause-after : goal.type_statements-returns-clause-after
+type_statements-returns-clause-after t c = grind (arith, common_steps)
+
 pub type_arms-loop-x-preserved : goal.type_arms-loop-x-preserved
 type_arms-loop-x-preserved t c = grind (arith, common_steps)
 
-pub type_statements-returns : goal.type_statements-returns
-type_statements-returns t c = grind (arith, common_steps)
+pub type_arms-returns-clause-tree : goal.type_arms-returns-clause-tree
+type_arms-returns-clause-tree t c = grind (arith, common_steps)
 
-pub type_arms-returns : goal.type_arms-returns
-type_arms-returns t c = grind (arith, common_steps)
+pub type_arms-returns-clause-after : goal.type_arms-returns-clause-after
+type_arms-returns-clause-after t c = grind (arith, common_steps)
 
-pub type_branches-returns : goal.type_branches-returns
-type_branches-returns t c = grind (arith, common_steps)
+pub type_branches-returns-clause-tree : goal.type_branches-returns-clause-tree
+type_branches-returns-clause-tree t c = grind (arith, common_steps)
+
+pub type_branches-returns-clause-after : goal.type_branches-returns-clause-after
+type_branches-returns-clause-after t c = grind (arith, common_steps)
+
+pub type_repeat-returns-clause-tree : goal.type_repeat-returns-clause-tree
+type_repeat-returns-clause-tree t c k =
+    let e = expression_of c.args.e in
+    let (kept, condition_first, (condition, kind)) = c.type_wanted-e.ensures k in
+    let (before, same_first, boxed) = c.boxed-s.ensures kept in
+    let (from, body_first, body) = c.type_sequence-s.ensures.tree before in
+    let after = c.type_sequence-s.ensures.after before in (
+      from,
+      condition_first
+          ∙ (λ j. at_node (wanted_rule (after j) wanted.Condition (place e) (expression_kind (after j) e))
+          (expression_first (after j) e ((same_first ∙ body_first) j))),
+      c.repeat_form.ensures _ (λ j. option_map checked.statement_of (boxed j))
+          ∙ (λ j. plain.Repeat (body j) ((condition ∙ (λ i. checked_expression (after i) e)) j)),
+    )
