@@ -53,16 +53,14 @@ fn tell_execution(alloc: Global, closed: Closed) -> Result<Answer, Ending>
     requires { HasLines closed.end }
     ensures { TellsExecution closed result }
 {
-    match end_lines(alloc, closed.end()) {
-        Ok(notes) => Ok(Answer {
-            ending: ending_of(closed.end()),
-            ran: None,
-            executed: Some(closed),
-            output: None,
-            notes: Text::of(notes),
-        }),
-        Err(_) => Err(Ending::OutOfMemory),
-    }
+    let notes = end_lines(alloc, closed.end())?;
+    Ok(Answer {
+        ending: ending_of(closed.end()),
+        ran: None,
+        executed: Some(closed),
+        output: None,
+        notes: Text::of(notes),
+    })
 }
 
 /// Runs the code file that is asked for on the input, where its code breaks no rule, and tells of the run.

@@ -157,16 +157,14 @@ fn tell_replay(alloc: Global, account: Account) -> Result<Answer, Ending>
     requires lines { HasEndLines account.end }
     ensures { TellsReplay account result }
 {
-    match replay_notes(alloc, &account.end) {
-        Ok(notes) => Ok(Answer {
-            ending: ending_of_replay(&account.end),
-            ran: None,
-            executed: None,
-            output: Some(account.text),
-            notes: Text::of(notes),
-        }),
-        Err(_) => Err(Ending::OutOfMemory),
-    }
+    let notes = replay_notes(alloc, &account.end)?;
+    Ok(Answer {
+        ending: ending_of_replay(&account.end),
+        ran: None,
+        executed: None,
+        output: Some(account.text),
+        notes: Text::of(notes),
+    })
 }
 
 // The code of the text in this file, and its tree, marks and names.

@@ -59,16 +59,14 @@ fn reported(
     requires run { IsReadyRun ran }
     ensures { ReportsRun (reports text title watchers.items) (Reports show) ran result }
 {
-    match run_notes(alloc, watchers, show, &ran) {
-        Ok(notes) => Ok(Answer {
-            ending: ending_of(ran.closed.end()),
-            ran: Some(ran),
-            executed: None,
-            output: None,
-            notes: Text::of(notes),
-        }),
-        Err(_) => Err(Ending::OutOfMemory),
-    }
+    let notes = run_notes(alloc, watchers, show, &ran)?;
+    Ok(Answer {
+        ending: ending_of(ran.closed.end()),
+        ran: Some(ran),
+        executed: None,
+        output: None,
+        notes: Text::of(notes),
+    })
 }
 
 // Tells of a run by the witness of its race, its end and its verdict.
@@ -76,19 +74,15 @@ fn witnessed(alloc: Global, ran: Ran) -> Result<Answer, Ending>
     requires run { IsReadyRun ran }
     ensures { (made : AReports) → ReportsRun made Witness ran result }
 {
-    let Ok(output) = witness_text(alloc, &ran) else {
-        return Err(Ending::OutOfMemory);
-    };
-    match end_lines(alloc, &ran) {
-        Ok(notes) => Ok(Answer {
-            ending: ending_of(ran.closed.end()),
-            ran: Some(ran),
-            executed: None,
-            output: Some(Text::of(output)),
-            notes: Text::of(notes),
-        }),
-        Err(_) => Err(Ending::OutOfMemory),
-    }
+    let output = witness_text(alloc, &ran)?;
+    let notes = end_lines(alloc, &ran)?;
+    Ok(Answer {
+        ending: ending_of(ran.closed.end()),
+        ran: Some(ran),
+        executed: None,
+        output: Some(Text::of(output)),
+        notes: Text::of(notes),
+    })
 }
 
 /// Tells of a run.
@@ -113,16 +107,14 @@ fn tell_generated(alloc: Global, size: u32, ran: Ran) -> Result<Answer, Ending>
     requires run { IsReadyRun ran }
     ensures { ReportsGenerated size ran result }
 {
-    match generated_output(alloc, size, &ran) {
-        Ok(output) => Ok(Answer {
-            ending: ending_of(ran.closed.end()),
-            ran: Some(ran),
-            executed: None,
-            output: Some(Text::of(output)),
-            notes: Text::of(Vec::new(alloc)),
-        }),
-        Err(_) => Err(Ending::OutOfMemory),
-    }
+    let output = generated_output(alloc, size, &ran)?;
+    Ok(Answer {
+        ending: ending_of(ran.closed.end()),
+        ran: Some(ran),
+        executed: None,
+        output: Some(Text::of(output)),
+        notes: Text::of(Vec::new(alloc)),
+    })
 }
 
 /// Makes the program of this size, runs it on no input, and tells of the run.
