@@ -415,12 +415,14 @@ module _ (g : RunInput) (code : Code) (w : Identity) (Named : Channel → ℕ �
         sources_are = refl;
         machines_are = ap (λ z. jm ∷ z) t.frames.machines_are;
         paired = (
-          (sym (ap (λ (y : Layout). y.block) el), (b, eb)),
-          sym (ap length out.0 ∙ machines_length (j ∷ rest)),
-          (from_length (suc (length rest)) js j rest (up_from up js j rest eu)).1,
-          refl,
-          t.frames.process,
-          references_are,
+          record {
+            homes = (sym (ap (λ (y : Layout). y.block) el), (b, eb));
+            link_is = sym (ap length out.0 ∙ machines_length (j ∷ rest));
+            link_low = (from_length (suc (length rest)) js j rest (up_from up js j rest eu)).1;
+            number_is = refl;
+            owner_is = t.frames.process;
+            references = references_are;
+          },
           t.frames.paired,
         );
         process = t.frames.process;

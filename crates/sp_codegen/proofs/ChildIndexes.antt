@@ -192,7 +192,7 @@ module _ (p : Program) (formed : IsFormed p) (ls : List Layout) (laid : Laid p l
   index_spot (sp ∷ sc) n [] ch pa l up e j rest u = let z : [] ≡ ch.0 ∷ ch.1 = ch.2 in absurd (cc z)
   index_spot (sp ∷ sc) zero (k ∷ js) ch pa l up e j rest u = absurd (omega (arith, l))
   index_spot (sp ∷ sc) (suc n) (k ∷ js) (joint, over, list_is, home_is, further_out)
-      (homes, link_is, link_low, _, _, _, others) l up e j rest u =
+      (pair, others) l up e j rest u =
       by_test (λ z d a b c f g. index_spot sc n z d a b c f j rest g) (is_index x sp) refl e
     where
       same : (k ≡ joint) × (js ≡ over)
@@ -217,8 +217,8 @@ module _ (p : Program) (formed : IsFormed p) (ls : List Layout) (laid : Laid p l
       outer = spot_from ls n (last_frames k.machine.link (machines js)) x
 
       outer_is : outer ≡ spot_from ls n (machines (pairs_from k.source.link js)) x
-      outer_is = ap (λ z. spot_from ls n (last_frames z (machines js)) x) (sym link_is)
-          ∙ ap (λ z. spot_from ls n z x) (last_machines k.source.link js link_low)
+      outer_is = ap (λ z. spot_from ls n (last_frames z (machines js)) x) (sym pair.link_is)
+          ∙ ap (λ z. spot_from ls n z x) (last_machines k.source.link js pair.link_low)
 
       here : (t : Scope) (a : Home) (c : m.Home) → HomeIs t a → HomesAre p a c → is_index x t ≡ true
           → spot_in ls k.machine c x ≡ Some (spot_at k.machine.number 0)
@@ -249,12 +249,12 @@ module _ (p : Program) (formed : IsFormed p) (ls : List Layout) (laid : Laid p l
       by_test ih true t d =
           let zero_up : 0 ≡ up = cc d in
           let kj : k ∷ js ≡ j ∷ rest = ap (λ z. up_at z (k ∷ js)) zero_up ∙ u in
-          ap (λ z. or_outward z outer) (here sp k.source.home k.machine.home home homes t)
+          ap (λ z. or_outward z outer) (here sp k.source.home k.machine.home home pair.homes t)
           ∙ ap (λ (z : FramePair). Some (spot_at z.machine.number 0)) (first_of kj)
         where
           first_of : k ∷ js ≡ j ∷ rest → k ≡ j
           first_of e = cc e
-      by_test ih false t d = ap (λ z. or_outward z outer) (not_here sp k.source.home k.machine.home home homes t)
+      by_test ih false t d = ap (λ z. or_outward z outer) (not_here sp k.source.home k.machine.home home pair.homes t)
           ∙ outer_is ∙ further (level (is_index x) sc) refl d
         where
           further : (o : Option ℕ) → level (is_index x) sc ≡ o → one_more o ≡ Some up

@@ -302,10 +302,10 @@ module _ (p : Program) (formed : IsFormed p) (ls : List Layout) (laid : Laid p l
     -- in its block's frame
     here_is : (j : FramePair) (js : List FramePair) → Paired p Called (j ∷ js) → j.source.home ≡ OfBlock v.block
         → (o : Option Spot) → SpotIs j js (or_outward (spot_in ls j.machine j.machine.home x) o)
-    here_is j js (homes, _, _, _, _, references, _) home o = by_role v.role refl hs
+    here_is j js (pair, _) home o = by_role v.role refl hs
       where
         ho : HomesAre p (OfBlock v.block) j.machine.home
-        ho = subst (λ z. HomesAre p z j.machine.home) home homes
+        ho = subst (λ z. HomesAre p z j.machine.home) home pair.homes
 
         mh : j.machine.home ≡ m.OfBlock v.block
         mh = home_block p v.block j.machine.home ho
@@ -331,7 +331,7 @@ module _ (p : Program) (formed : IsFormed p) (ls : List Layout) (laid : Laid p l
         by_role role.Local e h = by_own (subst Owns (sym e) tt)
         by_role role.Value e h = by_own (subst Owns (sym e) tt)
         by_role role.Reference e h =
-            let (source, source_is, _, to) = references x v ev home e in
+            let (source, source_is, _, to) = pair.references x v ev home e in
             let (target, target_is, points) = to in
             inr (
               e,
@@ -377,7 +377,7 @@ module _ (p : Program) (formed : IsFormed p) (ls : List Layout) (laid : Laid p l
         → locate fits n js ≡ j ∷ rest → SpotIs j rest (spot_from ls n (machines js) x)
     spot_along zero js pa l j rest e = absurd (cc e)
     spot_along (suc n) [] pa l j rest e = absurd (cc e)
-    spot_along (suc n) (k ∷ js) (homes, link_is, link_low, number_is, called, references, others) l j rest e =
+    spot_along (suc n) (k ∷ js) (pair, others) l j rest e =
         go (fits k.source.home) refl (λ d. spot_along n (pairs_from k.source.link js)
         (paired_from p Called k.source.link js others) (let s = from_short k.source.link js in omega (arith, l, s)) j
         rest
@@ -387,8 +387,8 @@ module _ (p : Program) (formed : IsFormed p) (ls : List Layout) (laid : Laid p l
         outer = spot_from ls n (last_frames k.machine.link (machines js)) x
 
         outer_is : outer ≡ spot_from ls n (machines (pairs_from k.source.link js)) x
-        outer_is = ap (λ z. spot_from ls n (last_frames z (machines js)) x) (sym link_is)
-            ∙ ap (λ z. spot_from ls n z x) (last_machines k.source.link js link_low)
+        outer_is = ap (λ z. spot_from ls n (last_frames z (machines js)) x) (sym pair.link_is)
+            ∙ ap (λ z. spot_from ls n z x) (last_machines k.source.link js pair.link_low)
 
         go : (b : Bool) → fits k.source.home ≡ b
             → (locate fits n (pairs_from k.source.link js) ≡ j ∷ rest
@@ -400,8 +400,7 @@ module _ (p : Program) (formed : IsFormed p) (ls : List Layout) (laid : Laid p l
             let jr : js ≡ rest = ap (λ z. rest_of z) e in
             subst (λ z. SpotIs z rest (or_outward (spot_in ls k.machine k.machine.home x) outer)) kj
             (subst (λ z. SpotIs k z (or_outward (spot_in ls k.machine k.machine.home x) outer)) jr
-            (here_is k js (homes, link_is, link_low, number_is, called, references, others)
-            (home_is v.block k.source.home t) outer))
+            (here_is k js (pair, others) (home_is v.block k.source.home t) outer))
           where
             a_joint : FramePair → List FramePair → FramePair
             a_joint d [] = d
@@ -411,8 +410,8 @@ module _ (p : Program) (formed : IsFormed p) (ls : List Layout) (laid : Laid p l
             rest_of [] = []
             rest_of (i ∷ is) = is
         go false t ih e = subst (λ z. SpotIs j rest z)
-            (sym (ap (λ z. or_outward z outer) (not_here k.source.home k.machine.home k.machine homes t) ∙ outer_is))
-            (ih e)
+            (sym (ap (λ z. or_outward z outer) (not_here k.source.home k.machine.home k.machine pair.homes t)
+            ∙ outer_is)) (ih e)
 
     pub located_from : (n : ℕ) (js : List FramePair) (j : FramePair) (rest : List FramePair)
         → locate fits n js ≡ j ∷ rest
@@ -487,7 +486,7 @@ module _ (p : Program) (formed : IsFormed p) (ls : List Layout) (laid : Laid p l
             → SpotIs j rest (spot_from ls (length js) (machines js) x) → SpotFound js q h y
         at_frame j rest d (inl o) =
             let lf = located_from (length js) js j rest d in
-            let (_, _, _, number, _, _, _) = subst (Paired p Called) lf.0
+            let pa_here = subst (Paired p Called) lf.0
             (paired_from p Called (suc (length rest)) js pa) in
             let cell : Some (Cell j.source.owner j.source.number x) ≡ Some (Cell q h y) =
             sym (owned_by v.role o.0 ∙ ap (cell_of x) (found_is ∙ ap top d)) ∙ stood in
@@ -501,7 +500,7 @@ module _ (p : Program) (formed : IsFormed p) (ls : List Layout) (laid : Laid p l
                 owns = o.0;
                 joint = j;
                 rest = rest;
-                frame_at = ap (λ z. pairs_from (suc z) js) (sym h_is ∙ number) ∙ lf.0;
+                frame_at = ap (λ z. pairs_from (suc z) js) (sym h_is ∙ pa_here.0.number_is) ∙ lf.0;
                 owner_is = q_is;
                 home = home_is v.block j.source.home lf.1;
               };
@@ -547,13 +546,13 @@ module _ (p : Program) (formed : IsFormed p) (ls : List Layout) (laid : Laid p l
         → spot_from ls n (machines js) x ≡ None
     nowhere zero js pa d = refl
     nowhere (suc n) [] pa d = refl
-    nowhere (suc n) (k ∷ js) (homes, link_is, link_low, _, _, _, others) d = go (fits k.source.home) refl
+    nowhere (suc n) (k ∷ js) (pair, others) d = go (fits k.source.home) refl
         (λ e. nowhere n (pairs_from k.source.link js) (paired_from p Called k.source.link js others) e) d
       where
         outer_is : spot_from ls n (last_frames k.machine.link (machines js)) x
             ≡ spot_from ls n (machines (pairs_from k.source.link js)) x
-        outer_is = ap (λ z. spot_from ls n (last_frames z (machines js)) x) (sym link_is)
-            ∙ ap (λ z. spot_from ls n z x) (last_machines k.source.link js link_low)
+        outer_is = ap (λ z. spot_from ls n (last_frames z (machines js)) x) (sym pair.link_is)
+            ∙ ap (λ z. spot_from ls n z x) (last_machines k.source.link js pair.link_low)
 
         go : (b : Bool) → fits k.source.home ≡ b
             → (locate fits n (pairs_from k.source.link js) ≡ []
@@ -563,7 +562,7 @@ module _ (p : Program) (formed : IsFormed p) (ls : List Layout) (laid : Laid p l
             (spot_from ls n (last_frames k.machine.link (machines js)) x) ≡ None
         go true t ih e = absurd (cc e)
         go false t ih e = ap (λ z. or_outward z (spot_from ls n (last_frames k.machine.link (machines js)) x))
-            (not_here k.source.home k.machine.home k.machine homes t) ∙ outer_is ∙ ih e
+            (not_here k.source.home k.machine.home k.machine pair.homes t) ∙ outer_is ∙ ih e
 
     pub stands_for : (js : List FramePair) → Paired p Called js → nat_lt x 2 ≡ false → (q : Spot)
         → spot_of ls (machines js) x ≡ Some q → (n : Name) × (h : ℕ) × (y : ℕ)

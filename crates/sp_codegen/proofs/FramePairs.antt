@@ -122,9 +122,7 @@ last_machines n (j ∷ js) l = go (λ less. last_machines n js less) (length (j 
 module _ (p : Program) (Called : Name → ℕ → Type 0) where
   pub paired_from : (n : ℕ) (js : List FramePair) → Paired p Called js → Paired p Called (pairs_from n js)
   paired_from n [] h = tt
-  paired_from n (j ∷ js) h =
-      let (_, _, _, _, _, _, others) = h in
-      go (paired_from n js others) (length (j ∷ js) == n)
+  paired_from n (j ∷ js) h = go (paired_from n js h.1) (length (j ∷ js) == n)
     where
       go : Paired p Called (pairs_from n js) → (b : Bool) → Paired p Called (if b then j ∷ js else pairs_from n js)
       go ih true = h
@@ -133,14 +131,14 @@ module _ (p : Program) (Called : Name → ℕ → Type 0) where
   pub paired_up : (up : ℕ) (js : List FramePair) → Paired p Called js → Paired p Called (up_at up js)
   paired_up zero js h = h
   paired_up (suc up) [] h = tt
-  paired_up (suc up) (j ∷ js) (_, _, _, _, _, _, others) =
+  paired_up (suc up) (j ∷ js) (_, others) =
       paired_up up (pairs_from j.source.link js) (paired_from j.source.link js others)
 
   pub frames_up_is : (up : ℕ) (js : List FramePair) → Paired p Called js
       → frames_up up (machines js) ≡ machines (up_at up js)
   frames_up_is zero js h = refl
   frames_up_is (suc up) [] h = refl
-  frames_up_is (suc up) (j ∷ js) (_, link_is, link_low, _, _, _, others) =
-      ap (λ n. frames_up up (last_frames n (machines js))) (sym link_is)
-      ∙ ap (λ z. frames_up up z) (last_machines j.source.link js link_low)
+  frames_up_is (suc up) (j ∷ js) (pair, others) =
+      ap (λ n. frames_up up (last_frames n (machines js))) (sym pair.link_is)
+      ∙ ap (λ z. frames_up up z) (last_machines j.source.link js pair.link_low)
       ∙ frames_up_is up (pairs_from j.source.link js) (paired_from j.source.link js others)

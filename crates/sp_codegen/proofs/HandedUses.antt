@@ -213,8 +213,7 @@ module _ (g : RunInput) (code : Code) (w : Identity) (Named : Channel → ℕ �
             let lf = located_from p formed code.layouts laid Called y v ev (subst HasSpot (sym rv) tt) (length js) js j
             rest d in
             let pa = subst (Paired p Called) lf.0 (paired_from p Called (suc (length rest)) js t.frames.paired) in
-            let (_, _, _, _, _, references, _) = pa in
-            let (source, source_is, _, to) = references y v ev (home_is v.block j.source.home lf.1) rv in
+            let (source, source_is, _, to) = pa.0.references y v ev (home_is v.block j.source.home lf.1) rv in
             let (_, _, points) = to in
             let z : Some source.spot ≡ Some c = sym (ap (reference_of y) (found_is ∙ ap top d) ∙ ap loc_of source_is)
             ∙ e in
@@ -295,7 +294,7 @@ module _ (g : RunInput) (code : Code) (w : Identity) (Named : Channel → ℕ �
         let f = found (is_index_home used) (is_index used) (index_agrees used) sc js up chain level_is in
         let fj : f.frame ≡ holder = first_same f.frame holder f.rest above (sym f.frame_at ∙ outward) in
         let pa = subst (Paired p Called) at (paired_from p Called (suc k) js t.frames.paired) in
-        let v = index_known used holder.source.home holder.machine.home pa.0
+        let v = index_known used holder.source.home holder.machine.home pa.0.homes
         (subst (λ (y : FramePair). is_index_home used y.source.home ≡ true) fj f.fit) in (
           held,
           handed_if used (spot_at j.machine.number 0) (inr ([], seen)) other

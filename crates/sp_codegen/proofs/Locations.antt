@@ -233,8 +233,7 @@ module _ (g : RunInput) (code : Code) (w : Identity) (Named : Channel → ℕ �
       → (v : Variable) → slice_get p.variables x ≡ Some v → j.source.home ≡ OfBlock v.block → Owns v.role
       → (a : Address) × (ops.addr up (slot p x) n ≡ Some a) × PointsTo p js (in_frame g x v j.source) a
   addr_law {js} t up x j rest e v kv hv ov =
-      let (machines_are, paired) = outward t up j rest e in
-      let (_, _, _, number_is, _, _, _) = paired in (
+      let (machines_are, paired) = outward t up j rest e in (
         cell_at j.machine.number (slot p x),
         ap (λ fs. addr_in fs (slot p x)) machines_are,
         record {
@@ -248,7 +247,7 @@ module _ (g : RunInput) (code : Code) (w : Identity) (Named : Channel → ℕ �
             owns = ov;
             joint = j;
             rest = rest;
-            frame_at = subst (λ z. pairs_from (suc z) js ≡ j ∷ rest) (sym number_is) (up_from up js j rest e);
+            frame_at = subst (λ z. pairs_from (suc z) js ≡ j ∷ rest) (sym paired.0.number_is) (up_from up js j rest e);
             owner_is = refl;
             home = hv;
           };
@@ -265,8 +264,7 @@ module _ (g : RunInput) (code : Code) (w : Identity) (Named : Channel → ℕ �
       × ((a : Address) × (ops.deref up (slot p x) n ≡ Some a) × PointsTo p js r a)
   deref_law {js} t up x j rest e v kv hv rv =
       let (machines_are, paired) = outward t up j rest e in
-      let (_, _, _, _, _, references, _) = paired in
-      let (source, source_is, kind_is, found) = references x v kv hv rv in
+      let (source, source_is, kind_is, found) = paired.0.references x v kv hv rv in
       let (target, target_is, points) = found in (
         source,
         source_is,
@@ -285,12 +283,21 @@ module _ (g : RunInput) (code : Code) (w : Identity) (Named : Channel → ℕ �
       → j.source.home ≡ OfIndex x v
       → J (length rest)
       → (a : Address) × (ops.addr up 0 n ≡ Some a)
-      × FixesTo g code w Named Called W R J low base born since pause moved js v a
+      × FixesTo J js v a
   index_law {js} t up x v j rest e hv jh =
       let u = outward t up j rest e in (
         cell_at j.machine.number 0,
         ap (λ fs. addr_in fs 0) u.0,
-        (length rest, j, rest, x, jh, up_from up js j rest e, hv, refl),
+        record {
+          height = length rest;
+          frame = j;
+          rest = rest;
+          index = x;
+          is_held = jh;
+          from = up_from up js j rest e;
+          home_is = hv;
+          address_is = refl;
+        },
       )
 
   -- what an address leads to
@@ -406,10 +413,11 @@ module _ (g : RunInput) (code : Code) (w : Identity) (Named : Channel → ℕ �
 
   pub load_index_law : {js : List FramePair} {o : LocalState} {s : Store} {n : Memory Plain} → St js o s n
       → (v : ℤ) (t : Address)
-      → FixesTo g code w Named Called W R J low base born since pause moved js v t → (ops.has t 1 n ≡ true)
+      → FixesTo J js v t → (ops.has t 1 n ≡ true)
       × (ops.read t n ≡ cell.Ordinal v)
-  load_index_law {js} {o} {s} {n} st v t (height, frame, rest, index, held, from, home, address_is) =
-      let e = st.indexes height held frame rest index v from home in (
+  load_index_law {js} {o} {s} {n} st v t fixes =
+      let e = st.indexes fixes.height fixes.is_held fixes.frame fixes.rest fixes.index v fixes.from fixes.home_is in
+      let address_is = fixes.address_is in (
         ap (λ (z : Address). has_cells (piece_of (map.get n.store.map z.spot)) z.offset 1) address_is
             ∙ ap (λ z. has_cells z 0 1) e,
         ap (λ (z : Address). slice_index_or (cells_in (piece_of (map.get n.store.map z.spot))) z.offset cell.Undefined)

@@ -128,9 +128,9 @@ module _ (g : RunInput) (code : Code) (w : Identity) (Named : Channel → ℕ �
       → (a : Address) × ((ops g code w Named Called W R J low base born since pause moved formed).answer n ≡ Some a)
       × PointsTo p (j ∷ js) (in_frame g x v j.source) a
   result_law {j} {js} {o} {s} {n} t b k x v hj eb ea ev er ek =
-      let (homes, _, _, number_is, _, _, _) = t.frames.paired in
+      let pair = t.frames.paired.0 in
       let mh : j.machine.home ≡ m.OfBlock k =
-      home_block p k j.machine.home (subst (λ y. HomesAre p y j.machine.home) hj homes) in
+      home_block p k j.machine.home (subst (λ y. HomesAre p y j.machine.home) hj pair.homes) in
       let l = laid k b eb in
       let len : length l.0.formals ≡ slot p x = ap (λ (y : Layout). length y.formals) l.2 ∙ length_of_map _ b.formals
       ∙ sym (answer_slot p formed k b x v eb ea ev er ek) in (
@@ -149,7 +149,7 @@ module _ (g : RunInput) (code : Code) (w : Identity) (Named : Channel → ℕ �
             owns = subst Owns (sym er) tt;
             joint = j;
             rest = js;
-            frame_at = subst (λ y. pairs_from (suc y) (j ∷ js) ≡ j ∷ js) (sym number_is) (from_here j js);
+            frame_at = subst (λ y. pairs_from (suc y) (j ∷ js) ≡ j ∷ js) (sym pair.number_is) (from_here j js);
             owner_is = refl;
             home = hj ∙ ap OfBlock (sym ek);
           };
@@ -234,7 +234,7 @@ module _ (g : RunInput) (code : Code) (w : Identity) (Named : Channel → ℕ �
             store = without_newest_frame n.store;
           })
       after =
-          let (homes, _, _, _, _, _, others) = t.frames.paired in
+          let (pair, others) = t.frames.paired in
           record {
             frames = record {
               sources_are = refl;
@@ -244,7 +244,7 @@ module _ (g : RunInput) (code : Code) (w : Identity) (Named : Channel → ℕ �
               owners = t.frames.owners.1;
               depth = ap (λ z. z - 1) t.frames.depth;
               cells = ap (λ z. z - source.cells_of_home g j.source.home) t.frames.cells
-                  ∙ ap (λ z. n.cells - z) (homes_cells j.source.home j.machine.home homes);
+                  ∙ ap (λ z. n.cells - z) (homes_cells j.source.home j.machine.home pair.homes);
               fits = let a = t.frames.fits in omega (arith, a);
               shallow = let a = t.frames.shallow in omega (arith, a);
               own_frames = ap (λ ns. take (length ns - 1) ns) own_is ∙ take_front (made_frames base js) number;

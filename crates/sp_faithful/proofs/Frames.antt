@@ -126,7 +126,7 @@ frame_at p Called (j ∷ js) zero f e k = record {
   from = from_here j js;
   paired = k;
 }
-frame_at p Called (j ∷ js) (suc h) f e (_, _, _, _, _, _, others) =
+frame_at p Called (j ∷ js) (suc h) f e (_, others) =
     let z = frame_at p Called js h f e others in
     record {
       joint = z.joint;
@@ -247,7 +247,7 @@ module _ (tree : c.Program) (input : List ℕ) (limits : Limits) (moves shares :
               ∙ ap (cell_at at.joint.machine.number) (sym number)
 
           number_is : at.joint.source.number ≡ length at.rest
-          number_is = let (_, _, _, number_is, _, _, _) = at.paired in number_is
+          number_is = at.paired.0.number_is
 
           points : PointsTo p js (in_frame g x (variable_of u) o) (cell_at at.joint.machine.number (slot p x))
           points = record {
@@ -270,9 +270,8 @@ module _ (tree : c.Program) (input : List ℕ) (limits : Limits) (moves shares :
             typed = formed.kinds x (variable_of u) bare;
           }
       variable_stands b home fs k x u known bare block number (ByReference refers found) =
-          let (_, _, _, _, _, references, _) = at.paired in
           let (target, target_is, same_kind, (place, place_is, points)) =
-          references x (variable_of u) bare (home ∙ ap OfBlock (sym block)) refers in
+          at.paired.0.references x (variable_of u) bare (home ∙ ap OfBlock (sym block)) refers in
           record {
             variable = u;
             known = known;
@@ -293,7 +292,7 @@ module _ (tree : c.Program) (input : List ℕ) (limits : Limits) (moves shares :
           → slice_get l.variables k ≡ Some x
           → VariableStands w g May s n.store joins o f l.formals (first_variable f.home + k) x
       of_layout b l home found k x e =
-          let (home_is, (block, block_known)) = block_home p o.home at.joint.machine.home b at.paired.0
+          let (home_is, (block, block_known)) = block_home p o.home at.joint.machine.home b at.paired.0.homes
           (ap (λ (y : m.Frame). y.home) at.machine_is ∙ home) in
           let z = laid b block block_known in
           let layout_is : l ≡ emitted.layout_of p b z.0.entry block = same_Some l z.0 (sym found ∙ z.1) ∙ z.2 in
@@ -310,11 +309,11 @@ module _ (tree : c.Program) (input : List ℕ) (limits : Limits) (moves shares :
 
       frame_stands : FrameStands w g May s n.store joins o f
       frame_stands = record {
-        owner = let (_, _, _, _, called_so, _, _) = at.paired in called o.owner at.joint.machine.owner called_so
+        owner = called o.owner at.joint.machine.owner at.paired.0.owner_is
             ∙ ap (λ (y : m.Frame). (births es).name y.owner) at.machine_is;
-        block = λ b e. (block_home p o.home at.joint.machine.home b at.paired.0
+        block = λ b e. (block_home p o.home at.joint.machine.home b at.paired.0.homes
             (ap (λ (y : m.Frame). y.home) at.machine_is ∙ e)).0;
-        index = λ x e. index_home p o.home at.joint.machine.home x at.paired.0
+        index = λ x e. index_home p o.home at.joint.machine.home x at.paired.0.homes
             (ap (λ (y : m.Frame). y.home) at.machine_is ∙ e);
         variables = of_layout;
       }
