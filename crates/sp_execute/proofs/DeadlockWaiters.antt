@@ -94,19 +94,32 @@ module _ (t : System Plain) (lawful : Lawful t.births) (unborn : (q : ℕ) → t
           ⊎ ((k.doing h.0 ≡ Receiving h.1) × (w ≡ Receives_at k.births h.0 h.1)) → WaitsAs t w
       by (inl (does, is)) =
           let (stop, store, waits, waiter_is) = to_send t.births h.0 h.1 (t.condition h.0) does in
-          (h.0, stop, store, waits, waiter_is ∙ ap (λ y. Some y) (sym is))
+          record {
+            number = h.0;
+            stop = stop;
+            configuration = store;
+            waits = waits;
+            waiting_is = waiter_is ∙ ap (λ y. Some y) (sym is);
+          }
       by (inr (does, is)) =
           let (stop, store, waits, waiter_is) = to_receive t.births h.0 h.1 (t.condition h.0) does in
-          (h.0, stop, store, waits, waiter_is ∙ ap (λ y. Some y) (sym is))
+          record {
+            number = h.0;
+            stop = stop;
+            configuration = store;
+            waits = waits;
+            waiting_is = waiter_is ∙ ap (λ y. Some y) (sym is);
+          }
 
   from_system : (w : Waiting) → WaitsAs t w → IsWaiting k w
-  from_system w (q, stop, store, waits, waiter_is) = by stop waits waiter_is
+  from_system w h = by h.stop h.waits h.waiting_is
     where
-      by : (stop : Stop) → t.condition q ≡ Waits stop store → waiting_at t.births q stop ≡ Some w → IsWaiting k w
+      by : (stop : Stop) → t.condition h.number ≡ Waits stop h.configuration
+          → waiting_at t.births h.number stop ≡ Some w → IsWaiting k w
       by (Forks tb v n) e r = absurd (none-some _ r)
       by (Opens x) e r = absurd (none-some _ r)
-      by (Sends c m cs) e r = (q, c, inl (ap doing_in e, sym (same_Some _ _ r)))
-      by (Receives c m x) e r = (q, c, inr (ap doing_in e, sym (same_Some _ _ r)))
+      by (Sends c m cs) e r = (h.number, c, inl (ap doing_in e, sym (same_Some _ _ r)))
+      by (Receives c m x) e r = (h.number, c, inr (ap doing_in e, sym (same_Some _ _ r)))
       by Ends e r = absurd (none-some _ r)
       by Pauses e r = absurd (none-some _ r)
 

@@ -231,46 +231,49 @@ module _ (k : Control) (t : System Plain) (a : AgreesWithSystem k t) where
           ⊎ ((k.doing h.0 ≡ Receiving h.1) × (w ≡ Receives_at k.births h.0 h.1)) → WaitsAs t w
       by (inl x) =
           let (stop, configuration, waits, waiting) = to_send t.births h.0 h.1 (t.condition h.0)
-          (sym (ap phase x.0) ∙ a.each h.0) in (
-            h.0,
-            stop,
-            configuration,
-            waits,
-            waiting ∙ ap (λ (y : Births). Some (Sends_at y h.0 h.1)) (sym a.births)
-                ∙ ap (λ y. Some y) (sym x.1),
-          )
+          (sym (ap phase x.0) ∙ a.each h.0) in
+          record {
+            number = h.0;
+            stop = stop;
+            configuration = configuration;
+            waits = waits;
+            waiting_is = waiting ∙ ap (λ (y : Births). Some (Sends_at y h.0 h.1)) (sym a.births)
+                ∙ ap (λ y. Some y) (sym x.1);
+          }
       by (inr x) =
           let (stop, configuration, waits, waiting) = to_receive t.births h.0 h.1 (t.condition h.0)
-          (sym (ap phase x.0) ∙ a.each h.0) in (
-            h.0,
-            stop,
-            configuration,
-            waits,
-            waiting ∙ ap (λ (y : Births). Some (Receives_at y h.0 h.1)) (sym a.births)
-                ∙ ap (λ y. Some y) (sym x.1),
-          )
+          (sym (ap phase x.0) ∙ a.each h.0) in
+          record {
+            number = h.0;
+            stop = stop;
+            configuration = configuration;
+            waits = waits;
+            waiting_is = waiting ∙ ap (λ (y : Births). Some (Receives_at y h.0 h.1)) (sym a.births)
+                ∙ ap (λ y. Some y) (sym x.1);
+          }
 
   system_waits : (w : Waiting) → WaitsAs t w → IsWaiting k w
-  system_waits w (i, stop, d, at, told) = by stop at told
+  system_waits w h = by h.stop h.waits h.waiting_is
     where
-      by : (stop : Stop) → t.condition i ≡ Waits stop d → waiting_at t.births i stop ≡ Some w → IsWaiting k w
+      by : (stop : Stop) → t.condition h.number ≡ Waits stop h.configuration
+          → waiting_at t.births h.number stop ≡ Some w → IsWaiting k w
       by (Forks tb v n) e r = absurd (none-some _ r)
       by (Opens x) e r = absurd (none-some _ r)
       by (Sends c m cs) e r = (
-        i,
+        h.number,
         c,
         inl (
-          sending (k.doing i) c (a.each i ∙ ap (λ y. phase_in y) e),
-          sym (same_Some _ _ r) ∙ ap (λ (y : Births). Sends_at y i c) (sym a.births),
+          sending (k.doing h.number) c (a.each h.number ∙ ap (λ y. phase_in y) e),
+          sym (same_Some _ _ r) ∙ ap (λ (y : Births). Sends_at y h.number c) (sym a.births),
         ),
       )
       by (Receives c m x) e r = (
-        i,
+        h.number,
         c,
         inr (
-          receiving (k.doing i) c (a.each i ∙ ap (λ y. phase_in y) e),
+          receiving (k.doing h.number) c (a.each h.number ∙ ap (λ y. phase_in y) e),
           sym (same_Some _ _ r)
-              ∙ ap (λ (y : Births). Receives_at y i c) (sym a.births),
+              ∙ ap (λ (y : Births). Receives_at y h.number c) (sym a.births),
         ),
       )
       by Ends e r = absurd (none-some _ r)

@@ -66,12 +66,13 @@ module _ (G : RunContext) (lv : RightsOfAll G) (c : JournalState) (s : StateOf G
     offers = let (_, _, _, payload, _, _, _) = h in offers_so o.payload payload
 
   pub waits_means : (w : Waiting) → WaitsAs u w → WaitsSo G.g s w
-  waits_means w (i, stop, d, at, told) =
-      let lt = has_number G lv c s u l i (sys.Waits stop d) at (λ e. cc e) in
-      let x : Performs_all G lv (G.births.name i) c s (u.births.opens i) (sys.Waits stop d) =
-      subst (λ y. Performs_all G lv (G.births.name i) c s (u.births.opens i) y) at (l.does i lt) in
+  waits_means w h =
+      let i = h.number in
+      let lt = has_number G lv c s u l i (sys.Waits h.stop h.configuration) h.waits (λ e. cc e) in
+      let x : Performs_all G lv (G.births.name i) c s (u.births.opens i) (sys.Waits h.stop h.configuration) =
+      subst (λ y. Performs_all G lv (G.births.name i) c s (u.births.opens i) y) h.waits (l.does i lt) in
       let is : Some w ≡ Some (record { who = G.births.name i; way = way_of (x.0).payload; channel = (x.0).channel }) =
-      sym told ∙ offers i lt stop d x in
+      sym h.waiting_is ∙ offers i lt h.stop h.configuration x in
       let same = same_Some _ _ is in (
         x.0,
         ap (λ (y : Waiting). s.condition y.who) same ∙ x.1,
@@ -111,7 +112,13 @@ module _ (G : RunContext) (lv : RightsOfAll G) (c : JournalState) (s : StateOf G
           let is : record { who = G.births.name i; way = way_of (x.0).payload; channel = (x.0).channel } ≡ w =
           ap (λ (y : Offer Process LocationContent Address). same (G.births.name i) y) o ∙ ap (λ y. same y offer) e
           ∙ rest in
-          (i, stop, d, k, offers i lt stop d x ∙ ap (λ y. Some y) is)
+          record {
+            number = i;
+            stop = stop;
+            configuration = d;
+            waits = k;
+            waiting_is = offers i lt stop d x ∙ ap (λ y. Some y) is;
+          }
         where
           same : Name → Offer Process LocationContent Address → Waiting
           same y z = record { who = y; way = way_of z.payload; channel = z.channel }

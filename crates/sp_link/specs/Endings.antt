@@ -36,9 +36,12 @@ waiting_at b i (Receives c k a) = Some (record { who = b.name i; way = way.Recei
 waiting_at _ _ _ = None
 
 -- a process of the system waits so
-abbrev pub WaitsAs : System Plain → Waiting → Type 0
-WaitsAs t w = (i : ℕ) × (stop : Stop) × (d : Config (Memory Plain)) × (t.condition i ≡ Waits stop d)
-    × (waiting_at t.births i stop ≡ Some w)
+pub record WaitsAs (t : System Plain) (w : Waiting) : Type 0 where
+  pub number : ℕ
+  pub stop : Stop
+  pub configuration : Config (Memory Plain)
+  pub waits : t.condition number ≡ Waits stop configuration
+  pub waiting_is : waiting_at t.births number stop ≡ Some w
 
 -- nobody runs, the first process has not ended and no fault stands; the list is every process that waits, in order of
 -- names
