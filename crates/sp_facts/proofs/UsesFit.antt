@@ -19,19 +19,19 @@ fit_right : (Fits : Site → Type 0) (xs ys : List Site) → HoldsOfEach Fits (x
 fit_right Fits [] ys h = h
 fit_right Fits (x ∷ xs) ys h = fit_right Fits xs ys h.1
 
-module _ (Fits : Site → Type 0) (FitsUse : Use → Type 0) (targets : (x : ℕ) → FitsUse (Target x))
-    (expressions : (x : ℕ) → FitsUse (Seen x)) (calls : (f : ℕ) (at : Place) (args : p.Actuals) → Fits (CallsAt f at args)
-    → FitsUse (CallOf f (bare_actuals args)))
-    (splits : (ss : p.Statements) → Fits (SplitsAt ss) → FitsUse (ParallelOf (bare_statements ss)))
+module _ (Fits : Site → Type 0) (Suits : Use → Type 0) (targets : (x : ℕ) → Suits (Target x))
+    (expressions : (x : ℕ) → Suits (Seen x)) (calls : (f : ℕ) (at : Place) (args : p.Actuals) → Fits (CallsAt f at args)
+    → Suits (CallOf f (bare_actuals args)))
+    (splits : (ss : p.Statements) → Fits (SplitsAt ss) → Suits (ParallelOf (bare_statements ss)))
     (spreads : (at : Place) (x : ℕ) (s : p.Statement) → Fits (SpreadsAt at x s)
-    → FitsUse (ForallOf x (bare_statement s))) (stops : (at : Place) → Fits (StopsAt at) → FitsUse Stop) where
+    → Suits (ForallOf x (bare_statement s))) (stops : (at : Place) → Fits (StopsAt at) → Suits Stop) where
   mutual
     expression_kept : (e : p.Expression) (u : Use) → HoldsOfEach Fits (expression_sites e)
         → In_expr (bare_expression e) u
-        → FitsUse u
+        → Suits u
     expression_kept (p.ExpressionAt at k form) u h i = form_kept form u h i
 
-    form_kept : (e : p.ExpressionForm) (u : Use) → HoldsOfEach Fits (form_sites e) → In_form (bare_form e) u → FitsUse u
+    form_kept : (e : p.ExpressionForm) (u : Use) → HoldsOfEach Fits (form_sites e) → In_form (bare_form e) u → Suits u
     form_kept (p.Number n) u h i = absurd i
     form_kept (p.Read v) u h i = read_kept v u h i
     form_kept (p.Unary op a) u h i = expression_kept a u h i
@@ -39,23 +39,23 @@ module _ (Fits : Site → Type 0) (FitsUse : Use → Type 0) (targets : (x : ℕ
         expression_kept a u (fit_left Fits (expression_sites a) (expression_sites b) h) i
     form_kept (p.Binary op a b) u h (inr i) =
         expression_kept b u (fit_right Fits (expression_sites a) (expression_sites b) h) i
-    form_kept (p.Apply f at args) u h (inl e) = subst FitsUse (sym e) (calls f at args h.0)
+    form_kept (p.Apply f at args) u h (inl e) = subst Suits (sym e) (calls f at args h.0)
     form_kept (p.Apply f at args) u h (inr i) = actuals_kept args u h.1 i
-    form_kept (p.Standard f p.NoExpression) u h e = subst FitsUse (sym e) (expressions 0)
+    form_kept (p.Standard f p.NoExpression) u h e = subst Suits (sym e) (expressions 0)
     form_kept (p.Standard f (p.AndExpression a rest)) u h i = expression_kept a u h i
 
-    read_kept : (v : p.Variable) (u : Use) → HoldsOfEach Fits (variable_sites v) → In_read (bare_variable v) u → FitsUse u
-    read_kept (p.Entire x at ss) u h (inl e) = subst FitsUse (sym e) (expressions x)
+    read_kept : (v : p.Variable) (u : Use) → HoldsOfEach Fits (variable_sites v) → In_read (bare_variable v) u → Suits u
+    read_kept (p.Entire x at ss) u h (inl e) = subst Suits (sym e) (expressions x)
     read_kept (p.Entire x at ss) u h (inr i) = selectors_kept ss u h i
 
     target_kept : (v : p.Variable) (u : Use) → HoldsOfEach Fits (variable_sites v) → In_target (bare_variable v) u
-        → FitsUse u
-    target_kept (p.Entire x at ss) u h (inl e) = subst FitsUse (sym e) (targets x)
+        → Suits u
+    target_kept (p.Entire x at ss) u h (inl e) = subst Suits (sym e) (targets x)
     target_kept (p.Entire x at ss) u h (inr i) = selectors_kept ss u h i
 
     selectors_kept : (ss : p.Selectors) (u : Use) → HoldsOfEach Fits (selectors_sites ss)
         → In_selectors (bare_selectors ss) u
-        → FitsUse u
+        → Suits u
     selectors_kept p.Whole u h i = absurd i
     selectors_kept (p.Select (p.Index e) rest) u h (inl i) =
         expression_kept e u (fit_left Fits (expression_sites e) (selectors_sites rest) h) i
@@ -65,7 +65,7 @@ module _ (Fits : Site → Type 0) (FitsUse : Use → Type 0) (targets : (x : ℕ
 
     actuals_kept : (args : p.Actuals) (u : Use) → HoldsOfEach Fits (actuals_sites args)
         → In_actuals (bare_actuals args) u
-        → FitsUse u
+        → Suits u
     actuals_kept p.Nothing u h i = absurd i
     actuals_kept (p.Pass (p.ByValue e) rest) u h (inl i) =
         expression_kept e u (fit_left Fits (expression_sites e) (actuals_sites rest) h) i
@@ -77,26 +77,26 @@ module _ (Fits : Site → Type 0) (FitsUse : Use → Type 0) (targets : (x : ℕ
         actuals_kept rest u (fit_right Fits (variable_sites v) (actuals_sites rest) h) i
 
   width_kept : (w : Option p.Expression) (u : Use) → HoldsOfEach Fits (width_sites w) → In_width (bare_width w) u
-      → FitsUse u
+      → Suits u
   width_kept None u h i = absurd i
   width_kept (Some e) u h i = expression_kept e u h i
 
-  aim : (x : ℕ) (u : Use) → u ≡ Target x → FitsUse u
-  aim x u e = subst FitsUse (sym e) (targets x)
+  aim : (x : ℕ) (u : Use) → u ≡ Target x → Suits u
+  aim x u e = subst Suits (sym e) (targets x)
 
-  stop : (at : Place) (u : Use) → Fits (StopsAt at) → u ≡ Stop → FitsUse u
-  stop at u h e = subst FitsUse (sym e) (stops at h)
+  stop : (at : Place) (u : Use) → Fits (StopsAt at) → u ≡ Stop → Suits u
+  stop at u h e = subst Suits (sym e) (stops at h)
 
   mutual
     pub statement_kept : (s : p.Statement) (u : Use) → HoldsOfEach Fits (statement_sites s)
         → In_stmt (bare_statement s) u
-        → FitsUse u
+        → Suits u
     statement_kept (p.Does n at p.Empty) u h i = absurd i
     statement_kept (p.Does n at (p.Assign v e)) u h (inl i) =
         target_kept v u (fit_left Fits (variable_sites v) (expression_sites e) h) i
     statement_kept (p.Does n at (p.Assign v e)) u h (inr i) =
         expression_kept e u (fit_right Fits (variable_sites v) (expression_sites e) h) i
-    statement_kept (p.Does n at (p.Call f args)) u h (inl e) = subst FitsUse (sym e) (calls f at args h.0)
+    statement_kept (p.Does n at (p.Call f args)) u h (inl e) = subst Suits (sym e) (calls f at args h.0)
     statement_kept (p.Does n at (p.Call f args)) u h (inr i) = actuals_kept args u h.1 i
     statement_kept (p.Does n at (p.Sequence ss)) u h i = statements_kept ss u h i
     statement_kept (p.Does n at (p.If e s p.NoElse)) u h (inl i) =
@@ -130,10 +130,10 @@ module _ (Fits : Site → Type 0) (FitsUse : Use → Type 0) (targets : (x : ℕ
         expression_kept e u (fit_left Fits (expression_sites e) (arms_sites arms) h) i
     statement_kept (p.Does n at (p.Case e arms)) u h (inr i) =
         arms_kept arms u (fit_right Fits (expression_sites e) (arms_sites arms) h) i
-    statement_kept (p.Does n at (p.Parallel ss)) u h (inl e) = subst FitsUse (sym e) (splits ss h.0)
+    statement_kept (p.Does n at (p.Parallel ss)) u h (inl e) = subst Suits (sym e) (splits ss h.0)
     statement_kept (p.Does n at (p.Parallel ss)) u (_, (_, inside)) (inr (inl i)) = statements_kept ss u inside i
     statement_kept (p.Does n at (p.Parallel ss)) u (_, (stopping, _)) (inr (inr e)) = stop at u stopping e
-    statement_kept (p.Does n at (p.Forall x from to s)) u h (inl e) = subst FitsUse (sym e) (spreads at x s h.0)
+    statement_kept (p.Does n at (p.Forall x from to s)) u h (inl e) = subst Suits (sym e) (spreads at x s h.0)
     statement_kept (p.Does n at (p.Forall x from to s)) u (_, (_, inside)) (inr (inl i)) =
         expression_kept from u (fit_left Fits (expression_sites from) _ inside) i
     statement_kept (p.Does n at (p.Forall x from to s)) u (_, (_, inside)) (inr (inr (inl i))) =
@@ -175,14 +175,14 @@ module _ (Fits : Site → Type 0) (FitsUse : Use → Type 0) (targets : (x : ℕ
 
     statements_kept : (ss : p.Statements) (u : Use) → HoldsOfEach Fits (statements_sites ss)
         → In_stmts (bare_statements ss) u
-        → FitsUse u
+        → Suits u
     statements_kept p.NoStatement u h i = absurd i
     statements_kept (p.AndThen s rest) u h (inl i) =
         statement_kept s u (fit_left Fits (statement_sites s) (statements_sites rest) h) i
     statements_kept (p.AndThen s rest) u h (inr i) =
         statements_kept rest u (fit_right Fits (statement_sites s) (statements_sites rest) h) i
 
-    arms_kept : (arms : p.Arms) (u : Use) → HoldsOfEach Fits (arms_sites arms) → In_arms (bare_arms arms) u → FitsUse u
+    arms_kept : (arms : p.Arms) (u : Use) → HoldsOfEach Fits (arms_sites arms) → In_arms (bare_arms arms) u → Suits u
     arms_kept p.NoArm u h i = absurd i
     arms_kept (p.Or (p.On cs s) rest) u h (inl i) =
         statement_kept s u (fit_left Fits (statement_sites s) (arms_sites rest) h) i
