@@ -1,12 +1,12 @@
 use Rattle.std.proofs.Common.{◌≡◌, sym, ap, Some}
 use Rattle.sp_base.proofs.Facts.{on_map}
 use Rattle.sp_verify_shapes.specs.Search.{WalkOutcome, with_arrival}
-use Rattle.sp_verify_shapes.proofs.SearchSteps.{fails, goes_far}
+use Rattle.sp_verify_shapes.proofs.SearchSteps.{lacks_operands, brings_lists}
 use Rattle.sp_verify_shapes.proofs.search.walk.Goals as goal
 
 pub returns-in-Wrong : goal.returns-in-Wrong
 returns-in-Wrong c =
-    fails c.args.code.now c.args.search.now c.args.p c.in-Some-Some.k c.step_from.new.stacks
+    lacks_operands c.args.code.now c.args.search.now c.args.p c.in-Some-Some.k c.step_from.new.stacks
     (Some c.in-Some-Some.field-0) c.in-Some-Some.ensures (ap Some c.in-Some-Some.field-0-is)
     (sym c.if-is_marked.ensures) c.step_from.ensures.stacks c.step_from.ensures.extends
     c.in-Ok.value c.in-Ok.ensures.goes c.mark.new.broken c.in-Wrong.is c.mark.ensures
@@ -16,7 +16,7 @@ returns-in-Ok-wait c =
     on_map c.wait-in-To.result (c.wait-in-To.new.arrivals ≡ with_arrival c.in-To.second c.wait.new.arrivals)
     (WalkOutcome c.args.code.now c.args.search.now
     (record c.args.search.now { stacks = c.step_from.new.stacks; arrivals = c.wait-in-To.new.arrivals }) c.args.p)
-    (λ d. goes_far c.args.code.now c.args.search.now c.args.p c.in-Some-Some.k c.step_from.new.stacks
+    (λ d. brings_lists c.args.code.now c.args.search.now c.args.p c.in-Some-Some.k c.step_from.new.stacks
     (Some c.in-Some-Some.field-0) c.in-Some-Some.ensures (ap Some c.in-Some-Some.field-0-is)
     (sym c.if-is_marked.ensures) c.step_from.ensures.stacks c.step_from.ensures.extends
     c.in-Ok.value c.in-Ok.ensures.goes c.in-To.first c.in-To.second c.wait.new.arrivals
