@@ -155,8 +155,8 @@ module _ (g : RunInput) where
       (lawful_after b e w m.0) m.1 c1 u t r k p f i)
     where
       by : (what : Happening) → EntryStep g (λ c1 u r. Along g pause c1 u
-          (occurrences_from (births_after_event b e.process e.event) es) r t) c a.middle a.paused (b.name e.process) what
-          a.rest
+          (occurrences_from (births_after_event b e.process e.event) es) r t) c a.middle a.paused (b.name e.process)
+          what a.rest
           → ((c1 : JournalState) (u : StateOf g) (r : ℕ)
           → Along g pause c1 u (occurrences_from (births_after_event b e.process e.event) es) r t
           → t.fault ≡ Some ((births_from b (e ∷ es)).name p, f))
@@ -168,11 +168,13 @@ module _ (g : RunInput) where
       by Opened (_, k) ih =
           ih (course_after (b.name e.process) Opened (ticks_of g k.next (b.name e.process)) c) k.next k.rest k.ahead
       by (Offered x d) (_, k) ih =
-          ih (course_after (b.name e.process) (Offered x d) (ticks_of g k.next (b.name e.process)) c) k.next k.rest k.ahead
+          ih (course_after (b.name e.process) (Offered x d) (ticks_of g k.next (b.name e.process)) c) k.next k.rest
+          k.ahead
       by Ended (_, k) ih =
           ih (course_after (b.name e.process) Ended (ticks_of g k.next (b.name e.process)) c) k.next k.rest k.ahead
       by (Faulted x) (_, k) ih =
-          ih (course_after (b.name e.process) (Faulted x) (ticks_of g k.next (b.name e.process)) c) k.next k.rest k.ahead
+          ih (course_after (b.name e.process) (Faulted x) (ticks_of g k.next (b.name e.process)) c) k.next k.rest
+          k.ahead
 
 -- ---- in the machine
 

@@ -42,7 +42,8 @@ module _ (g : RunInput) (turn since : ℕ) (who : List (ℕ × ℕ)) where
       same_next : two.next ≡ one.next
       same_next = same_Some two.next one.next (sym two.steps ∙ one.steps)
 
-      due_is : is_due_after g turn since s two.process who two.next ≡ is_due_after g turn since s one.process who one.next
+      due_is : is_due_after g turn since s two.process who two.next
+          ≡ is_due_after g turn since s one.process who one.next
       due_is = ap (λ z. is_due_after g turn since s z who two.next) same_process
           ∙ ap (λ z. is_due_after g turn since s one.process who z) same_next
 

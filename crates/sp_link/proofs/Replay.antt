@@ -264,8 +264,8 @@ module _ (G : RunContext) where
           name_is along.enters
 
       own : (a : Process) × (running_process G.g s (G.births.name e.process) ≡ Some a)
-      own = turn_runs G.g G.pause (c.since (G.births.name e.process)) (G.births.name e.process) along.steps s along.middle
-          along.paused way
+      own = turn_runs G.g G.pause (c.since (G.births.name e.process)) (G.births.name e.process) along.steps s
+          along.middle along.paused way
 
       at : (d : Config (Memory Plain)) × (u.condition e.process ≡ sys.Working d)
       at = runs_there (at_open G u.births.channels) lv c s u l e.process lt own.0 own.1 unlaid

@@ -21,7 +21,8 @@ use Rattle.sp_verify_shapes.specs.declared.search.Search.{Search}
 use Rattle.sp_verify_shapes.specs.Stacks.{Extends, IsListNumber, IsStacks, list_of}
 use Rattle.sp_verify_shapes.specs.Steps.{with_brought, IsStep}
 use Rattle.sp_verify_shapes.specs.Search.{IsOneOf, HasAt, IsMarked, InTable, KnowsShapes, BrokenBy, LacksBy}
-use Rattle.sp_verify_shapes.specs.Search.{SomeAreaBrings, IsSound, IsStepped, WhileStepping, AreStepped, IsSane, KeepsV1}
+use Rattle.sp_verify_shapes.specs.Search.{SomeAreaBrings, IsSound, IsStepped, WhileStepping, AreStepped, IsSane}
+use Rattle.sp_verify_shapes.specs.Search.{KeepsV1}
 use Rattle.sp_verify_shapes.specs.Search.{TakesStepFrom, WalkOutcome, Marked, Unknown, IsWrongStep, BringsOn, WalksOne}
 use Rattle.sp_verify_shapes.specs.Search.{is_set, with_arrival}
 use Rattle.sp_verify_shapes.proofs.Ways.{only_in, lies}
@@ -260,7 +261,8 @@ module _ (c : Parts) (v1 : KeepsV1 c) (n : ℕ) (s : Search) (rest : List ℕ) (
         })
         (λ q j w. w) (λ j w. inr (stepped j w))
         (sound_with st s.broken (with_both first second s.arrivals) taken.stacks taken.extends h.sound.marks
-        h.sound.marked (λ y a. ⊎_elim (λ b. inl b) (λ b. inr (brought_on y b)) (old_or_new first second s.arrivals y a)))
+        h.sound.marked
+        (λ y a. ⊎_elim (λ b. inl b) (λ b. inr (brought_on y b)) (old_or_new first second s.arrivals y a)))
 
   pub step_keeps : (new : Search) → WalkOutcome c left new p → WhileStepping c n new
   step_keeps new (Marked m q) = subst (WhileStepping c n) (sym q) (only_rest (λ k w. m))

@@ -147,7 +147,8 @@ module _ (g : RunInput) where
         };
         good = subst (λ z. GoodStep (total_limits g) (start g) (beside s v) z (beside u w)) (sym hw) good;
       } in
-      rest own u w at1 (before_step s q own u way at.no_fault x) does (is_due_after g turn since s own q u) refl turns.ahead
+      rest own u w at1 (before_step s q own u way at.no_fault x) does (is_due_after g turn since s own q u) refl
+      turns.ahead
       (λ y. turned turn since q k u m w j done n label h paused hw ha hk y at1
       (before_step s q own u way at.no_fault x))
       (λ b e. record {

@@ -163,6 +163,12 @@ module _ (g : RunInput) (mark : ℕ → Bool) where
         | false ↦ λ e. (u.0 e, each_left label bs h u.1)
       ] refl
 
+  -- what is free of an entry is so in parts
+  pub free_parts : (label : ℕ → Option Event) (h : Head) (xs : List (Block g)) (b : Block g) (ys : List (Block g))
+      → EachFree g label (xs ++ b ∷ ys) h → EachFree g label (xs ++ ys) h × Free b.head h
+  free_parts label h [] b ys f = (f.1, f.0)
+  free_parts label h (x ∷ xs) b ys f = let r = free_parts label h xs b ys f.1 in ((f.0, r.0), r.1)
+
   pub left_append : (xs bs : List (Block g)) → left g mark (xs ++ bs) ≡ left g mark xs ++ left g mark bs
   left_append [] bs = refl
   left_append (a ∷ xs) bs =

@@ -41,7 +41,7 @@ use Rattle.sp_witness.proofs.JournalSteps.{beside, tag_of, knows_so, Turned, tur
 use Rattle.sp_witness.proofs.Back.{entry_of, entries, turn_silent, rebuilt}
 use Rattle.sp_witness.proofs.Parts.{UnmarkedFree, mark_in, marks_are, marks_after, members_are, free_before, each_left}
 use Rattle.sp_witness.proofs.Parts.{left_append, kept_append, kept_valid, since_kept, since_stays, since_append}
-use Rattle.sp_witness.proofs.Parts.{valid_second, cuts_second, Split, split, heads_append}
+use Rattle.sp_witness.proofs.Parts.{valid_second, cuts_second, Split, split, heads_append, free_parts}
 use Rattle.sp_witness.proofs.Contention.{Offers, offers_of, waits_here, blocks_fit, contends}
 use Rattle.sp_witness.proofs.PastFacts.{KnowledgeFacts, nothing_stands, stands_from}
 use Rattle.sp_witness.proofs.WitnessRuns.{clean_front, runs_split, runs_join, entries_join, valid_join}
@@ -242,18 +242,13 @@ module _ (g : RunInput) (disjoint : IsDisjointRun g) (turn : ℕ) (es : List Occ
   front_free : UnmarkedFree mark (heads g cut.front) head_first
   front_free = subst (λ z. UnmarkedFree mark z head_first) (sym cut.front_is) free_first
 
-  cond_false : {A : Type 0} (b : Bool) (x y : A) → b ≡ false → cond b x y ≡ y
-  cond_false b x y e = ap (λ z. cond z x y) e
-
   kept_is : kept g mark blocks ≡ kept g mark cut.front ++ kept g mark cut.back
   kept_is = ap (kept g mark) cut.whole ∙ kept_append g mark cut.front (block ∷ cut.back)
-      ∙ ap (λ z. kept g mark cut.front ++ z)
-      (cond_false (mark block.head.position) (block ∷ kept g mark cut.back) (kept g mark cut.back) block_unmarked)
+      ∙ ap (λ is. kept g mark cut.front ++ cond is (block ∷ kept g mark cut.back) (kept g mark cut.back)) block_unmarked
 
   left_is : left g mark blocks ≡ left g mark cut.front ++ block ∷ left g mark cut.back
   left_is = ap (left g mark) cut.whole ∙ left_append g mark cut.front (block ∷ cut.back)
-      ∙ ap (λ z. left g mark cut.front ++ z)
-      (cond_false (mark block.head.position) (left g mark cut.back) (block ∷ left g mark cut.back) block_unmarked)
+      ∙ ap (λ is. left g mark cut.front ++ cond is (left g mark cut.back) (block ∷ left g mark cut.back)) block_unmarked
 
   -- the later offer's process: its local steps, and its offer
   record OfferEntry : Type 0 where
@@ -288,11 +283,9 @@ module _ (g : RunInput) (disjoint : IsDisjointRun g) (turn : ℕ) (es : List Occ
   open offer_entry use {steps, between, paused, locals, undue, next, own, runs, says, goes}
 
   local_steps : Turned g turn (walk.course.since second) second walk.state between walk.notes (knowledge_of front)
-      front later
-      label head_second paused
+      front later label head_second paused
   local_steps = turned g turn (walk.course.since second) second steps walk.state between walk.notes
-      (knowledge_of front) front
-      later label head_second paused refl refl refl locals at_second walk.way
+      (knowledge_of front) front later label head_second paused refl refl refl locals at_second walk.way
 
   abbrev tags : List (Tag g)
   tags = local_steps.tags
@@ -363,13 +356,8 @@ module _ (g : RunInput) (disjoint : IsDisjointRun g) (turn : ℕ) (es : List Occ
   free_all : EachFree g label (left g mark blocks) head_second
   free_all = each_left g mark label blocks head_second free_second_blocks
 
-  free_parts : (xs : List (Block g)) (b : Block g) (ys : List (Block g)) → EachFree g label (xs ++ b ∷ ys) head_second
-      → EachFree g label (xs ++ ys) head_second × Free b.head head_second
-  free_parts [] b ys f = (f.1, f.0)
-  free_parts (x ∷ xs) b ys f = let r = free_parts xs b ys f.1 in ((f.0, r.0), r.1)
-
   free_cut : EachFree g label remaining head_second × Free block.head head_second
-  free_cut = free_parts (left g mark cut.front) block (left g mark cut.back)
+  free_cut = free_parts g mark label head_second (left g mark cut.front) block (left g mark cut.back)
       (subst (λ z. EachFree g label z head_second) left_is free_all)
 
   apart_second : block.head.who ≢ second
