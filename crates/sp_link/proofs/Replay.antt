@@ -68,9 +68,9 @@ module _ (g : RunInput) where
       both (inl x) (inr (inr y)) = absurd (not_true_and_false c.faulted x.1 y.0)
       both (inr (inl x)) (inl y) = absurd (not_true_and_false c.faulted y.1 x.1)
       both (inr (inl (is0, _, _, left0))) (inr (inl (is1, _, _, left1))) = (is0 ∙ sym is1, (k, moved _ _ k left0 left1))
-      both (inr (inl x)) (inr (inr y)) = absurd (not_true_and_false p x.2 y.1)
+      both (inr (inl x)) (inr (inr y)) = absurd (not_true_and_false p x.2 y.1.unpaused)
       both (inr (inr x)) (inl y) = absurd (not_true_and_false c.faulted y.1 x.0)
-      both (inr (inr x)) (inr (inl y)) = absurd (not_true_and_false p y.2 x.1)
+      both (inr (inr x)) (inr (inl y)) = absurd (not_true_and_false p y.2 x.1.unpaused)
       both (inr (inr (_, x))) (inr (inr (_, y))) =
           let one : x.makes.process ≡ y.makes.process =
           same_Some x.makes.process y.makes.process (sym x.makes.runs ∙ y.makes.runs) in
