@@ -3,7 +3,7 @@ use Rattle.std.proofs.lemmas.Grind.{common_steps}
 use Rattle.std.proofs.lemmas.List.{map-append}
 use Rattle.std.specs.Vec.Iter.{into_iter_items}
 use Rattle.sp_tree.specs.declared.checked.Block.{Block}
-use Rattle.sp_tree.specs.declared.named.NamedStmt.TheFolds.{the_lemmas}
+use Rattle.sp_tree.specs.declared.named.NamedStmt as stmt
 use Rattle.sp_tree.specs.NamedOf.{block_of}
 use Rattle.sp_tree.specs.CheckedOf as checked
 use Rattle.sp_tree.specs.PlainChecked as plain
@@ -43,7 +43,7 @@ loop-b-preserved c =
           let (counted, same, start_is) = c.number-start.ensures (count_before 0 c.in-Some.b.body.at all)
           c.count_before.ensures (sym (λ j. (c.note.ensures j).is_lost) ∙ noted) in
           let (from, first_is, tree_is, after_is) = c.loop-b.invariant.2 counted in
-          let place : c.in-Some.b.body.at ≡ statement_place b.body = search (rules, the_lemmas) in
+          let place : c.in-Some.b.body.at ≡ statement_place b.body = search (rules, stmt.the_lemmas) in
           let start = start_is ∙ ap (λ at. count_before 0 at all) place in
           let tables = after ∙ (λ j. statement_after (with_first_number t (start j)) b.body) in
           let framed = (λ j. (c.note.ensures j).first)

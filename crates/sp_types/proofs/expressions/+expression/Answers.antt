@@ -1,11 +1,15 @@
 use Rattle.std.proofs.Common.{arith, rules, ap, sym, Some, ◌≡◌, ◌∙◌}
 use Rattle.std.proofs.lemmas.Grind.{common_steps}
+use Rattle.sp_tree.specs.declared.checked.Selector as checked_selector
 use Rattle.sp_tree.specs.declared.named.NamedExprForm.TheFolds.{the_lemmas}
-use Rattle.sp_tree.specs.NamedOf.{expression_of, expression_form_of}
+use Rattle.sp_tree.specs.declared.checked.Selector.TheVariants.{Index}
+use Rattle.sp_tree.specs.NamedOf.{expression_of, expression_form_of, selector_of}
+use Rattle.sp_tree.specs.CheckedOf as checked
+use Rattle.sp_tree.specs.PlainChecked as plain
 use Rattle.sp_tree.specs.PlainNamed as n
 use Rattle.sp_tree.specs.PhaseResults.{earlier_refusal}
-use Rattle.sp_types.specs.TypeRules.{unary_rule, unary_takes, left_rule, right_rule, standard_rule}
-use Rattle.sp_types.specs.Kinds.{expression_kind}
+use Rattle.sp_types.specs.TypeRules.{index_rule, unary_rule, left_rule, right_rule, standard_rule}
+use Rattle.sp_types.specs.Kinds.{element, expression_kind}
 use Rattle.sp_types.specs.TypeFirst.{at_node}
 use Rattle.sp_types.specs.TypeWalk.{place}
 use Rattle.sp_types.specs.Firsts.{expression_first}
@@ -29,6 +33,21 @@ type_form-returns-in-Binary t c k =
           (right_rule c.args.t.now c.in-Binary.op (place b) (left.1 j) (expression_kind c.args.t.now b))
           (expression_first c.args.t.now b (left_first j))),
       (c.binary.ensures _ _ left.0 right.0, ap Some c.binary_gives.ensures),
+    )
+
+pub type_selector-returns-in-Index : goal.type_selector-returns-in-Index
+type_selector-returns-in-Index t c k =
+    let e = expression_of c.in-Index.e in
+    let is : selector_of c.args.s ≡ n.Index e = search (rules, the_lemmas) in
+    let at : c.in-Index.e.at ≡ place e = search (rules, the_lemmas) in
+    let (kept, first, typed) = c.type_expression-e.ensures (sym (λ j. (c.note.ensures j).is_lost) ∙ k) in
+    let broken = c.index_rule.ensures ∙ (λ j. index_rule c.args.t.now c.args.at c.args.kind (at j) (typed.1 j)) in
+    let tree : checked.selector_of (Index c.type_expression-e.result.tree)
+    ≡ plain.Index (checked.expression_of c.type_expression-e.result.tree) = search (rules, checked_selector.the_lemmas) in
+    rw is (
+      kept,
+      (λ j. (c.note.ensures j).first) ∙ (λ j. earlier_refusal (first j) (broken j)),
+      (tree ∙ ap plain.Index typed.0, c.element.ensures ∙ (λ j. element c.args.t.now c.args.kind (typed.1 j))),
     )
 
 pub type_left-returns : goal.type_left-returns
