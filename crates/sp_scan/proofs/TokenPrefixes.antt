@@ -312,6 +312,9 @@ pub item_shorter : (bs r : List ℕ) (o : Option Kind) → FrontItem bs o r → 
 item_shorter bs r None x = gap_shorter x
 item_shorter bs r (Some k) x = lexeme_length x.1.spelled
 
+pub item_no_longer : (bs r : List ℕ) (o : Option Kind) → FrontItem bs o r → length r ≤ length bs
+item_no_longer bs r o x = let l = item_shorter bs r o x in omega arith
+
 pub pass_item : (text rest after : List ℕ) (at next : Place) (o : Option Kind) → PassedSoFar text rest at
     → FrontItem rest o after → ((r : Rule) → BreaksHere r rest → ⊥)
     → next ≡ place_behind at (take (length rest - length after) rest) → PassedSoFar text after next

@@ -2,10 +2,11 @@
 -- What the parts of the scanner answer: cuts, runs, comments and tokens, each as the longest one that begins here. The
 -- contracts of the scanner's files cite it, and the formatter's, which scans with comments.
 use Rattle.std.specs.Prelude.{◌≡◌, ◌≢◌, ℕ, ◌<◌, ◌≤◌, Bool, true, false, List, [], ◌∷◌, ◌++◌, length, Option, Some, None}
-use Rattle.std.specs.Prelude.{Result, Ok, Err, slice_get}
+use Rattle.std.specs.Prelude.{Result, Ok, Err, slice_get, take, ◌-◌}
 use Rattle.std.specs.Borrow.{Bor}
 use Rattle.sp_tree.specs.declared.token.Kind.{Kind}
 use Rattle.sp_tree.specs.declared.token.Kind.TheVariants as kind
+use Rattle.sp_base.specs.declared.place.Place.{Place}
 use Rattle.sp_base.specs.declared.rule.Rule.{Rule}
 use Rattle.sp_base.specs.declared.halt.Refusal.{Refusal}
 use Rattle.sp_base.specs.declared.halt.Halt.{Halt}
@@ -15,6 +16,7 @@ use Rattle.sp_tree.specs.Characters.{is_blank}
 use Rattle.sp_tree.specs.Lexemes.{Lacks, Run, Comment, Longest, opens_comment, words, refused_words, signs}
 use Rattle.sp_tree.specs.Scans.{NoToken, BreaksHere, BreaksLexis, IsTokens}
 use Rattle.sp_tree.specs.First.{row, IsFirst}
+use Rattle.sp_tree.specs.Places.{place_behind}
 
 -- the first byte and the others, or none
 abbrev pub CutsByte : List ℕ → Option (ℕ × Bor (List ℕ)) → Type 0
@@ -92,6 +94,12 @@ FrontItem bs (Some k) r = (opens_comment bs ≡ false) × Longest k bs r
 abbrev pub ItemAt : List ℕ → Result (Option Kind × Bor (List ℕ)) Rule → Type 0
 ItemAt bs (Ok x) = FrontItem bs x.0 x.1.now × ((r : Rule) → BreaksHere r bs → ⊥)
 ItemAt bs (Err r) = FirstHere r bs
+
+-- the same, with the place behind the item, where its own place is `at`
+abbrev pub PassesItem : Place → List ℕ → Result (Option Kind × Bor (List ℕ) × Place) Rule → Type 0
+PassesItem at bs (Ok (o, r, behind)) = FrontItem bs o r.now × ((s : Rule) → BreaksHere s bs → ⊥)
+    × (behind ≡ place_behind at (take (length bs - length r.now) bs))
+PassesItem at bs (Err r) = FirstHere r bs
 
 -- The tokens of a text, or the first rule of its characters that it breaks.
 abbrev pub Scanned : List ℕ → Result (List Token) Halt → Type 0

@@ -1,14 +1,14 @@
 //! The pass over a text: its tokens, or the first rule of its characters that it breaks.
 
-ghost use Rattle.std.specs.Prelude.{◌≡◌, ◌+◌, ◌-◌, ◌<◌, ◌≤◌, ◌^◌, length, take};
+ghost use Rattle.std.specs.Prelude.{◌≡◌, ◌∷◌, ◌+◌, ◌-◌, ◌<◌, ◌≤◌, ◌^◌, length, take};
 ghost use Rattle.sp_tree.specs.Places.{place_behind, next_place};
 ghost use Rattle.sp_tree.specs.Spelling.{spelling as the_spelling};
-ghost use Rattle.sp_scan.specs.Finds.{FirstBreachOf, Scanned};
+ghost use Rattle.sp_scan.specs.Finds.{FirstBreachOf, PassesItem, Scanned};
 
 use crate::bytes::cut;
 use crate::rules::item;
 use sp_base::{Halt, List, Place, Refusal, Rule};
-use sp_tree::{MAX_TEXT, Token};
+use sp_tree::{Kind, MAX_TEXT, Token};
 use std::alloc::Global;
 
 /// The place behind some bytes.
@@ -55,6 +55,24 @@ fn next(at: Place, byte: u8) -> Place
     }
 }
 
+/// What stands first in the rest of a text, what is behind it, and the place of that; or the first rule that is broken
+/// here.
+#[tactic(auto, using(crate::proofs::TokenPrefixes::item_no_longer))]
+fn step<'a>(
+    at: Place,
+    rest: &'a [u8],
+    first: u8,
+    others: &'a [u8],
+) -> Result<(Option<Kind>, &'a [u8], Place), Rule>
+    requires front { rest.now ≡ first ∷ others.now }
+    requires line { at.line + length rest.now < 2 ^ 32 }
+    requires column { at.column + length rest.now < 2 ^ 32 }
+    ensures { PassesItem at rest.now result }
+{
+    let (kind, after) = item(rest, first, others)?;
+    Ok((kind, after, moved(at, rest, after)))
+}
+
 /// The tokens of a text, in their order, or the first rule of its characters that it breaks: L1, S1 to S5, U1 or U2,
 /// of the earliest place, and of several at one place the one that stands first in the table of rules.
 pub fn scan(alloc: Global, text: &[u8]) -> Result<List<Token>, Halt>
@@ -67,16 +85,16 @@ pub fn scan(alloc: Global, text: &[u8]) -> Result<List<Token>, Halt>
     let mut tokens = List::new(alloc);
     let mut rest = text;
     'items: while let Some((first, others)) = cut(rest) {
-        match item(rest, first, others) {
-            Ok((None, after)) => {
-                at = moved(at, rest, after);
+        match step(at, rest, first, others) {
+            Ok((None, after, behind)) => {
+                at = behind;
                 rest = after;
             }
-            Ok((Some(kind), after)) => {
+            Ok((Some(kind), after, behind)) => {
                 let from = (text.len() - rest.len()) as u32;
                 let to = (text.len() - after.len()) as u32;
                 tokens.push(Token { kind, from, to, at })?;
-                at = moved(at, rest, after);
+                at = behind;
                 rest = after;
             }
             Err(rule) => return Err(Halt::Refused(Refusal { rule, at })),
@@ -96,9 +114,9 @@ pub fn first_breach(text: &[u8]) -> Option<Refusal>
     }
     let mut rest = text;
     'items: while let Some((first, others)) = cut(rest) {
-        match item(rest, first, others) {
-            Ok((_, after)) => {
-                at = moved(at, rest, after);
+        match step(at, rest, first, others) {
+            Ok((_, after, behind)) => {
+                at = behind;
                 rest = after;
             }
             Err(rule) => return Some(Refusal { rule, at }),

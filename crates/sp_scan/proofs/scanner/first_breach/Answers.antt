@@ -10,22 +10,16 @@ returns-then-text-gt-MAX_TEXT c = too_long c.args.text.now _ refl c.if-text-gt-M
 pub items-init : goal.items-init
 items-init c = pass_start c.args.text.now _ refl (omega (arith, c.if-text-gt-MAX_TEXT.false))
 
-pub moved-at-requires-clause-last : goal.moved-at-requires-clause-last
-moved-at-requires-clause-last c = omega (
-  arith,
-  item_shorter c.items.rest.now c.in-Ok.after.now c.in-Ok.field-0-0 c.in-Ok.ensures.0,
-)
-
-pub moved-at-requires-clause-line : goal.moved-at-requires-clause-line
-moved-at-requires-clause-line c = omega (
+pub step-requires-clause-line : goal.step-requires-clause-line
+step-requires-clause-line c = omega (
   arith,
   scan_line c.items.invariant.1,
   scan_shorter c.items.invariant.1,
   c.items.invariant.1.short,
 )
 
-pub moved-at-requires-clause-column : goal.moved-at-requires-clause-column
-moved-at-requires-clause-column c = omega (
+pub step-requires-clause-column : goal.step-requires-clause-column
+step-requires-clause-column c = omega (
   arith,
   scan_column c.items.invariant.1,
   scan_shorter c.items.invariant.1,
@@ -36,8 +30,8 @@ pub items-smaller : goal.items-smaller
 items-smaller c = item_shorter c.items.rest.now c.in-Ok.after.now c.in-Ok.field-0-0 c.in-Ok.ensures.0
 
 pub items-preserved : goal.items-preserved
-items-preserved c = pass_item c.args.text.now c.items.rest.now c.in-Ok.after.now c.items.at c.moved-at.result
-    c.in-Ok.field-0-0 c.items.invariant c.in-Ok.ensures.0 c.in-Ok.ensures.1 c.moved-at.ensures
+items-preserved c = pass_item c.args.text.now c.items.rest.now c.in-Ok.after.now c.items.at c.in-Ok.behind
+    c.in-Ok.field-0-0 c.items.invariant c.in-Ok.ensures.0 c.in-Ok.ensures.1 c.in-Ok.ensures.2
 
 pub returns-in-Err : goal.returns-in-Err
 returns-in-Err c = scan_breaks c.args.text.now c.items.rest.now c.items.invariant.0 c.items.at c.in-Err.rule

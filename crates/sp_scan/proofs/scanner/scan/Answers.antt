@@ -11,23 +11,16 @@ returns-then-text-gt-MAX_TEXT c = too_long c.args.text.now _ refl c.if-text-gt-M
 pub items-init : goal.items-init
 items-init c = scan_start c.args.text.now _ _ c.new-tokens.ensures refl (omega (arith, c.if-text-gt-MAX_TEXT.false))
 
-pub moved-at-requires-clause-last : goal.moved-at-requires-clause-last
-moved-at-requires-clause-last c = omega (
-  arith,
-  gap_shorter (as_gap c.items.rest.now c.in-Ok-None-default.after.now c.in-Ok-None-default.field-0-0
-      c.in-Ok-None-default.field-0-0-is c.in-Ok-None-default.ensures.0),
-)
-
-pub moved-at-requires-clause-line : goal.moved-at-requires-clause-line
-moved-at-requires-clause-line c = omega (
+pub step-requires-clause-line : goal.step-requires-clause-line
+step-requires-clause-line c = omega (
   arith,
   scan_line c.items.invariant,
   scan_shorter c.items.invariant,
   c.items.invariant.short,
 )
 
-pub moved-at-requires-clause-column : goal.moved-at-requires-clause-column
-moved-at-requires-clause-column c = omega (
+pub step-requires-clause-column : goal.step-requires-clause-column
+step-requires-clause-column c = omega (
   arith,
   scan_column c.items.invariant,
   scan_shorter c.items.invariant,
@@ -40,9 +33,11 @@ items-smaller-in-Ok-None-default c = gap_shorter
     c.in-Ok-None-default.field-0-0-is c.in-Ok-None-default.ensures.0)
 
 pub items-preserved-in-Ok-None-default : goal.items-preserved-in-Ok-None-default
-items-preserved-in-Ok-None-default c = scan_gap c.items.invariant c.in-Ok-None-default.after.now c.moved-at.result
+items-preserved-in-Ok-None-default c = scan_gap c.items.invariant c.in-Ok-None-default.after.now
+    c.in-Ok-None-default.behind
     (as_gap c.items.rest.now c.in-Ok-None-default.after.now c.in-Ok-None-default.field-0-0
-    c.in-Ok-None-default.field-0-0-is c.in-Ok-None-default.ensures.0) c.in-Ok-None-default.ensures.1 c.moved-at.ensures
+    c.in-Ok-None-default.field-0-0-is c.in-Ok-None-default.ensures.0) c.in-Ok-None-default.ensures.1
+    c.in-Ok-None-default.ensures.2
 
 pub overflow_sub-from : goal.overflow_sub-from
 overflow_sub-from c = scan_shorter c.items.invariant
@@ -55,34 +50,18 @@ overflow_sub-to c = omega (
       c.in-Ok-Some-default.kind c.in-Ok-Some-default.field-0-0-is c.in-Ok-Some-default.ensures.0).1.spelled,
 )
 
-pub moved-at-requires-in-Ok-Some-default-clause-last : goal.moved-at-requires-in-Ok-Some-default-clause-last
-moved-at-requires-in-Ok-Some-default-clause-last c =
-    omega (
-      arith,
-      lexeme_length (as_token c.items.rest.now c.in-Ok-Some-default.after.now c.in-Ok-Some-default.field-0-0
-          c.in-Ok-Some-default.kind c.in-Ok-Some-default.field-0-0-is c.in-Ok-Some-default.ensures.0).1.spelled,
-    )
-
-pub moved-at-requires-in-Ok-Some-default-clause-line : goal.moved-at-requires-in-Ok-Some-default-clause-line
-moved-at-requires-in-Ok-Some-default-clause-line c =
-    omega (arith, scan_line c.items.invariant, scan_shorter c.items.invariant, c.items.invariant.short)
-
-pub moved-at-requires-in-Ok-Some-default-clause-column : goal.moved-at-requires-in-Ok-Some-default-clause-column
-moved-at-requires-in-Ok-Some-default-clause-column c =
-    omega (arith, scan_column c.items.invariant, scan_shorter c.items.invariant, c.items.invariant.short)
-
 pub items-smaller : goal.items-smaller
 items-smaller c = lexeme_length (as_token c.items.rest.now c.in-Ok-Some-default.after.now c.in-Ok-Some-default.field-0-0
     c.in-Ok-Some-default.kind c.in-Ok-Some-default.field-0-0-is c.in-Ok-Some-default.ensures.0).1.spelled
 
 pub items-preserved : goal.items-preserved
-items-preserved c = scan_token c.items.invariant c.in-Ok-Some-default.after.now c.moved-at-in-Ok-Some-default.result
+items-preserved c = scan_token c.items.invariant c.in-Ok-Some-default.after.now c.in-Ok-Some-default.behind
     c.in-Ok-Some-default.kind c.push.new.self
     (as_token c.items.rest.now c.in-Ok-Some-default.after.now c.in-Ok-Some-default.field-0-0 c.in-Ok-Some-default.kind
     c.in-Ok-Some-default.field-0-0-is c.in-Ok-Some-default.ensures.0).0
     (as_token c.items.rest.now c.in-Ok-Some-default.after.now c.in-Ok-Some-default.field-0-0 c.in-Ok-Some-default.kind
     c.in-Ok-Some-default.field-0-0-is c.in-Ok-Some-default.ensures.0).1 c.in-Ok-Some-default.ensures.1
-    c.moved-at-in-Ok-Some-default.ensures c.in_ok-push-in-Ok-Some-default.ensures.ok
+    c.in-Ok-Some-default.ensures.2 c.in_ok-push-in-Ok-Some-default.ensures.ok
 
 pub returns-in-Err : goal.returns-in-Err
 returns-in-Err c = scan_breaks c.args.text.now c.items.rest.now c.items.tokens c.items.at c.in-Err.rule
