@@ -1,11 +1,13 @@
 //! The code of statements: each function writes a part behind what is written.
 
-ghost use Rattle.std.specs.Prelude.{◌≡◌, ◌+◌, ◌∷◌, map, length, IfOk};
+ghost use Rattle.std.specs.Prelude.{◌≡◌, ◌+◌, ◌∷◌, ℕ, map, length, IfOk};
+ghost use Rattle.sp_base.specs.declared.place.Place.{Place as APlace};
 ghost use Rattle.sp_tree.specs.CheckedOf.{expression_of, variable_of, width_of, statement_of, statement_form_of};
 ghost use Rattle.sp_tree.specs.CheckedOf.{statements, sends, receives, arms, arm_of};
 ghost use Rattle.sp_tree.specs.PlainChecked as c;
 ghost use Rattle.sp_tree.specs.Bare.{bare_arms};
 ghost use Rattle.sp_code.specs.declared.instr.Instr.TheVariants as i;
+ghost use Rattle.sp_varsets.specs.declared.sets.Sets.{Sets as ASets};
 ghost use Rattle.sp_generate.specs.declared.levels.Scope.TheVariants as scope;
 ghost use Rattle.sp_generate.specs.Steps.{for_instr, next_instr};
 ghost use Rattle.sp_generate.specs.Views.{plain_program};
@@ -85,49 +87,41 @@ fn put_statement_form(g: &CodeContext, sets: &Sets, sc: &[Scope], d: &mut CodeBu
         Form::Send(channel, e) => put_send(g, sc, &mut d.instrs, channel, e),
         Form::Receive(channel, v) => put_receive(g, sc, &mut d.instrs, channel, v),
         Form::SendEach {
-            at,
-            number,
             channel,
             values,
-        } => put_send_each(g, sets, sc, d, *at, *number, channel, values),
+            ..
+        } => put_send_each(g, sc, d, channel, values),
         Form::ReceiveEach {
-            at,
-            number,
             channel,
             variables,
-        } => put_receive_each(g, sets, sc, d, *at, *number, channel, variables),
+            ..
+        } => put_receive_each(g, sc, d, channel, variables),
     }
 }
 
-/// Several values on one channel: single statements at one place, numbered from a number on.
+/// Several values on one channel: the code of single statements, wherever they stand and whatever their numbers.
 fn put_send_each(
     g: &CodeContext,
-    sets: &Sets,
     sc: &[Scope],
     d: &mut CodeBuffer,
-    at: Place,
-    number: u32,
     channel: &Expr,
     values: &List<Expr>,
 )
-    ensures { Wrote d.old d.new (with_form g.now sets.now sc.now d.old
+    ensures { (sets : ASets) (at : APlace) (number : ℕ) → Wrote d.old d.new (with_form g.now sets sc.now d.old
         (c.Sequence (sends number at (expression_of channel.now) (map expression_of values.now)))) }
 {
     put_sends(g, sc, &mut d.instrs, channel, values);
 }
 
-/// Several variables from one channel: single statements at one place, numbered from a number on.
+/// Several variables from one channel: the code of single statements, wherever they stand and whatever their numbers.
 fn put_receive_each(
     g: &CodeContext,
-    sets: &Sets,
     sc: &[Scope],
     d: &mut CodeBuffer,
-    at: Place,
-    number: u32,
     channel: &Expr,
     variables: &List<Var>,
 )
-    ensures { Wrote d.old d.new (with_form g.now sets.now sc.now d.old
+    ensures { (sets : ASets) (at : APlace) (number : ℕ) → Wrote d.old d.new (with_form g.now sets sc.now d.old
         (c.Sequence (receives number at (expression_of channel.now) (map variable_of variables.now)))) }
 {
     put_receives(g, sc, &mut d.instrs, channel, variables);

@@ -272,7 +272,7 @@ put_statement_form-returns-in-SendEach t c =
     ≡ tree.Sequence (sends c.in-SendEach.number c.in-SendEach.at (expression_of c.in-SendEach.channel)
     (map expression_of c.in-SendEach.values)) =
     search (rules, folds.the_lemmas) in
-    rw i (c.put_send_each.ensures)
+    rw i (c.put_send_each.ensures c.args.sets.now c.in-SendEach.at c.in-SendEach.number)
 
 pub put_statement_form-returns-in-ReceiveEach : goal.put_statement_form-returns-in-ReceiveEach
 put_statement_form-returns-in-ReceiveEach t c =
@@ -280,7 +280,7 @@ put_statement_form-returns-in-ReceiveEach t c =
     ≡ tree.Sequence (receives c.in-ReceiveEach.number c.in-ReceiveEach.at (expression_of c.in-ReceiveEach.channel)
     (map variable_of c.in-ReceiveEach.variables)) =
     search (rules, folds.the_lemmas) in
-    rw i (c.put_receive_each.ensures)
+    rw i (c.put_receive_each.ensures c.args.sets.now c.in-ReceiveEach.at c.in-ReceiveEach.number)
 
 pub put_if-returns : goal.put_if-returns
 put_if-returns t c k =
