@@ -32,7 +32,7 @@ use Rattle.superpascal.specs.Calls.{WroteAll, Call, Exactly, Failed, IsAnswered,
 use Rattle.superpascal.specs.Calls.{OfText, WrotePart, SaysEnding}
 use Rattle.superpascal.specs.Causes.{Cause, by_words, before_words, by_command, HasGenerated, HasRead, HasReplayed}
 use Rattle.superpascal.specs.Causes.{HasRun, IsNotLoaded, IsNotRead, IsTooLong, IsUntouched, ReadsAfterRules}
-use Rattle.superpascal.specs.Causes.{refusal_answer, answer_without_output}
+use Rattle.superpascal.specs.Causes.{answer_with_line, answer_without_output}
 use Rattle.superpascal.specs.ReplayPromise.{Following, IsMeantAlong, PrintsReplay}
 use Rattle.superpascal.specs.Headline.{Headline, IsMeant, Prints}
 use Rattle.superpascal.specs.Replays.{IsJournalOf, IsWritten, ending_of_replay, replay_notes}
@@ -607,9 +607,13 @@ module _ (c : Call) (k : IsAnswered c) (l : Laws) where
       prints r h b v = let m = run_written r h b v in
           record { status = run_status r h; whole = λ n. (m.whole n).0; part = m.part_of_output }
 
+  -- the notes are the line of this ending, or that of a refusal
+  abbrev Is_line : Ending → Type 0
+  Is_line x = (notes_by x k.answer.notes ≡ line_of x) ⊎ ((r : Refusal) × (k.answer ≡ answer_with_line (e.Refused r)))
+
   -- the notes where there is no output
   line_is : (x : Ending) → why c.files c.source c.reports (command_of c.words) k.answer x → has_output x ≡ false
-      → (notes_by x k.answer.notes ≡ line_of x) ⊎ ((r : Refusal) × (k.answer ≡ refusal_answer r))
+      → Is_line x
   line_is (e.BadCode n) (b, v, m) h = inl (ap (λ (z : Answer). z.notes) m.answer)
   line_is (e.Rejected r n) (b, v, m) h = inl (ap (λ (z : Answer). z.notes) m.answer)
   line_is (e.BadJournal n) (b, v, m) h = inl (ap (λ (z : Answer). z.notes) m.answer)
@@ -645,8 +649,7 @@ module _ (c : Call) (k : IsAnswered c) (l : Laws) where
           → WritesLine c
       writes_line i n m = go (line_is ending due_why n)
         where
-          go : (notes_by ending k.answer.notes ≡ line_of ending) ⊎ ((r : Refusal) × (k.answer ≡ refusal_answer r))
-              → WritesLine c
+          go : Is_line ending → WritesLine c
           go (inl h) = (ending, i, n, subst (WroteAll c.notes) h m)
           go (inr (r, h)) = (
             e.Refused r,

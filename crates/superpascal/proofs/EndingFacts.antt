@@ -30,7 +30,7 @@ use Rattle.superpascal.specs.Replays.{IsUnfitFor}
 use Rattle.superpascal.specs.Runs.{IsRunOf, Reports}
 use Rattle.superpascal.specs.Statuses.{IsRegularStatus}
 use Rattle.superpascal.specs.Texts.{FirstBrokenFor, CanRead, HasLongCode, IsSoundFile, AcceptedFor, IsAcceptedText}
-use Rattle.superpascal.specs.Texts.{LoadsText, Makes, asks_build, asks_execution, asks_replay, asks_run}
+use Rattle.superpascal.specs.Texts.{LoadsText, Makes, asks_build, asks_replay, asks_run}
 use Rattle.superpascal.specs.Texts.{asks_text, text_of}
 use Rattle.superpascal.proofs.Laws.{Laws, code_text_keeps, keeps_or, kept_or, made_asks, made_keeps, one_break}
 use Rattle.superpascal.proofs.RunCommands.{not_exec, not_gen, not_run}
@@ -470,14 +470,14 @@ module _ (f : Files) (s : Stream) (reports : Reports) (w : Option Command) (a : 
   -- why a code file is not written, or not run
   abbrev pub Code_refused : Type 0
   Code_refused = (d : Command) × (w ≡ Some d)
-      × ((asks_build d × IfSome (text_of f.held d) HasLongCode) ⊎ asks_execution d)
+      × ((asks_build d × IfSome (text_of f.held d) HasLongCode) ⊎ ((b : ExecRequest) × (d ≡ command.Exec b)))
 
   pub long_said : (x : Ending) → Why x → status_of x ≡ 10 → Code_refused
   long_said e.LongCode (d, v, h) i =
       (d, v, inl (h.builds, when_told HasLongCode (text_of f.held d) h.text h.loaded h.long))
-  long_said e.LongFile (b, v, h) i = (command.Exec b, v, inr tt)
-  long_said (e.BadCode n) (b, v, h) i = (command.Exec b, v, inr tt)
-  long_said (e.Rejected r n) (b, v, h) i = (command.Exec b, v, inr tt)
+  long_said e.LongFile (b, v, h) i = (command.Exec b, v, inr (b, refl))
+  long_said (e.BadCode n) (b, v, h) i = (command.Exec b, v, inr (b, refl))
+  long_said (e.Rejected r n) (b, v, h) i = (command.Exec b, v, inr (b, refl))
   long_said _ k i = absurd (omega arith)
 
   -- why a journal is refused

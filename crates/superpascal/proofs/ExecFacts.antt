@@ -9,7 +9,6 @@ use Rattle.sp_codefile.specs.declared.verifier.VRule.{VRule}
 use Rattle.sp_kernel.specs.declared.closed.Closed.{Closed}
 use Rattle.sp_print.specs.OutcomeLines.{HasLines, end_text}
 use Rattle.sp_verify_rules.specs.Verdict.{IsRejected, number}
-use Rattle.sp_tree.specs.Bare.{without_places}
 use Rattle.sp_words.specs.Words.{command_of}
 use Rattle.sp_words.specs.declared.command.Command.{Command}
 use Rattle.sp_words.specs.declared.command.Command.TheVariants as command
@@ -22,10 +21,10 @@ use Rattle.superpascal.specs.Answers.{line_of, notes_of, output_of, status_of}
 use Rattle.superpascal.specs.Calls.{WroteAll, Call, IsAnswered, IsFinal, IsOutside, WrotePart, SaysEnding}
 use Rattle.superpascal.specs.Causes.{Files, HasExecuted, IsBadCode, IsLongFile, IsRefusedFor, IsRejectedCode, IsKnownAs}
 use Rattle.superpascal.specs.Causes.{IsTooLong, Stream}
-use Rattle.superpascal.specs.ExecPromise.{Executing, IsExecutionOfWords, IsFaultyFile, IsMeantHere}
+use Rattle.superpascal.specs.ExecPromise.{Executing, IsExecutionOfWords, IsFaultyFile}
 use Rattle.superpascal.specs.Executions.{IsExecutionOf, execution_answer}
 use Rattle.superpascal.specs.Runs.{Reports, ending_of}
-use Rattle.superpascal.specs.Texts.{IsCodeFile, IsSoundFile, Makes, asks_build}
+use Rattle.superpascal.specs.Texts.{IsSoundFile, Makes, asks_build}
 use Rattle.superpascal.specs.WrittenParts.{AreWritten}
 use Rattle.superpascal.proofs.RunCommands.{not_exec}
 use Rattle.superpascal.proofs.Forms.{final, no_command, not_too_long, one_command, run_notes_stand}
@@ -215,10 +214,6 @@ module _ (c : Call) (k : IsAnswered c) (l : Laws) where
           (subst (λ (y : List ℕ). IsExecutionOf bytes y b.limits m.run) this_input
           (subst (λ (y : List ℕ). IsExecutionOf y m.input b.limits m.run) this_file m.is_execution))
 
-      run_meant : (text : List ℕ) → IsCodeFile text bytes → IsMeantHere b text input r
-      run_meant text h = let m = run_machine.meant text h in
-          (without_places m.tree, (m.tree, m.has.accepted.0, refl), m.about)
-
   -- the answer that was due, whatever displaced its status
   due_run : (b : ExecRequest) → command_of c.words ≡ Some (command.Exec b) → (a : IsAnswered c)
       → IsFinal (status_of a.answer.ending) → (r : Closed) × (c.outcome.executed ≡ Some r)
@@ -398,7 +393,6 @@ module _ (c : Call) (k : IsAnswered c) (l : Laws) where
         (i, subst IsFinal (sym i) (final r.end (has_lines r h)).0);
     by_end = run_status;
     machine = λ b bytes v t input left r h. run_machine r h b bytes input v t left;
-    meant = λ b bytes v t input left r h text m. run_meant r h b bytes input v t left text m;
     written = run_written;
     accepted = λ b bytes v t input left sound fits. runs_well b bytes v t input left sound fits;
     rejected = λ b bytes v t short code text r i m. says_rejected b bytes v t short code text r i m;

@@ -27,7 +27,7 @@ use Rattle.sp_words.specs.declared.command.Command.{Command}
 use Rattle.sp_words.specs.declared.command.Command.TheVariants as command
 use Rattle.superpascal.specs.Texts.{FirstBrokenFor, FirstBroken, HasCodeText, HasSets, IsDisjointText}
 use Rattle.superpascal.specs.Texts.{AcceptedFor, IsAcceptedText}
-use Rattle.superpascal.specs.Texts.{Makes, asks_all, asks_execution, asks_text, file_of}
+use Rattle.superpascal.specs.Texts.{Makes, asks_all, asks_text, file_of}
 
 pub record Laws : Type 0 where
   -- by characters, grammar, names and types
@@ -135,6 +135,11 @@ keeps_all (command.Sets file) text q k = absurd q
 keeps_all (command.Format file) text q k = absurd q
 keeps_all (command.Exec asked) text q k = absurd q
 keeps_all _ _ _ k = k
+
+-- the command that runs a code file
+abbrev pub asks_execution : Command → Type 0
+asks_execution (command.Exec asked) = Unit {0}
+asks_execution _ = ⊥
 
 -- the command loads a text under this name first, and no code file
 abbrev pub IsAbout : Command → List ℕ → Type 0

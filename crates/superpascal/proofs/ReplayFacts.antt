@@ -100,7 +100,12 @@ module _ (f : Files) (s : Stream) (reports : Reports) (b : ReplayRequest) where
     )
     replay_unread u x (inl (inr (inl h))) = (
       by_library
-          (record { name = b.journal; loads = inr (refl, kept_is); rose = h.1; answer = ap ending_answer h.0 }),
+          (record {
+            name = b.journal;
+            loads = inr (b, refl, refl, kept_is);
+            rose = h.1;
+            answer = ap ending_answer h.0;
+          }),
       inl u,
     )
     replay_unread u x (inl (inr (inr h))) = (by_memory (ap ending_answer h), inl u)

@@ -1,6 +1,7 @@
 -- None of this belongs to what the program promises: it is for contracts between crates.
 -- What the answers of a call are made of. The contracts of `answers`, `notes` and `runs` promise it.
-use Rattle.std.specs.Prelude.{◌≡◌, ◌⊎◌, List, [], ℕ, Option, Some, None}
+use Rattle.std.specs.Option.{option_map_or}
+use Rattle.std.specs.Prelude.{◌≡◌, ◌⊎◌, List, [], ℕ, Option, Some, None, codes}
 use Rattle.sp_base.specs.declared.halt.Halt.{Halt}
 use Rattle.sp_base.specs.declared.halt.Halt.TheVariants as halt
 use Rattle.sp_code.specs.declared.code.Parts.{Parts}
@@ -8,7 +9,7 @@ use Rattle.sp_execute.specs.declared.execution.Ran.{Ran}
 use Rattle.sp_generate.specs.GeneratorAnswers.{IsCodeOf}
 use Rattle.sp_journal.specs.declared.outcome.End.{End}
 use Rattle.sp_journal.specs.Births.{IsNameable}
-use Rattle.sp_print.specs.OutcomeLines.{HasLines}
+use Rattle.sp_print.specs.OutcomeLines.{HasLines, end_text}
 use Rattle.sp_replay.specs.declared.replayer.ReplayError.{ReplayError}
 use Rattle.sp_replay.specs.declared.replayer.ReplayError.TheVariants as error
 use Rattle.sp_tree.specs.Bare.{without_places}
@@ -60,3 +61,7 @@ IsTellable r = IsNameable r.closed.journal × HasLines r.closed.end
 abbrev pub HasEndLines : Option End → Type 0
 HasEndLines None = Unit {0}
 HasEndLines (Some x) = HasLines x
+
+-- the lines of the end, or that there is none
+abbrev pub lines_of_replay : Option End → List ℕ
+lines_of_replay end = option_map_or end_text end (codes "no end\n")

@@ -1,7 +1,7 @@
 -- All of this belongs to what the program promises (docs/promise.txt).
 -- What a call has to write, and its status: the table of endings. The contracts of `ending` and `writing` promise it,
 -- and the headline and the statuses are said by it.
-use Rattle.std.specs.Prelude.{ℕ, List, [], ◌++◌, Option, Some, None, Bool, true, false, codes, decimal}
+use Rattle.std.specs.Prelude.{ℕ, ◌==◌, List, [], ◌++◌, Option, Some, None, unwrap_or, Bool, ◌||◌, codes, decimal}
 use Rattle.sp_codefile.specs.VerifyAnswers.{rule_of}
 use Rattle.sp_execute.specs.declared.execution.Ran.{Ran}
 use Rattle.sp_kernel.specs.declared.closed.Closed.{Closed}
@@ -33,28 +33,27 @@ status_of (e.Rejected v i) = 10
 
 -- the answer has an output: that of a run, a replay or an execution, or the text that the command asks for, if any
 abbrev pub has_output : Ending → Bool
-has_output e.Done = true
-has_output e.Deadlock = true
-has_output e.Fault = true
-has_output e.NoEnd = true
-has_output e.Accepted = true
-has_output _ = false
+has_output x = status_of x == 0 || (status_of x == 3 || status_of x == 4)
+
+-- the line of a call that is the same for every text
+abbrev pub fixed_line : Ending → Option (List ℕ)
+fixed_line e.BadWords = Some (codes "bad words\n")
+fixed_line e.ReadFault = Some (codes "read fault\n")
+fixed_line e.TooLong = Some (codes "input too long\n")
+fixed_line e.OutOfMemory = Some (codes "out of memory\n")
+fixed_line e.LongJournal = Some (codes "journal too long\n")
+fixed_line e.LongCode = Some (codes "code file too long\n")
+fixed_line e.LongFile = Some (codes "code file too long\n")
+fixed_line _ = None
 
 -- the line of a call that has no output
 abbrev pub line_of : Ending → List ℕ
 line_of (e.Refused r) = refusal_text r
-line_of e.BadWords = codes "bad words\n"
-line_of e.ReadFault = codes "read fault\n"
-line_of e.TooLong = codes "input too long\n"
-line_of e.OutOfMemory = codes "out of memory\n"
-line_of e.LongJournal = codes "journal too long\n"
 line_of (e.BadJournal n) = codes "bad journal " ++ decimal n ++ codes "\n"
 line_of (e.Unfit n) = codes "journal unfit " ++ decimal n ++ codes "\n"
-line_of e.LongCode = codes "code file too long\n"
-line_of e.LongFile = codes "code file too long\n"
 line_of (e.BadCode n) = codes "bad code " ++ decimal n ++ codes "\n"
 line_of (e.Rejected v i) = codes "rejected V" ++ decimal (number (rule_of v)) ++ codes " " ++ decimal i ++ codes "\n"
-line_of _ = []
+line_of x = unwrap_or (fixed_line x) []
 
 -- an answer by its parts
 abbrev pub answer_of : Ending → Option Ran → Option Closed → Option (List ℕ) → List ℕ → Answer
@@ -62,14 +61,7 @@ answer_of x ran run output notes = record { ending = x; ran = ran; executed = ru
 
 -- the notes: those of the run, of the refusal, of the journal or of the code, or a line that is the same for every text
 abbrev pub notes_by : Ending → List ℕ → List ℕ
-notes_by e.BadWords notes = line_of e.BadWords
-notes_by e.ReadFault notes = line_of e.ReadFault
-notes_by e.TooLong notes = line_of e.TooLong
-notes_by e.OutOfMemory notes = line_of e.OutOfMemory
-notes_by e.LongJournal notes = line_of e.LongJournal
-notes_by e.LongCode notes = line_of e.LongCode
-notes_by e.LongFile notes = line_of e.LongFile
-notes_by _ notes = notes
+notes_by x notes = unwrap_or (fixed_line x) notes
 
 abbrev pub notes_of : Answer → List ℕ
 notes_of a = notes_by a.ending a.notes

@@ -15,7 +15,6 @@ use Rattle.sp_journal.specs.Texts.{IsFirstBad}
 use Rattle.sp_kernel.specs.declared.closed.Closed.{Closed}
 use Rattle.sp_outside.specs.Counts.{Rose}
 use Rattle.sp_outside.specs.Visible.{IsAtEnd}
-use Rattle.sp_print.specs.OutcomeLines.{refusal_text}
 use Rattle.sp_replay.specs.declared.replayer.Replayed.{Replayed}
 use Rattle.sp_verify_rules.specs.Verdict.{IsRejected}
 use Rattle.sp_words.specs.Ranges.{default_limits}
@@ -27,8 +26,9 @@ use Rattle.sp_words.specs.declared.requests.ReplayRequest.{ReplayRequest}
 use Rattle.superpascal.specs.declared.ending.Ending.{Ending}
 use Rattle.superpascal.specs.declared.ending.Ending.TheVariants as e
 use Rattle.superpascal.specs.declared.ending.Answer.{Answer}
+use Rattle.superpascal.specs.Answers.{answer_of, line_of}
 use Rattle.superpascal.specs.Executions.{IsExecutionOf, execution_answer}
-use Rattle.superpascal.specs.Replays.{IsJournalOf, IsReplayOf, IsUnfitFor, IsWritten, numbered_answer, replay_answer}
+use Rattle.superpascal.specs.Replays.{IsJournalOf, IsReplayOf, IsUnfitFor, IsWritten, replay_answer}
 use Rattle.superpascal.specs.Runs.{IsRunOf, Reports, generated_answer, run_answer}
 use Rattle.superpascal.specs.Texts.{FirstBrokenFor, CanRead, HasLongCode, IsAcceptedText, LoadsText, Makes}
 use Rattle.superpascal.specs.Texts.{asks_build, text_of}
@@ -80,9 +80,9 @@ answer_without_output ending = record { ending = ending; ran = None; executed = 
 abbrev pub accepted_answer : List ℕ → List ℕ → Answer
 accepted_answer out line = record { ending = e.Accepted; ran = None; executed = None; output = Some out; notes = line }
 
--- the answer to a text that breaks this rule first
-abbrev pub refusal_answer : Refusal → Answer
-refusal_answer r = record { ending = e.Refused r; ran = None; executed = None; output = None; notes = refusal_text r }
+-- the answer with a line of its own, which names a rule or a number
+abbrev pub answer_with_line : Ending → Answer
+answer_with_line ending = answer_of ending None None None (line_of ending)
 
 -- ---- causes
 
@@ -125,7 +125,7 @@ pub record IsLongCode (f : Files) (c : Command) (a : Answer) : Type 0 where
 pub record IsRefusedFor (f : Files) (c : Command) (a : Answer) : Type 0 where
   pub refusal : Refusal
   pub breaks : IfSome (text_of f.held c) (λ text. FirstBrokenFor c text refusal)
-  pub answer : a ≡ refusal_answer refusal
+  pub answer : a ≡ answer_with_line (e.Refused refusal)
 
 -- the library failed under a name that the command loads
 pub record IsNotLoaded (f : Files) (c : Command) (a : Answer) : Type 0 where
@@ -172,7 +172,7 @@ pub record HasReplayed (f : Files) (s : Stream) (asked : ReplayRequest) (a : Ans
 pub record IsUnfit (f : Files) (s : Stream) (asked : ReplayRequest) (n : ℕ) (a : Answer) : Type 0 where
   pub has_read : HasRead f s asked
   pub is_unfit : IsUnfitFor has_read.text has_read.input asked.limits has_read.journal n
-  pub answer : a ≡ numbered_answer (e.Unfit n)
+  pub answer : a ≡ answer_with_line (e.Unfit n)
 
 -- for a text that breaks no rule, line n of the journal is the first that is no text of a next entry
 pub record IsBadJournal (f : Files) (asked : ReplayRequest) (n : ℕ) (a : Answer) : Type 0 where
@@ -180,7 +180,7 @@ pub record IsBadJournal (f : Files) (asked : ReplayRequest) (n : ℕ) (a : Answe
   pub short : IfSome (f.held asked.journal) (λ bytes. length bytes ≤ 67108864)
   pub bad : IfSome (f.held asked.journal) (IsFirstBad n)
   pub no_text : IfSome (f.held asked.journal) (λ bytes. IsText bytes → ⊥)
-  pub answer : a ≡ numbered_answer (e.BadJournal n)
+  pub answer : a ≡ answer_with_line (e.BadJournal n)
 
 -- for a text that breaks no rule, the journal is longer than the limit
 pub record IsLongJournal (f : Files) (asked : ReplayRequest) (a : Answer) : Type 0 where
@@ -211,7 +211,7 @@ pub record IsBadCode (f : Files) (asked : ExecRequest) (n : ℕ) (a : Answer) : 
   pub loaded : IsKnownAs (f.held asked.file) bytes
   pub short : length bytes ≤ 67108864
   pub bad : IsFirstBadOfCode n bytes
-  pub answer : a ≡ numbered_answer (e.BadCode n)
+  pub answer : a ≡ answer_with_line (e.BadCode n)
 
 -- the code of the file breaks rule v first, and instruction i is the least at which it does
 pub record IsRejectedCode (f : Files) (asked : ExecRequest) (v : VRule) (i : ℕ) (a : Answer) : Type 0 where
@@ -221,7 +221,7 @@ pub record IsRejectedCode (f : Files) (asked : ExecRequest) (v : VRule) (i : ℕ
   pub short : length bytes ≤ 67108864
   pub text : IsTextOfCode code bytes
   pub rejected : IsRejected code (rule_of v) i
-  pub answer : a ≡ numbered_answer (e.Rejected v i)
+  pub answer : a ≡ answer_with_line (e.Rejected v i)
 
 -- Why an answer to a command is due.
 pub data Due (f : Files) (s : Stream) (reports : Reports) (c : Command) (a : Answer) : Type 0 where

@@ -8,13 +8,10 @@ use Rattle.sp_code.specs.declared.code.Parts.{Parts}
 use Rattle.sp_codefile.specs.CodeText.{IsFirstBad, IsText, IsTextOf}
 use Rattle.sp_codefile.specs.VerifyAnswers.{rule_of}
 use Rattle.sp_codefile.specs.declared.verifier.VRule.{VRule}
-use Rattle.sp_execute.specs.Runs.{IsAbout, run_input}
-use Rattle.sp_front.specs.Checks.{IsProgramOf}
 use Rattle.sp_kernel.specs.declared.closed.Closed.{Closed}
 use Rattle.sp_outside.specs.Visible.{IsAtEnd}
 use Rattle.sp_print.specs.OutcomeLines.{end_text}
 use Rattle.sp_verify_rules.specs.Verdict.{IsRejected}
-use Rattle.sp_tree.specs.Plain.{Program}
 use Rattle.sp_words.specs.Words.{command_of}
 use Rattle.sp_words.specs.declared.requests.ExecRequest.{ExecRequest}
 use Rattle.sp_words.specs.declared.command.Command.TheVariants as command
@@ -24,7 +21,7 @@ use Rattle.superpascal.specs.Calls.{Call, IsAnswered, IsFinal, IsOutside, OfExec
 use Rattle.superpascal.specs.Causes.{IsKnownAs, IsTooLong}
 use Rattle.superpascal.specs.Executions.{IsExecutionOf}
 use Rattle.superpascal.specs.Runs.{ending_of}
-use Rattle.superpascal.specs.Texts.{IsCodeFile, IsSoundFile}
+use Rattle.superpascal.specs.Texts.{IsSoundFile}
 use Rattle.superpascal.specs.WrittenParts.{AreWritten}
 
 -- the bytes are more than are loaded, or the text of no code, or that of code which breaks a rule
@@ -41,10 +38,6 @@ IsExecutionOfWords c r =
     × (bytes input : List ℕ) × IsKnownAs (c.files.held b.file) bytes × IsKnownAs c.source.left input
     × IsExecutionOf bytes input b.limits r
 
--- the text has this program, which means that end and that output along the journal
-abbrev pub IsMeantHere : ExecRequest → List ℕ → List ℕ → Closed → Type 0
-IsMeantHere b text input r = (p : Program) × IsProgramOf text p × IsAbout (run_input p input b.limits) r
-
 pub record Executing (c : Call) : Type 0 where
   -- a run is given back of `exec` alone, and wherever the status that was due, also one that a failed write displaced,
   -- is 0, 3 or 4
@@ -56,12 +49,10 @@ pub record Executing (c : Call) : Type 0 where
       → (status_of a.answer.ending ≡ status_of (ending_of r.end)) × IsFinal (status_of a.answer.ending)
   pub by_end : (r : Closed) → c.outcome.executed ≡ Some r → (c.outcome.status ≡ status_of (ending_of r.end))
       ⊎ (c.outcome.status ≡ 6)
-  -- its end and its output are those of the machine with the code of the file along its journal
+  -- its end and its output are those of the machine with the code of the file along its journal; and where the file
+  -- holds what `build` writes for a text, they are what the text's program means along it (`IsExecutionOf`)
   pub machine : OfExecutionInput c (λ b bytes input. (r : Closed) → c.outcome.executed ≡ Some r
       → IsExecutionOf bytes input b.limits r)
-  -- where the file holds what `build` writes for a text, they are what the text's program means along that journal
-  pub meant : OfExecutionInput c (λ b bytes input. (r : Closed) → c.outcome.executed ≡ Some r → (text : List ℕ)
-      → IsCodeFile text bytes → IsMeantHere b text input r)
   -- its output was written, and then the lines of its end; with status 6 a first part of each
   pub written : (r : Closed) → c.outcome.executed ≡ Some r → AreWritten c r.output (end_text r.end)
   -- a file whose code breaks no rule is run

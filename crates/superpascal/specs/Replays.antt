@@ -19,7 +19,7 @@ use Rattle.sp_words.specs.declared.requests.View.TheVariants as view
 use Rattle.superpascal.specs.declared.ending.Ending.{Ending}
 use Rattle.superpascal.specs.declared.ending.Ending.TheVariants as e
 use Rattle.superpascal.specs.declared.ending.Answer.{Answer}
-use Rattle.superpascal.specs.Answers.{answer_of, line_of}
+use Rattle.superpascal.specs.Answers.{answer_of}
 use Rattle.superpascal.specs.Runs.{HasTree, ending_of}
 use Rattle.superpascal.specs.Traces.{IsStateOf, IsTraceOf}
 
@@ -47,12 +47,9 @@ ending_of_replay end = option_map_or ending_of end e.NoEnd
 
 -- ---- texts
 
--- the lines of the end, or that there is none
-abbrev pub lines_of_replay : Option End → List ℕ
-lines_of_replay end = option_map_or end_text end (codes "no end\n")
-
+-- that the journal was followed, and the lines of the end, or that there is none
 abbrev pub replay_notes : Option End → List ℕ
-replay_notes end = codes "replayed\n" ++ lines_of_replay end
+replay_notes end = codes "replayed\n" ++ option_map_or end_text end (codes "no end\n")
 
 -- what is written of a journal that was followed: what the program wrote, the text of the entries, or that of the state
 abbrev pub IsWritten : View → List ℕ → List ℕ → Limits → Journal → Replayed → List ℕ → Type 0
@@ -65,7 +62,3 @@ IsWritten view.State text input limits j r out = IsStateOf text input limits j o
 -- the answer where the journal was followed to this end, and this is written of it
 abbrev pub replay_answer : Option End → List ℕ → Answer
 replay_answer end out = answer_of (ending_of_replay end) None None (Some out) (replay_notes end)
-
--- the answer that names a number of the journal, or of the code
-abbrev pub numbered_answer : Ending → Answer
-numbered_answer ending = answer_of ending None None None (line_of ending)

@@ -11,6 +11,7 @@ use Rattle.sp_words.specs.Ranges.{default_limits}
 use Rattle.sp_words.specs.Words.{command_of}
 use Rattle.sp_words.specs.declared.command.Command.{Command}
 use Rattle.sp_words.specs.declared.command.Command.TheVariants as command
+use Rattle.sp_words.specs.declared.requests.ExecRequest.{ExecRequest}
 use Rattle.sp_words.specs.declared.requests.RunRequest.{RunRequest}
 use Rattle.superpascal.specs.declared.ending.Ending.TheVariants as e
 use Rattle.superpascal.specs.Answers.{status_of}
@@ -20,9 +21,7 @@ use Rattle.superpascal.specs.Causes.{IsKnownAs, IsTooLong, IsUntouched}
 use Rattle.superpascal.specs.Runs.{IsRunOf, ending_of}
 use Rattle.superpascal.specs.Texts.{FirstBrokenFor, CanRead, HasLongCode, IsDisjointText, IsJournalText, AcceptedFor}
 use Rattle.superpascal.specs.Texts.{IsAcceptedText}
-use Rattle.superpascal.specs.Texts.{LoadsText, Makes, asks_all, asks_build, asks_execution, asks_replay}
-use Rattle.superpascal.specs.Texts.{asks_run}
-use Rattle.superpascal.specs.Texts.{asks_text, text_of}
+use Rattle.superpascal.specs.Texts.{LoadsText, Makes, asks_all, asks_build, asks_replay, asks_run, asks_text, text_of}
 
 -- the library failed under a name that the command loads, or the source failed where the command reads it
 abbrev pub ReadsFail : Call → Type 0
@@ -87,7 +86,7 @@ pub record Statuses (c : Call) : Type 0 where
   -- 10: the code of the text is too long for a file, or the code file is at fault (`Executing`)
   pub long_code : OfText c (λ d text. asks_build d → Exactly c.outcome.status 10 (HasLongCode text))
   pub no_other_long : c.outcome.status ≡ 10 → (d : Command) × (command_of c.words ≡ Some d)
-      × ((asks_build d × IfSome (text_of c.files.held d) HasLongCode) ⊎ asks_execution d)
+      × ((asks_build d × IfSome (text_of c.files.held d) HasLongCode) ⊎ ((b : ExecRequest) × (d ≡ command.Exec b)))
   -- nothing else: where the words ask for a command that refuses the text, or the code file, for no rule, and nothing
   -- outside fails
   pub complete : OfText c (λ d text. AcceptedFor d text → OutsideWorks c d → IsRegularStatus d c.outcome.status)

@@ -26,6 +26,7 @@ use Rattle.sp_varsets.specs.AreSets.{AreSets}
 use Rattle.sp_varsets.specs.declared.sets.Sets.{Sets}
 use Rattle.sp_words.specs.declared.command.Command.{Command}
 use Rattle.sp_words.specs.declared.command.Command.TheVariants as command
+use Rattle.sp_words.specs.declared.requests.ReplayRequest.{ReplayRequest}
 
 -- the text has a tree that breaks no rule of the phases, and its code is no longer than code may be
 abbrev pub IsAcceptedText : List ℕ → Type 0
@@ -34,10 +35,6 @@ IsAcceptedText text = (p : c.Program) × IsAccepted text p × (tree_length (with
 -- the first of all rules that the text breaks: of the phases, or that of the length of its code
 abbrev pub FirstBroken : List ℕ → Refusal → Type 0
 FirstBroken text r = FirstBrokenOfPhases text r ⊎ BreaksLength text r
-
--- the text has a tree by the rules of characters, grammar, names and types
-abbrev pub IsAnalysed : List ℕ → Type 0
-IsAnalysed text = (p : c.Program) × IsChecked text p
 
 -- this is the text of the sets of the text's tree
 abbrev pub HasSets : List ℕ → List ℕ → Type 0
@@ -90,14 +87,11 @@ abbrev pub text_of : (List ℕ → Option (List ℕ)) → Command → Option (Li
 text_of held (command.Gen size workers) = Some (generated_text size)
 text_of held c = option_and_then held (file_of c)
 
--- the command follows the journal under this name
-abbrev pub FollowsUnder : Command → List ℕ → Type 0
-FollowsUnder (command.Replay asked) name = asked.journal ≡ name
-FollowsUnder _ _ = ⊥
-
--- the command loads what is held under this name: its file, or its journal, where its text breaks no rule
+-- the command loads what is held under this name: its file, or the journal that it follows, where its text breaks no
+-- rule
 abbrev pub LoadsText : (List ℕ → Option (List ℕ)) → Command → List ℕ → Type 0
-LoadsText held c name = (file_of c ≡ Some name) ⊎ (FollowsUnder c name × IfSome (text_of held c) IsAcceptedText)
+LoadsText held c name = (file_of c ≡ Some name) ⊎ ((b : ReplayRequest) × (c ≡ command.Replay b) × (b.journal ≡ name)
+    × IfSome (held b.file) IsAcceptedText)
 
 -- the first rule for which the command refuses the text: of all rules, for `sets` of those of characters, grammar,
 -- names and types, for `format` of those that it goes through; a code file has no text that could break one
@@ -109,7 +103,7 @@ FirstBrokenFor _ text r = FirstBroken text r
 
 -- the command refuses the text for no rule, and a code file neither
 abbrev pub AcceptedFor : Command → List ℕ → Type 0
-AcceptedFor (command.Sets file) text = IsAnalysed text
+AcceptedFor (command.Sets file) text = (p : c.Program) × IsChecked text p
 AcceptedFor (command.Format file) text = (out : List ℕ) × HasLayout text out
 AcceptedFor (command.Exec asked) text = IsSoundFile text
 AcceptedFor _ text = IsAcceptedText text
@@ -137,11 +131,6 @@ asks_replay _ = ⊥
 abbrev pub asks_build : Command → Type 0
 asks_build (command.Build file) = Unit {0}
 asks_build _ = ⊥
-
--- the command that runs a code file
-abbrev pub asks_execution : Command → Type 0
-asks_execution (command.Exec asked) = Unit {0}
-asks_execution _ = ⊥
 
 -- these bytes are the text of a journal, and no more than are loaded
 abbrev pub IsJournalText : List ℕ → Type 0

@@ -56,10 +56,10 @@
 //! - A status or a line: `Ending` in `src/ending.rt`, `specs/Answers.antt`, `own_line` of `specs/AnswerParts.antt` and
 //!   of `src/answers.rt`, its cause in `Due` of `specs/Causes.antt`, the step that it ends in `specs/Steps.antt`, its
 //!   clause in `specs/Statuses.antt`, `proofs/Why.antt`, `proofs/EndingFacts.antt` and `proofs/CallFacts.antt`.
-//! - A command: its variant in `sp_words`, with what it asks for; `file_of`, `text_of`, `FollowsUnder`,
-//!   `FirstBrokenFor`, `AcceptedFor`, `asks_text`, `asks_run`, `asks_replay`, `asks_build`, `asks_execution`,
-//!   `CanRead`, `Makes` and `asks_all` of `specs/Texts.antt`; its function in `src/texts.rt`, `src/runs.rt`,
-//!   `src/replays.rt` or `src/executions.rt`, its arm in `src/top.rt`.
+//! - A command: its variant in `sp_words`, with what it asks for; `file_of`, `text_of`, `LoadsText`, `FirstBrokenFor`,
+//!   `AcceptedFor`, `asks_text`, `asks_run`, `asks_replay`, `asks_build`, `CanRead`, `Makes` and `asks_all` of
+//!   `specs/Texts.antt`; its function in `src/texts.rt`, `src/runs.rt`, `src/replays.rt` or `src/executions.rt`, its
+//!   arm in `src/top.rt`.
 //! - What is told of a run: `run_notes` of `specs/Runs.antt`, `src/notes.rt`.
 //! - What is written of a journal: `View` of `sp_words`, `Teller` of `src/teller.rt`, `IsWritten` of
 //!   `specs/Replays.antt`, `HasTeller` of `specs/Steps.antt`, `account` of `src/replays.rt`.

@@ -4,8 +4,8 @@ ghost use Rattle.std.specs.Prelude.{◌≡◌, ◌++◌, IfOk, codes};
 ghost use Rattle.sp_execute.specs.Witnesses.{IsReadyRun};
 ghost use Rattle.sp_print.specs.OutcomeLines.{HasLines};
 ghost use Rattle.sp_report.specs.WatcherReports.{AreFresh, reports};
-ghost use Rattle.superpascal.specs.AnswerParts.{HasEndLines, IsTellable};
-ghost use Rattle.superpascal.specs.Replays.{ending_of_replay, lines_of_replay};
+ghost use Rattle.superpascal.specs.AnswerParts.{HasEndLines, IsTellable, lines_of_replay};
+ghost use Rattle.superpascal.specs.Replays.{ending_of_replay};
 ghost use Rattle.superpascal.specs.Runs.{end_lines, ending_of, generated_output, is_journal, run_notes, witness_text};
 
 use crate::ending::Ending;
