@@ -9,9 +9,15 @@ use Rattle.sp_types.specs.CheckedTree.{checked_variables}
 use Rattle.sp_base.specs.declared.place.Place.{Place}
 use Rattle.sp_tree.specs.declared.named.NamedConstant.{NamedConstant}
 use Rattle.sp_tree.specs.declared.named.NamedConstant.TheVariants as constant
+use Rattle.sp_tree.specs.declared.named.NamedStmt as stmt
+use Rattle.sp_tree.specs.NamedOf.{statement_of}
 use Rattle.sp_tree.specs.PhaseResults.{FirstRefusal}
 use Rattle.sp_types.specs.declared.tables.Ordinal.{Ordinal}
 use Rattle.sp_types.specs.DeclarationFirsts.{constants_first, cells_first}
+use Rattle.sp_types.specs.TypeWalk.{statement_place}
+
+pub place_is : (s : stmt.NamedStmt) → statement_place (statement_of s) ≡ s.at
+place_is s = search stmt.the_lemmas
 
 -- what a call that did not fail gives
 abbrev pub ok : {A : Type 0} → A → Result A Refusal

@@ -87,7 +87,8 @@ pub fn type_blocks(
         walk.note(check_frame(b.at, numbers, cells, n, variables));
         let block = type_block(b, alloc, t, walk, start);
         walk.push(&mut out, block);
-        n = walk.number(sum(n, 1));
+        let next = walk.number(sum(n, 1));
+        n = next;
     }
     List::of(out)
 }

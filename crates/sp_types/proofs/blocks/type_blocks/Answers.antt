@@ -1,9 +1,8 @@
-use Rattle.std.proofs.Common.{arith, rules, ap, append_assoc, sym, map, List, [], ◌∷◌, ◌++◌, ◌≡◌, ◌∙◌}
+use Rattle.std.proofs.Common.{◌+◌, arith, ap, append_assoc, sym, map, List, [], ◌∷◌, ◌++◌, ◌≡◌, ◌∙◌}
 use Rattle.std.proofs.lemmas.Grind.{common_steps}
 use Rattle.std.proofs.lemmas.List.{map-append}
 use Rattle.std.specs.Vec.Iter.{into_iter_items}
 use Rattle.sp_tree.specs.declared.checked.Block.{Block}
-use Rattle.sp_tree.specs.declared.named.NamedStmt as stmt
 use Rattle.sp_tree.specs.NamedOf.{block_of}
 use Rattle.sp_tree.specs.CheckedOf as checked
 use Rattle.sp_tree.specs.PlainChecked as plain
@@ -13,6 +12,7 @@ use Rattle.sp_types.specs.CheckedTree.{checked_block, checked_blocks}
 use Rattle.sp_types.specs.DeclarationFirsts.{answer_first, blocks_first}
 use Rattle.sp_types.specs.Firsts.{statement_first}
 use Rattle.sp_types.specs.TypeWalk.{blocks_after, count_before, statement_after, statement_place, with_first_number}
+use Rattle.sp_types.proofs.DeclarationRules.{place_is}
 use Rattle.sp_types.proofs.blocks.type_blocks.Goals as goal
 
 -- one block more in front of the rest
@@ -36,19 +36,18 @@ loop-b-preserved c =
       tt,
       tt,
       λ k.
-          let (kept, same_at_end, next_is) = c.number-n.ensures (n + 1) c.sum.ensures k in
-          let (typed, same_behind, out_is) = c.push.ensures kept in
+          let (kept, same_at_end, next_is) = c.number-next.ensures (n + 1) c.sum.ensures k in
+          let (typed, same_next, out_is) = c.push.ensures kept in
           let (noted, block_first, block_is) = c.type_block-block.ensures.tree typed in
           let after = c.type_block-block.ensures.after typed in
           let (counted, same, start_is) = c.number-start.ensures (count_before 0 c.in-Some.b.body.at all)
           c.count_before.ensures (sym (λ j. (c.note.ensures j).is_lost) ∙ noted) in
           let (from, first_is, tree_is, after_is) = c.loop-b.invariant.2 counted in
-          let place : c.in-Some.b.body.at ≡ statement_place b.body = search (rules, stmt.the_lemmas) in
-          let start = start_is ∙ ap (λ at. count_before 0 at all) place in
+          let start = start_is ∙ ap (λ at. count_before 0 at all) (sym (place_is c.in-Some.b.body)) in
           let tables = after ∙ (λ j. statement_after (with_first_number t (start j)) b.body) in
           let framed = (λ j. (c.note.ensures j).first)
           ∙ (λ j. earlier_refusal (same j) (c.check_frame.ensures j)) in
-          let first = same_at_end ∙ same_behind ∙ block_first
+          let first = same_at_end ∙ same_next ∙ block_first
           ∙ (λ j. statement_first (with_first_number t (start j)) b.body
           (answer_first (with_first_number t (start j)) b.answer (framed j))) in
           let items = ap (λ (xs : List Block). map checked.block_of xs) out_is in

@@ -3,14 +3,10 @@ use Rattle.std.proofs.Common.{length, append_assoc, arith}
 use Rattle.std.proofs.lemmas.Grind.{common_steps}
 use Rattle.sp_base.specs.declared.place.Place.{Place}
 use Rattle.sp_tree.specs.declared.named.NamedBlock.{NamedBlock}
-use Rattle.sp_tree.specs.declared.named.NamedStmt as stmt
 use Rattle.sp_tree.specs.NamedOf.{block_of, statement_of}
 use Rattle.sp_types.specs.TypeWalk.{bodies, statement_counted, statement_place}
-use Rattle.sp_types.proofs.DeclarationRules.{ok, ok_injective, drop_head}
+use Rattle.sp_types.proofs.DeclarationRules.{ok, ok_injective, drop_head, place_is}
 use Rattle.sp_types.proofs.bodies.bodies.Goals as goal
-
-place_is : (s : stmt.NamedStmt) → statement_place (statement_of s) ≡ s.at
-place_is s = search stmt.the_lemmas
 
 -- one block more
 bodies_step :

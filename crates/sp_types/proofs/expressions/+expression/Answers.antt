@@ -43,7 +43,8 @@ type_selector-returns-in-Index t c k =
     let (kept, first, typed) = c.type_expression-e.ensures (sym (λ j. (c.note.ensures j).is_lost) ∙ k) in
     let broken = c.index_rule.ensures ∙ (λ j. index_rule c.args.t.now c.args.at c.args.kind (at j) (typed.1 j)) in
     let tree : checked.selector_of (Index c.type_expression-e.result.tree)
-    ≡ plain.Index (checked.expression_of c.type_expression-e.result.tree) = search (rules, checked_selector.the_lemmas) in
+    ≡ plain.Index (checked.expression_of c.type_expression-e.result.tree) =
+    search (rules, checked_selector.the_lemmas) in
     rw is (
       kept,
       (λ j. (c.note.ensures j).first) ∙ (λ j. earlier_refusal (first j) (broken j)),
