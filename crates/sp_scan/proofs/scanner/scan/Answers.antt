@@ -27,41 +27,41 @@ step-requires-clause-column c = omega (
   c.items.invariant.short,
 )
 
-pub items-smaller-in-Ok-None-default : goal.items-smaller-in-Ok-None-default
-items-smaller-in-Ok-None-default c = gap_shorter
-    (as_gap c.items.rest.now c.in-Ok-None-default.after.now c.in-Ok-None-default.field-0-0
-    c.in-Ok-None-default.field-0-0-is c.in-Ok-None-default.ensures.0)
+pub items-smaller-in-Ok-None-default-default : goal.items-smaller-in-Ok-None-default-default
+items-smaller-in-Ok-None-default-default c =
+    let next = c.in-Ok-None-default-default in
+    gap_shorter (as_gap c.items.rest.now next.after.now next.field-0-0 next.field-0-0-is next.ensures.0)
 
-pub items-preserved-in-Ok-None-default : goal.items-preserved-in-Ok-None-default
-items-preserved-in-Ok-None-default c = scan_gap c.items.invariant c.in-Ok-None-default.after.now
-    c.in-Ok-None-default.behind
-    (as_gap c.items.rest.now c.in-Ok-None-default.after.now c.in-Ok-None-default.field-0-0
-    c.in-Ok-None-default.field-0-0-is c.in-Ok-None-default.ensures.0) c.in-Ok-None-default.ensures.1
-    c.in-Ok-None-default.ensures.2
+pub items-preserved-in-Ok-None-default-default : goal.items-preserved-in-Ok-None-default-default
+items-preserved-in-Ok-None-default-default c =
+    let next = c.in-Ok-None-default-default in
+    let gap = as_gap c.items.rest.now next.after.now next.field-0-0 next.field-0-0-is next.ensures.0 in
+    scan_gap c.items.invariant next.after.now next.behind gap next.ensures.1 next.ensures.2
 
 pub overflow_sub-from : goal.overflow_sub-from
 overflow_sub-from c = scan_shorter c.items.invariant
 
 pub overflow_sub-to : goal.overflow_sub-to
-overflow_sub-to c = omega (
-  arith,
-  scan_shorter c.items.invariant,
-  lexeme_length (as_token c.items.rest.now c.in-Ok-Some-default.after.now c.in-Ok-Some-default.field-0-0
-      c.in-Ok-Some-default.kind c.in-Ok-Some-default.field-0-0-is c.in-Ok-Some-default.ensures.0).1.spelled,
-)
+overflow_sub-to c =
+    let next = c.in-Ok-Some-default-default in
+    let (_, longest) =
+    as_token c.items.rest.now next.after.now next.field-0-0 next.kind next.field-0-0-is next.ensures.0 in
+    omega (arith, scan_shorter c.items.invariant, lexeme_length longest.spelled)
 
 pub items-smaller : goal.items-smaller
-items-smaller c = lexeme_length (as_token c.items.rest.now c.in-Ok-Some-default.after.now c.in-Ok-Some-default.field-0-0
-    c.in-Ok-Some-default.kind c.in-Ok-Some-default.field-0-0-is c.in-Ok-Some-default.ensures.0).1.spelled
+items-smaller c =
+    let next = c.in-Ok-Some-default-default in
+    let (_, longest) =
+    as_token c.items.rest.now next.after.now next.field-0-0 next.kind next.field-0-0-is next.ensures.0 in
+    lexeme_length longest.spelled
 
 pub items-preserved : goal.items-preserved
-items-preserved c = scan_token c.items.invariant c.in-Ok-Some-default.after.now c.in-Ok-Some-default.behind
-    c.in-Ok-Some-default.kind c.push.new.self
-    (as_token c.items.rest.now c.in-Ok-Some-default.after.now c.in-Ok-Some-default.field-0-0 c.in-Ok-Some-default.kind
-    c.in-Ok-Some-default.field-0-0-is c.in-Ok-Some-default.ensures.0).0
-    (as_token c.items.rest.now c.in-Ok-Some-default.after.now c.in-Ok-Some-default.field-0-0 c.in-Ok-Some-default.kind
-    c.in-Ok-Some-default.field-0-0-is c.in-Ok-Some-default.ensures.0).1 c.in-Ok-Some-default.ensures.1
-    c.in-Ok-Some-default.ensures.2 c.in_ok-push-in-Ok-Some-default.ensures.ok
+items-preserved c =
+    let next = c.in-Ok-Some-default-default in
+    let (opens, longest) =
+    as_token c.items.rest.now next.after.now next.field-0-0 next.kind next.field-0-0-is next.ensures.0 in
+    scan_token c.items.invariant next.after.now next.behind next.kind c.push.new.self opens longest next.ensures.1
+    next.ensures.2 c.in_ok-push-in-Ok-Some-default-default.ensures.ok
 
 pub returns-in-Err : goal.returns-in-Err
 returns-in-Err c = scan_breaks c.args.text.now c.items.rest.now c.items.tokens c.items.at c.in-Err.rule
