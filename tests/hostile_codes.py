@@ -378,6 +378,8 @@ FILES = {
     "shuffled_chain": shuffled_chain,
     "chain_in_children": chain_in_children,
     "children_above_chain": children_above_chain,
+    "chain_in_answer": chain_in_answer,
+    "chain_inside": chain_inside,
     "ring_of_blocks": ring_of_blocks,
     "operands_one_block": lambda: operands_of_calls(200_000, 280_000, 1),
     "operands_of_blocks": lambda: operands_of_calls(4_000, 3_000, 900),
@@ -406,9 +408,7 @@ FILES = {
 # Files in which two sizes still multiply: they take more than 10 seconds, or more than 2 GB.
 OPEN = {
     "half_handed": half_handed,
-    "chain_in_answer": chain_in_answer,
     "chain_by_reference": chain_by_reference,
-    "chain_inside": chain_inside,
     "calls_of_lists": calls_of_lists,
     "calls_at_heights": calls_at_heights,
 }

@@ -10,23 +10,30 @@ use Rattle.sp_base.proofs.Facts.{not_true_and_false}
 use Rattle.sp_tree.specs.Interference.{IsMember}
 use Rattle.sp_tree.proofs.Members.{member_front, member_back}
 use Rattle.sp_code.specs.declared.code.ChildTable.{ChildTable}
+use Rattle.sp_code.specs.declared.code.Layout.{Layout}
 use Rattle.sp_verify_effects.specs.declared.allowance.Allowance.{Allowance}
 use Rattle.sp_verify_effects.specs.declared.edges.Edge.{Edge}
 use Rattle.sp_verify_effects.specs.declared.edges.Edge.TheVariants as edge
 use Rattle.sp_verify_effects.specs.declared.facts.Fact.{Fact}
 use Rattle.sp_verify_effects.specs.declared.facts.Effect.{Effect}
 use Rattle.sp_verify_effects.specs.declared.facts.Effect.TheVariants as effect
-use Rattle.sp_verify_effects.specs.Allowances.{Fits, IsWithin, allows, loads_within, stores_within}
+use Rattle.sp_verify_effects.specs.Allowances.{Fits, FitsBlock, IsWithin, allows, loads_within, stops_within}
+use Rattle.sp_verify_effects.specs.Allowances.{stores_within}
 use Rattle.sp_verify_effects.specs.FactClosure.{Passes, fact_along, is_index}
 use Rattle.sp_verify_effects.specs.Facts.{fact}
 use Rattle.sp_verify_effects.specs.Sets.{has, with_all}
 use Rattle.sp_verify_effects.proofs.Members.{all_in}
 
-pub within_subsets : (w v : Allowance) → IsSubset nat_cmp w.stored v.stored → IsSubset nat_cmp w.loaded v.loaded
-    → IsWithin w v
-within_subsets w v s l (effect.Stores x) h = s x h
-within_subsets w v s l (effect.Loads x) h = l x h
-within_subsets w v s l effect.Stops h = refl
+-- if the one is so, the other is
+implied : (a b : Bool) → (not a ≡ true) ⊎ (b ≡ true) → a ≡ true → b ≡ true
+implied a b (inl h) e = absurd (not_true_and_false a e (not-true a h))
+implied a b (inr h) e = h
+
+pub within_subsets : (w v : Allowance) → stops_within w v ≡ true → IsSubset nat_cmp w.stored v.stored
+    → IsSubset nat_cmp w.loaded v.loaded → IsWithin w v
+within_subsets w v t s l (effect.Stores x) h = s x h
+within_subsets w v t s l (effect.Loads x) h = l x h
+within_subsets w v t s l effect.Stops h = implied w.stops v.stops (or_cases (not w.stops) v.stops t) h
 
 -- ---- a child
 
@@ -42,6 +49,18 @@ module _ (w : Allowance) (t : ChildTable) (m b : BTreeSet ℕ) (em : m.keys ≡ 
       ⊎_elim (λ z. member_front x t.moved t.shared (moved x z)) (λ z. member_back x t.moved t.shared z)
       (all_in m.keys t.shared x (subst (λ ks. has ks x ≡ true) eb (loads x h)))
   fits_handed effect.Stops h = tt
+
+-- ---- a block
+
+module _ (w : Allowance) (l : Layout) (b : BTreeSet ℕ) (eb : b.keys ≡ with_all [] l.variables)
+    (stops : w.stops ≡ false) (stores : IsSubset nat_cmp w.stored b) (loads : IsSubset nat_cmp w.loaded b) where
+  among_own : (x : ℕ) → has b.keys x ≡ true → IsMember x l.variables
+  among_own x h = ⊎_elim (λ z. absurd (cc z)) (λ z. z) (all_in [] l.variables x (subst (λ ks. has ks x ≡ true) eb h))
+
+  pub fits_variables : FitsBlock (Some w) l
+  fits_variables (effect.Stores x) h = among_own x (stores x h)
+  fits_variables (effect.Loads x) h = among_own x (loads x h)
+  fits_variables effect.Stops h = not_true_and_false w.stops h stops
 
 -- ---- an edge
 
@@ -75,11 +94,6 @@ module _ (w v : Allowance) where
   pub passes_called : {n : ℕ} (e : Edge) → e ≡ edge.Called n → IsWithin w v → Passes (Some w) (Some v) e
   passes_called {n} e is i = subst (Passes (Some w) (Some v)) (sym is)
       (λ own d g s h. subst (λ x. allows v x ≡ true) (sym (called_same n own d g s)) (i d h))
-
-  -- one key is in the one set, so another key is in the other one
-  implied : (a b : Bool) → (not a ≡ true) ⊎ (b ≡ true) → a ≡ true → b ≡ true
-  implied a b (inl h) e = absurd (not_true_and_false a e (not-true a h))
-  implied a b (inr h) e = h
 
   passed : (n y x : ℕ) → stores_within w v y x ≡ true → loads_within w v y x ≡ true
       → Passes (Some w) (Some v) (edge.Passed n y x)

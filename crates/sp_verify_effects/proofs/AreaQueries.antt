@@ -8,6 +8,7 @@ use Rattle.std.proofs.lemmas.Option.{none-some, same_Some, slice_get_within}
 use Rattle.sp_base.proofs.Facts.{below_or_last, not_true_and_false}
 use Rattle.sp_code.specs.declared.instr.Instr.{Instr}
 use Rattle.sp_code.specs.declared.code.ChildTable.{ChildTable}
+use Rattle.sp_code.specs.declared.code.Layout.{Layout}
 use Rattle.sp_code.specs.declared.code.Parts.{Parts}
 use Rattle.sp_verify_rules.specs.Areas.{Area, homes, instr_at}
 use Rattle.sp_verify_areas.specs.Alone.{flag_at}
@@ -17,10 +18,9 @@ use Rattle.sp_verify_effects.specs.declared.edges.Edge.TheVariants as edge
 use Rattle.sp_verify_effects.specs.declared.facts.Fact.{Fact}
 use Rattle.sp_verify_effects.specs.declared.facts.Effect.{Effect}
 use Rattle.sp_verify_effects.specs.declared.facts.Effect.TheVariants as effect
-use Rattle.sp_verify_effects.specs.Allowances.{Fits, allows_some}
-use Rattle.sp_verify_effects.specs.AskedAreas.{Asks, AsksAll, AsksChild, allowance_at, inside_entry, is_asked}
-use Rattle.sp_verify_effects.specs.AskedAreas.{is_marked}
-use Rattle.sp_verify_effects.specs.AskedAreas.{target}
+use Rattle.sp_verify_effects.specs.Allowances.{Fits, FitsBlock, allows_some}
+use Rattle.sp_verify_effects.specs.AskedAreas.{Asks, AsksChild, AsksOutside, allowance_at, inside_entry, is_asked}
+use Rattle.sp_verify_effects.specs.AskedAreas.{is_marked, target}
 use Rattle.sp_verify_effects.specs.FactClosure.{FollowsEdges, IsFollowed, Passes, fact_along, is_index}
 use Rattle.sp_verify_effects.specs.Facts.{fact}
 
@@ -78,12 +78,16 @@ module _ (k : Asked) (m : ℕ) (d : Effect) where
   asked_never h = ⊎_elim (λ z. inl z) (λ z. inr (not-true May (and_parts (flag_at k.flags m) (not May) z).1))
       (or_cases k.all Rest h)
 
-pub some_all : (k : Asked) (m : ℕ) → k.all ≡ true → AsksAll k m
-some_all k m e d = or_left k.all (flag_at k.flags m && not (allows_some (allowance_at k m) d)) e
+pub all_asked : (k : Asked) (m : ℕ) (d : Effect) → k.all ≡ true → is_asked k m d ≡ true
+all_asked k m d e = or_left k.all (flag_at k.flags m && not (allows_some (allowance_at k m) d)) e
 
 pub child_asked : (k : Asked) (t : ChildTable) → is_marked k t.entry ≡ true → Fits (allowance_at k t.entry) t
     → AsksChild k t
 child_asked k t h fits d beyond = asked_unless k t.entry d h (λ z. beyond (fits d z))
+
+pub block_asked : (k : Asked) (l : Layout) → is_marked k l.entry ≡ true → FitsBlock (allowance_at k l.entry) l
+    → AsksOutside k l
+block_asked k l h fits d outside = asked_unless k l.entry d h (λ z. outside (fits d z))
 
 -- ---- an edge
 
@@ -127,19 +131,19 @@ module _ (k : Asked) (m : ℕ) (e : Edge) where
 
   pub followed_edge : is_marked k m ≡ true → Passes (allowance_at k m) (allowance_at k (target e)) e
       → IsFollowed k m e
-  followed_edge h p own d g s q = ⊎_elim (λ z. some_all k m z d)
+  followed_edge h p own d g s q = ⊎_elim (λ z. all_asked k m d z)
       (λ z. asked_unless k m d h (λ w. not_true_and_false (allows_some (allowance_at k (target e)) g.effect)
       (p own d g s w) z))
       (asked_never k (target e) g.effect (at_target own d g s q))
 
 -- ---- if all is asked about all areas
 
-pub all_asks : (c : Parts) (k : Asked) → ((m : ℕ) → AsksAll k m) → Asks c k
+pub all_asks : (c : Parts) (k : Asked) → k.all ≡ true → Asks c k
 all_asks c k all = record {
-  tables = λ t tb e j ch s d b. all ch.entry d;
-  layouts = λ j l e r. all l.entry;
-  inside = λ p a n l e. all n;
+  tables = λ t tb e j ch s d b. all_asked k ch.entry d all;
+  layouts = λ j l e r d b. all_asked k l.entry d all;
+  inside = λ p a n l e. or_left k.all (flag_at k.blocks n) all;
 }
 
-pub all_follow : (rows : List (List Edge)) (k : Asked) → ((m : ℕ) → AsksAll k m) → FollowsEdges rows k
-all_follow rows k all m e h own d g s q = all m d
+pub all_follow : (rows : List (List Edge)) (k : Asked) → k.all ≡ true → FollowsEdges rows k
+all_follow rows k all m e h own d g s q = all_asked k m d all

@@ -31,7 +31,10 @@ use Rattle.sp_verify_shapes.specs.ReachRules.{reached_at}
 use Rattle.sp_verify_shapes.specs.Stacks.{list_of}
 use Rattle.sp_verify_shapes.proofs.ReachLaws.{reached_there, stands}
 use Rattle.sp_verify_effects.specs.declared.effects.Effects.{Effects}
-use Rattle.sp_verify_effects.specs.AskedAreas.{AsksAll, is_asked}
+use Rattle.sp_verify_effects.specs.Allowances.{IsOwnEffect}
+use Rattle.sp_verify_effects.specs.AskedAreas.{AsksOutside, has_block, is_asked, is_of_rules}
+use Rattle.sp_verify_effects.specs.declared.facts.Effect.{Effect}
+use Rattle.sp_verify_effects.specs.declared.facts.Effect.TheVariants as effect
 use Rattle.sp_verify_effects.specs.Effects.{AreEffects, touches}
 use Rattle.sp_verify_effects.specs.Calls.{CallFails, actual_at, actual_of, actuals, call_clashes, is_outer}
 use Rattle.sp_verify_effects.specs.Calls.{list_of_option}
@@ -270,17 +273,22 @@ reference_there (formal.Value n ∷ fs) (suc k) cells e = reference_there fs k c
 
 module _ (c : Parts) (e : Effects) (are : AreEffects c e) (kept : (p : ℕ) → BreaksV1 c p → ⊥) (l : Layout) (b : ℕ)
     (at : layout_of c.layouts b ≡ Some l) (ss : List Shape) where
-  -- all is asked about a block with an actual variable
-  asks : (k x : ℕ) → IsActual l ss k x → AsksAll e.asked l.entry
+  -- what a block with an actual variable does outside itself is asked about
+  asks : (k x : ℕ) → IsActual l ss k x → AsksOutside e.asked l
   asks k x f =
       let r = place_there c.layouts b l at in
       are.asks.layouts r.0 l r.2
-      (or_right l.answer (some_reference l.formals) (reference_there l.formals k f.0 f.2))
+      (or_left (is_of_rules l) (has_block e.asked l.entry)
+      (or_right l.answer (some_reference l.formals) (reference_there l.formals k f.0 f.2)))
 
-  touched : (k x : ℕ) → IsActual l ss k x → (touches e l.entry x ≡ true) ↔ HasEffect c (Does c) (Body b) x
-  touched k x f = subst (λ n. (touches e n x ≡ true) ↔ HasEffect c (Does c) (Body b) x) (ap entry_of_layout at)
-      (are.touched (Body b) x (l, at) (λ d. subst (λ m. is_asked e.asked m d ≡ true) (sym (ap entry_of_layout at))
-      (asks k x f d)))
+  asks_body : (k x : ℕ) → IsActual l ss k x → (d : Effect) → (IsOwnEffect l d → ⊥)
+      → is_asked e.asked (entry_of_layout (layout_of c.layouts b)) d ≡ true
+  asks_body k x f d m = subst (λ n. is_asked e.asked n d ≡ true) (sym (ap entry_of_layout at)) (asks k x f d m)
+
+  touched : (k x : ℕ) → IsActual l ss k x → (IsMember x l.variables → ⊥)
+      → (touches e l.entry x ≡ true) ↔ HasEffect c (Does c) (Body b) x
+  touched k x f m = subst (λ n. (touches e n x ≡ true) ↔ HasEffect c (Does c) (Body b) x) (ap entry_of_layout at)
+      (are.touched (Body b) x (l, at) (asks_body k x f (effect.Stores x) m) (asks_body k x f (effect.Loads x) m))
 
   abbrev pub Xs : List ℕ
   Xs = actuals l.formals ss (length l.formals)
@@ -289,14 +297,14 @@ module _ (c : Parts) (e : Effects) (are : AreEffects c e) (kept : (p : ℕ) → 
       × fork.IsOuter c (Does c) (HasStop c) l b x
   outer_rule h =
       let (x, among, is_touched, not_own) = outer_is e l.entry Xs h in
-      let i = member_at l ss (length l.formals) x among in (
+      let i = member_at l ss (length l.formals) x among in
+      let actual = at_is l ss i.0 x i.1 i.2 in
+      let outside : IsMember x l.variables → ⊥ = λ m. not_true_and_false (owns e.own.keys l.entry x)
+      (in_own c kept e.own.keys are.own b l at x m) not_own in (
         length l.formals - 1 - i.0,
         x,
-        at_is l ss i.0 x i.1 i.2,
-        (
-          (touched (length l.formals - 1 - i.0) x (at_is l ss i.0 x i.1 i.2)).0 is_touched,
-          λ m. not_true_and_false (owns e.own.keys l.entry x) (in_own c kept e.own.keys are.own b l at x m) not_own,
-        ),
+        actual,
+        ((touched (length l.formals - 1 - i.0) x actual outside).0 is_touched, outside),
       )
 
   rule_outer : (k x : ℕ) × IsActual l ss k x × fork.IsOuter c (Does c) (HasStop c) l b x
@@ -305,7 +313,7 @@ module _ (c : Parts) (e : Effects) (are : AreEffects c e) (kept : (p : ℕ) → 
       let a = is_at l ss k x f in
       let y = a.0 in
       outer_from e l.entry Xs x (at_member l ss (length l.formals) (length l.formals - 1 - k) x
-      (omega (arith, y)) a.1) ((touched k x f).1 h)
+      (omega (arith, y)) a.1) ((touched k x f m).1 h)
       (false_from_ne_true (owns e.own.keys l.entry x) (λ g. m (own_in c kept e.own.keys are.own b l at x g)))
 
   pub clash_rule : call_clashes e l ss ≡ true → fork.BreaksV7 c (Does c) (HasStop c) l b ss

@@ -18,7 +18,7 @@ use Rattle.sp_verify_effects.specs.declared.effects.EffectRow.{EffectRow}
 use Rattle.sp_verify_effects.specs.declared.facts.Fact.{Fact}
 use Rattle.sp_verify_effects.specs.declared.facts.Effect.{Effect}
 use Rattle.sp_verify_effects.specs.declared.facts.Effect.TheVariants as effect
-use Rattle.sp_verify_effects.specs.AskedAreas.{Asks, AsksAll, is_asked}
+use Rattle.sp_verify_effects.specs.AskedAreas.{Asks, is_asked}
 use Rattle.sp_verify_effects.specs.Facts.{has_fact, fact}
 use Rattle.sp_verify_effects.specs.Effects.{InRow, RowsHave, AddsEffect, WritesFact, AreRows, IsRowOf, AreEffects}
 use Rattle.sp_verify_effects.specs.Effects.{touches}
@@ -226,15 +226,15 @@ module _ (c : Parts) (kept : (p : ℕ) → BreaksV1 c p
             },
           )
 
-      touched : (a : Area) (x : ℕ) → IsArea c a → AsksAll k (entry c a)
+      touched : (a : Area) (x : ℕ) → IsArea c a → is_asked k (entry c a) (effect.Stores x) ≡ true
+          → is_asked k (entry c a) (effect.Loads x) ≡ true
           → IsTrue (touches (record { rows = rows; facts = fs; own = own; asked = k }) (entry c a) x)
           ↔ HasEffect c (Does c) a x
-      touched a x ia q = (
-        λ i. ⊎_elim (λ h. inl ((facts a (effect.Stores x) ia (q (effect.Stores x))).0 h))
-            (λ h. inr ((facts a (effect.Loads x) ia (q (effect.Loads x))).0 h))
-            (or_cases s l i),
-        λ w. ⊎_elim (λ h. or_left s l ((facts a (effect.Stores x) ia (q (effect.Stores x))).1 h))
-            (λ h. or_right s l ((facts a (effect.Loads x) ia (q (effect.Loads x))).1 h)) w,
+      touched a x ia store load = (
+        λ i. ⊎_elim (λ h. inl ((facts a (effect.Stores x) ia store).0 h))
+            (λ h. inr ((facts a (effect.Loads x) ia load).0 h)) (or_cases s l i),
+        λ w. ⊎_elim (λ h. or_left s l ((facts a (effect.Stores x) ia store).1 h))
+            (λ h. or_right s l ((facts a (effect.Loads x) ia load).1 h)) w,
       )
         where
           s : Bool

@@ -18,8 +18,10 @@ use Rattle.sp_verify_areas.proofs.Leasts.{all}
 use Rattle.sp_verify_effects.specs.declared.effects.EffectRow.{EffectRow}
 use Rattle.sp_verify_effects.specs.declared.effects.Effects.{Effects}
 use Rattle.sp_verify_effects.specs.declared.asked_areas.Asked.{Asked}
+use Rattle.sp_verify_effects.specs.declared.facts.Effect.{Effect}
 use Rattle.sp_verify_effects.specs.declared.facts.Effect.TheVariants as effect
-use Rattle.sp_verify_effects.specs.AskedAreas.{AsksAll, is_asked}
+use Rattle.sp_verify_effects.specs.Allowances.{IsOwnEffect}
+use Rattle.sp_verify_effects.specs.AskedAreas.{AsksOutside, has_block, is_asked, is_of_rules}
 use Rattle.sp_verify_effects.specs.Effects.{AreEffects, IsRowOf}
 use Rattle.sp_verify_effects.specs.SideEffects.{HasSideEffects, LayoutHasSideEffects, has_side_effects}
 use Rattle.sp_verify_effects.specs.Variables.{AreOwn, goes_out}
@@ -67,28 +69,32 @@ body_row c e are l is =
     let r = are.rows (Body l.block) (l, is) in
     (r.0, ap (slice_get e.rows) (sym (ap entry_of_layout is)) ∙ r.1, r.2)
 
-pub asked_body : (c : Parts) (k : Asked) (l : Layout) → layout_of c.layouts l.block ≡ Some l → AsksAll k l.entry
-    → AsksAll k (entry c (Body l.block))
-asked_body c k l is asks = λ d. subst (λ m. is_asked k m d ≡ true) (sym (ap entry_of_layout is)) (asks d)
+-- what it does outside itself is asked about
+abbrev pub AsksBody : Parts → Asked → Layout → Type 0
+AsksBody c k l = (d : Effect) → (IsOwnEffect l d → ⊥) → is_asked k (entry c (Body l.block)) d ≡ true
+
+pub asked_body : (c : Parts) (k : Asked) (l : Layout) → layout_of c.layouts l.block ≡ Some l → AsksOutside k l
+    → AsksBody c k l
+asked_body c k l is asks = λ d h. subst (λ m. is_asked k m d ≡ true) (sym (ap entry_of_layout is)) (asks d h)
 
 -- ---- V8
 
 module _ (c : Parts) (e : Effects) (are : AreEffects c e) (kept : (p : ℕ) → BreaksV1 c p → ⊥) where
-  module _ (l : Layout) (q : AsksAll e.asked (entry c (Body l.block))) (d : EffectRow)
+  module _ (l : Layout) (q : AsksBody c e.asked l) (d : EffectRow)
       (effects_of : IsRowOf c e.asked (Body l.block) d) where
     to_rule : HasSideEffects l (Some d) → fork.BreaksV8 c (Does c) (HasStop c) l l.block
-    to_rule (a, inl (x, i, m)) = (a, inl (x, (effects_of.stored x (q (effect.Stores x))).0 i, m))
-    to_rule (a, inr s) = (a, inr ((effects_of.stops (q effect.Stops)).0 s))
+    to_rule (a, inl (x, i, m)) = (a, inl (x, (effects_of.stored x (q (effect.Stores x) m)).0 i, m))
+    to_rule (a, inr s) = (a, inr ((effects_of.stops (q effect.Stops (λ z. z))).0 s))
 
     from_rule : fork.BreaksV8 c (Does c) (HasStop c) l l.block → HasSideEffects l (Some d)
-    from_rule (a, inl (x, i, m)) = (a, inl (x, (effects_of.stored x (q (effect.Stores x))).1 i, m))
-    from_rule (a, inr s) = (a, inr ((effects_of.stops (q effect.Stops)).1 s))
+    from_rule (a, inl (x, i, m)) = (a, inl (x, (effects_of.stored x (q (effect.Stores x) m)).1 i, m))
+    from_rule (a, inr s) = (a, inr ((effects_of.stops (q effect.Stops (λ z. z))).1 s))
 
-  -- all is asked about a block that answers
-  asks : (j : ℕ) (l : Layout) → slice_get c.layouts j ≡ Some l → l.answer ≡ true
-      → AsksAll e.asked (entry c (Body l.block))
+  -- what a block that answers does outside itself is asked about
+  asks : (j : ℕ) (l : Layout) → slice_get c.layouts j ≡ Some l → l.answer ≡ true → AsksBody c e.asked l
   asks j l is a = asked_body c e.asked l (layout_here c kept j l is)
-      (are.asks.layouts j l is (or_left l.answer (some_reference l.formals) a))
+      (are.asks.layouts j l is
+      (or_left (is_of_rules l) (has_block e.asked l.entry) (or_left l.answer (some_reference l.formals) a)))
 
   answers : (l : Layout) (o : Option EffectRow) → HasSideEffects l o → l.answer ≡ true
   answers l None h = absurd h

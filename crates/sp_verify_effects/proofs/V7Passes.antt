@@ -14,7 +14,7 @@ use Rattle.sp_code.specs.declared.code.Parts.{Parts}
 use Rattle.sp_code.specs.Machine.{layout_of}
 use Rattle.sp_code.specs.Memory.{Home}
 use Rattle.sp_code.specs.Sizes.{KeepsSizes}
-use Rattle.sp_verify_rules.specs.Areas.{Area, Body, entry, homes, instr_at}
+use Rattle.sp_verify_rules.specs.Areas.{Area, Body, homes, instr_at}
 use Rattle.sp_verify_rules.specs.Effects.{Does, IsCalled, IsEffect, Loaded, Stored}
 use Rattle.sp_verify_rules.specs.Forks as fork
 use Rattle.sp_verify_rules.specs.KeepsCodeRules.{KeepsCodeRules}
@@ -37,14 +37,14 @@ use Rattle.sp_verify_shapes.specs.Stacks.{list_of}
 use Rattle.sp_verify_shapes.proofs.ReachLaws.{reached_there, stands}
 use Rattle.sp_verify_effects.specs.declared.effects.EffectRow.{EffectRow}
 use Rattle.sp_verify_effects.specs.declared.effects.Effects.{Effects}
-use Rattle.sp_verify_effects.specs.AskedAreas.{AsksAll, inside_entry}
+use Rattle.sp_verify_effects.specs.AskedAreas.{AsksOutside, has_block, inside_entry, is_of_rules}
 use Rattle.sp_verify_effects.specs.declared.facts.Effect.TheVariants as effect
 use Rattle.sp_verify_effects.specs.Calls.{CallFails}
 use Rattle.sp_verify_effects.specs.Effects.{AreEffects, IsRowOf}
 use Rattle.sp_verify_effects.specs.Turns.{AreInside, LayoutTurns, SomeCalls, Turns, inside_of, is_inside, turns}
 use Rattle.sp_verify_effects.specs.Variables.{AreOwn, goes_out}
 use Rattle.sp_verify_effects.proofs.Inward.{inside_is, is_inside_here}
-use Rattle.sp_verify_effects.proofs.SideEffectLaws.{asked_body, body_row}
+use Rattle.sp_verify_effects.proofs.SideEffectLaws.{AsksBody, asked_body, body_row}
 use Rattle.sp_verify_effects.proofs.BlockVariables.{layout_here, one_layout, out_from, out_is}
 use Rattle.sp_verify_effects.proofs.CallTests.{CallBreaks, call_found, call_finds, place_there}
 
@@ -178,36 +178,40 @@ module _ (c : Parts) (k : KeepsCodeRules c) (kept : (p : ℕ) → BreaksV1 c p �
           };
         })
 
-    module _ (q : AsksAll e.asked (entry c (Body l.block))) (d : EffectRow)
+    module _ (q : AsksBody c e.asked l) (d : EffectRow)
         (effects_of : IsRowOf c e.asked (Body l.block) d) where
-      stores : (x : ℕ) → IsMember x d.stored ↔ IsEffect c (Does c) Stored (Body l.block) x
-      stores x = effects_of.stored x (q (effect.Stores x))
+      stores : (x : ℕ) → (IsMember x l.variables → ⊥)
+          → IsMember x d.stored ↔ IsEffect c (Does c) Stored (Body l.block) x
+      stores x m = effects_of.stored x (q (effect.Stores x) m)
 
-      loads : (x : ℕ) → IsMember x d.loaded ↔ IsEffect c (Does c) Loaded (Body l.block) x
-      loads x = effects_of.loaded x (q (effect.Loads x))
+      loads : (x : ℕ) → (IsMember x l.variables → ⊥)
+          → IsMember x d.loaded ↔ IsEffect c (Does c) Loaded (Body l.block) x
+      loads x m = effects_of.loaded x (q (effect.Loads x) m)
 
       turn_rule : Turns (flag_at flags j) l (Some d) → fork.BreaksV7Inside c (Does c) (HasStop c) (Inside c) l l.block
-      turn_rule (f, (x, inl h, m, z)) = (called_is f, (x, (inl ((stores x).0 h), m), z))
-      turn_rule (f, (x, inr h, m, z)) = (called_is f, (x, (inr ((loads x).0 h), m), z))
+      turn_rule (f, (x, inl h, m, z)) = (called_is f, (x, (inl ((stores x m).0 h), m), z))
+      turn_rule (f, (x, inr h, m, z)) = (called_is f, (x, (inr ((loads x m).0 h), m), z))
 
       rule_turn : fork.BreaksV7Inside c (Does c) (HasStop c) (Inside c) l l.block → Turns (flag_at flags j) l (Some d)
-      rule_turn (f, (x, (inl h, m), z)) = (is_called f, (x, inl ((stores x).1 h), m, z))
-      rule_turn (f, (x, (inr h, m), z)) = (is_called f, (x, inr ((loads x).1 h), m, z))
+      rule_turn (f, (x, (inl h, m), z)) = (is_called f, (x, inl ((stores x m).1 h), m, z))
+      rule_turn (f, (x, (inr h, m), z)) = (is_called f, (x, inr ((loads x m).1 h), m, z))
 
-    -- all is asked about it
-    asks : flag_at flags j ≡ true → AsksAll e.asked (entry c (Body l.block))
+    -- what it does outside itself is asked about
+    asks : flag_at flags j ≡ true → AsksBody c e.asked l
     asks f = asked_body c e.asked l at (by_call ((inside.each j below).0 f))
       where
-        by_call : SomeCalls c first s (length c.instrs) j → AsksAll e.asked l.entry
+        by_call : SomeCalls c first s (length c.instrs) j → AsksOutside e.asked l
         by_call h =
             let q = h.calls in
             let (b, _, call_is, inward, number_is) = inside_call (homes c q.area) first
             (instr_at c h.position) j q.calls in
             let same_place = place_some c.layouts b j (sym (numbered b) ∙ number_is) in
             let ls = c.layouts in
-            are.asks.inside h.position q.area l.entry q.lies
+            are.asks.layouts j l is
+            (or_right (is_of_rules l) (has_block e.asked l.entry)
+            (are.asks.inside h.position q.area l.entry q.lies
             (ap (inside_entry (homes c q.area) ls) call_is
-            ∙ ap (λ t. if t then entry_at (layout_of ls b) else None) inward ∙ ap entry_at (sym same_place ∙ is))
+            ∙ ap (λ t. if t then entry_at (layout_of ls b) else None) inward ∙ ap entry_at (sym same_place ∙ is))))
 
   flagged : (flag : Bool) (l : Layout) (o : Option EffectRow) → Turns flag l o → flag ≡ true
   flagged flag l None h = absurd h

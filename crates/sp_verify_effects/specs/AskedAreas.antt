@@ -20,7 +20,7 @@ use Rattle.sp_verify_effects.specs.declared.asked_areas.Asked.{Asked}
 use Rattle.sp_verify_effects.specs.declared.edges.Edge.{Edge}
 use Rattle.sp_verify_effects.specs.declared.edges.Edge.TheVariants as edge
 use Rattle.sp_verify_effects.specs.declared.facts.Effect.{Effect}
-use Rattle.sp_verify_effects.specs.Allowances.{IsGiven, allows_some}
+use Rattle.sp_verify_effects.specs.Allowances.{IsGiven, IsOwnEffect, allows_some}
 use Rattle.sp_verify_effects.specs.Turns.{is_inside}
 
 -- the area with this first instruction is one of them
@@ -35,10 +35,6 @@ allowance_at k m = on_option None (slice_get k.numbers m) (slice_get k.allowance
 abbrev pub is_asked : Asked → ℕ → Effect → Bool
 is_asked k m d = k.all || (flag_at k.flags m && not (allows_some (allowance_at k m) d))
 
--- all is
-abbrev pub AsksAll : Asked → ℕ → Type 0
-AsksAll k m = (d : Effect) → is_asked k m d ≡ true
-
 -- where an edge leads
 abbrev pub target : Edge → ℕ
 target (edge.Started to index) = to
@@ -48,6 +44,14 @@ target (edge.Passed to y x) = to
 -- a block answers, or takes a variable by reference
 abbrev pub is_of_rules : Layout → Bool
 is_of_rules l = l.answer || some_reference l.formals
+
+-- the flags say that a block of the rules begins there
+abbrev pub has_block : Asked → ℕ → Bool
+has_block k m = k.all || flag_at k.blocks m
+
+-- the block is one of the rules, by its layout or by the flags
+abbrev pub is_asked_block : Asked → Layout → Bool
+is_asked_block k l = is_of_rules l || has_block k l.entry
 
 -- what a child is not handed is asked about it; so for the children of a table, and of all tables
 abbrev pub AsksChild : Asked → ChildTable → Type 0
@@ -59,9 +63,15 @@ AsksChildren k ts = (j : ℕ) (t : ChildTable) → slice_get ts j ≡ Some t →
 abbrev pub AsksTables : Asked → List ForkTable → Type 0
 AsksTables k fs = (t : ℕ) (tb : ForkTable) → slice_get fs t ≡ Some tb → AsksChildren k tb.children
 
--- all is asked about blocks that answer or take a variable by reference
+-- what a block does is asked about it, but for what it does to its own variables; so for all blocks of the rules
+abbrev pub AsksOutside : Asked → Layout → Type 0
+AsksOutside k l = (d : Effect) → (IsOwnEffect l d → ⊥) → is_asked k l.entry d ≡ true
+
+abbrev pub AsksLayout : Asked → Layout → Type 0
+AsksLayout k l = is_asked_block k l ≡ true → AsksOutside k l
+
 abbrev pub AsksLayouts : Asked → List Layout → Type 0
-AsksLayouts k ls = (j : ℕ) (l : Layout) → slice_get ls j ≡ Some l → is_of_rules l ≡ true → AsksAll k l.entry
+AsksLayouts k ls = (j : ℕ) (l : Layout) → slice_get ls j ≡ Some l → AsksLayout k l
 
 -- where the block begins that an instruction calls inside itself, with these homes around it
 abbrev pub inside_entry : List Home → List Layout → Option Instr → Option ℕ
@@ -69,10 +79,10 @@ inside_entry hs ls (Some (i.Call b up)) = if is_inside hs b up then entry_at (la
 inside_entry hs ls o = None
 
 module _ (c : Parts) where
-  -- and about the block that the instruction at p calls inside itself
+  -- the block that the instruction at p calls inside itself is one of the rules
   abbrev pub AsksInsideAt : Asked → ℕ → Type 0
   AsksInsideAt k p = (a : Area) (n : ℕ) → LiesOnlyIn c p a
-      → inside_entry (homes c a) c.layouts (instr_at c p) ≡ Some n → AsksAll k n
+      → inside_entry (homes c a) c.layouts (instr_at c p) ≡ Some n → has_block k n ≡ true
 
   -- all that the rules ask about is asked about
   pub record Asks (k : Asked) : Type 0 where

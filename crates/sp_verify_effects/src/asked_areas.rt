@@ -4,15 +4,16 @@
 ghost use Rattle.std.specs.Prelude.{◌≡◌, ◌<◌, ℕ, IfOk, Some, length, true};
 ghost use Rattle.std.specs.Option.{option_copied};
 ghost use Rattle.sp_verify_areas.specs.Only.{LiesOnlyIn};
-ghost use Rattle.sp_verify_effects.specs.Allowances.{Fits, allows_some};
-ghost use Rattle.sp_verify_effects.specs.AskedAreas.{Asks, AsksAll, AsksChild, AsksChildren, AsksInsideAt, AsksLayouts};
-ghost use Rattle.sp_verify_effects.specs.AskedAreas.{AsksTables, allowance_at, inside_entry, is_asked, is_marked};
-ghost use Rattle.sp_verify_effects.specs.AskedAreas.{is_of_rules, target};
+ghost use Rattle.sp_verify_effects.specs.Allowances.{Fits, FitsBlock, allows_some};
+ghost use Rattle.sp_verify_effects.specs.AskedAreas.{Asks, AsksChild, AsksChildren, AsksInsideAt, AsksLayout};
+ghost use Rattle.sp_verify_effects.specs.AskedAreas.{AsksLayouts, AsksOutside, AsksTables, allowance_at, has_block};
+ghost use Rattle.sp_verify_effects.specs.AskedAreas.{inside_entry, is_asked, is_asked_block, is_marked, is_of_rules};
+ghost use Rattle.sp_verify_effects.specs.AskedAreas.{target};
 ghost use Rattle.sp_verify_effects.specs.FactClosure.{FollowsEdges, FollowsRow, IsFollowed, Passes};
 ghost use Rattle.sp_verify_effects.specs.PassContexts.{IsPassContext};
 ghost use Rattle.sp_verify_rules.specs.Areas.{Area, homes as homes_of, instr_at};
 
-use crate::allowance::{Allowance, allows, fits, passes_within};
+use crate::allowance::{Allowance, allows, fits, fits_block, passes_within};
 use crate::callers::{flag_groups, groups_of};
 use crate::common::{Common, common_of};
 use crate::edges::{Edge, edge_at};
@@ -36,6 +37,9 @@ pub struct Asked {
     /// do is not asked about.
     pub numbers: List<u32>,
     pub allowances: List<Allowance>,
+    /// Of each instruction, whether a block begins there that answers, takes a variable by reference or is called
+    /// inside itself.
+    pub blocks: List<bool>,
 }
 
 impl Asked {
@@ -73,14 +77,11 @@ impl Asked {
         self.all || (flag_at(&self.flags, entry) && !self.allows(entry, effect))
     }
 
-    // Whether all is.
-    fn asks_all(&self, entry: usize) -> bool
-        ensures { result ≡ true → AsksAll self.now entry }
+    // Whether a block begins there of which the rules ask what it does outside itself.
+    fn has_block(&self, entry: usize) -> bool
+        ensures { result ≡ has_block self.now entry }
     {
-        match self.allowance(entry) {
-            None => self.has(entry),
-            Some(_) => self.all,
-        }
+        self.all || flag_at(&self.blocks, entry)
     }
 
     // Whether two areas have allowances of one number.
@@ -99,19 +100,21 @@ impl Asked {
 
 // All areas.
 fn every_area(asked: Asked) -> Asked
-    ensures { (m : ℕ) → AsksAll result m }
+    ensures { result.all ≡ true }
 {
     let Asked {
         all: _,
         flags,
         numbers,
         allowances,
+        blocks,
     } = asked;
     Asked {
         all: true,
         flags,
         numbers,
         allowances,
+        blocks,
     }
 }
 
@@ -183,7 +186,7 @@ fn mark_tables(flags: &mut List<bool>, tables: &[ForkTable]) {
     }
 }
 
-// Sets those of blocks of which the rules ask about all.
+// Sets those of blocks of which the rules ask what they do outside themselves.
 fn mark_blocks(g: &PassContext, flags: &mut List<bool>)
     requires known { IsPassContext g.now }
 {
@@ -247,30 +250,59 @@ fn asks_tables(asked: &Asked, tables: &[ForkTable]) -> Result<bool, Memory>
     Ok(true)
 }
 
-// Whether a block is, if it answers or takes a variable by reference.
-fn asks_layout(asked: &Asked, l: &Layout) -> bool
-    ensures { result ≡ true → is_of_rules l.now ≡ true → AsksAll asked.now l.now.entry }
+// Whether the rules ask what a block does outside itself, by its layout or by the flags.
+fn is_asked_block(asked: &Asked, l: &Layout) -> bool
+    ensures { result ≡ is_asked_block asked.now l.now }
 {
-    if is_of_rules(l) {
-        asked.asks_all(l.entry as usize)
-    } else {
-        true
+    is_of_rules(l) || asked.has_block(l.entry as usize)
+}
+
+// Whether all that the area of a block may do, it does to variables of the block.
+fn fits_own(asked: &Asked, l: &Layout) -> Result<bool, Memory>
+    ensures { IfOk result (λ b. b ≡ true → FitsBlock (allowance_at asked.now l.now.entry) l.now) }
+{
+    match asked.allowance(l.entry as usize) {
+        None => Ok(true),
+        Some(allowance) => fits_block(asked.flags.alloc(), allowance, l),
     }
 }
 
-// All such blocks.
-fn asks_layouts(asked: &Asked, layouts: &[Layout]) -> bool
-    ensures { result ≡ true → AsksLayouts asked.now layouts.now }
+// Whether all that a block does outside itself is asked about.
+fn asks_outside(asked: &Asked, l: &Layout) -> Result<bool, Memory>
+    ensures { IfOk result (λ b. b ≡ true → AsksOutside asked.now l.now) }
+{
+    if asked.has(l.entry as usize) {
+        fits_own(asked, l)
+    } else {
+        Ok(false)
+    }
+}
+
+// The same for a layout, if the rules ask it of its block.
+fn asks_layout(asked: &Asked, l: &Layout) -> Result<bool, Memory>
+    ensures { IfOk result (λ b. b ≡ true → AsksLayout asked.now l.now) }
+{
+    if is_asked_block(asked, l) {
+        asks_outside(asked, l)
+    } else {
+        Ok(true)
+    }
+}
+
+// All layouts.
+fn asks_layouts(asked: &Asked, layouts: &[Layout]) -> Result<bool, Memory>
+    ensures { IfOk result (λ b. b ≡ true → AsksLayouts asked.now layouts.now) }
 {
     for l in layouts {
-        if !asks_layout(asked, l) {
-            return false;
+        let asks = have!(asks_layout(asked, l));
+        if !asks {
+            return Ok(false);
         }
     }
-    true
+    Ok(true)
 }
 
-// Whether the block is that an instruction calls inside itself.
+// Whether the flags have the block that an instruction calls inside itself.
 fn asks_inside_at(g: &PassContext, asked: &Asked, p: u32) -> bool
     requires known { IsPassContext g.now }
     requires there { p < length g.now.code.now.instrs }
@@ -278,7 +310,7 @@ fn asks_inside_at(g: &PassContext, asked: &Asked, p: u32) -> bool
 {
     match inside_entry_at(g, p) {
         None => true,
-        Some(entry) => asked.asks_all(entry as usize),
+        Some(entry) => asked.has_block(entry as usize),
     }
 }
 
@@ -356,7 +388,8 @@ fn asks(g: &PassContext, asked: &Asked) -> Result<bool, Memory>
     let parts = g.code.parts();
     let tables = have!(asks_tables(asked, parts.forks.items()));
     if tables {
-        if asks_layouts(asked, parts.layouts.items()) {
+        let layouts = have!(asks_layouts(asked, parts.layouts.items()));
+        if layouts {
             return Ok(asks_inside(g, asked));
         }
     }
@@ -369,21 +402,22 @@ fn find_asked(g: &PassContext, rows: &List<List<Edge>>) -> Result<Asked, Memory>
 {
     let parts = g.code.parts();
     let alloc = parts.instrs.alloc();
-    let mut whole = have!(no_flags(alloc, parts.instrs.len()));
-    mark_blocks(g, &mut whole);
-    let mut flags = have!(List::from_slice(alloc, whole.items()));
+    let mut blocks = have!(no_flags(alloc, parts.instrs.len()));
+    mark_blocks(g, &mut blocks);
+    let mut flags = have!(List::from_slice(alloc, blocks.items()));
     mark_tables(&mut flags, parts.forks.items());
     let groups = have!(groups_of(rows));
     flag_groups(rows, &groups, &mut flags);
     let Common {
         numbers,
         allowances,
-    } = have!(common_of(&parts.forks, rows, &groups, &flags, &whole));
+    } = have!(common_of(parts, rows, &groups, &flags, &blocks));
     Ok(Asked {
         all: false,
         flags,
         numbers,
         allowances,
+        blocks,
     })
 }
 

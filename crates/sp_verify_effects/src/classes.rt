@@ -1,18 +1,22 @@
-//! Allowances with numbers: those of children by their lists, and those of areas to which children come that are handed
-//! different variables. Nothing here has a contract: `asked_areas.rt` checks what is found with it.
+//! Allowances with numbers: those of children by their lists, those of blocks, and those of areas to which several
+//! children and blocks come that have different ones. Nothing here has a contract: `asked_areas.rt` checks what is
+//! found with it.
 
-use crate::allowance::{Allowance, allowance_of, is_within, shared_by};
+use crate::allowance::{Allowance, allowance_of, allowance_of_block, is_within, shared_by};
 use crate::callers::NONE;
 use crate::have;
 use sp_base::{List, Memory};
-use sp_code::{ChildTable, ForkTable};
+use sp_code::{ChildTable, ForkTable, Layout};
 use std::alloc::Global;
 use std::collections::{BTreeMap, BTreeSet};
 
 /// The number of an area of which nothing is known yet.
 pub(crate) const UNKNOWN: u32 = 4_294_967_294;
 
-// How many variables the allowances of children may have together, and those of areas that several children come to.
+// How many allowances there may be.
+const MOST_CLASSES: usize = 4_000_000;
+
+// How many variables those of children and blocks may have together, and those of areas that several of them come to.
 const MOST_VARIABLES: usize = 12_000_000;
 
 const MOST_MET: usize = 4_000_000;
@@ -20,8 +24,8 @@ const MOST_MET: usize = 4_000_000;
 // How many steps comparing allowances may take.
 const MOST_STEPS: usize = 100_000_000;
 
-/// The allowances of children, by sums over their lists, and the first child that has each; and what two of them have
-/// in common, by their numbers and by sums.
+/// The allowances of children, by sums over their lists, and the first child that has each; those of blocks; and what
+/// two of them have in common, by their numbers and by sums.
 #[derive(Drop)]
 pub(crate) struct Classes<'a> {
     pub tables: &'a List<ForkTable>,
@@ -50,12 +54,44 @@ pub(crate) fn no_classes(alloc: Global, tables: &List<ForkTable>) -> Classes<'_>
     }
 }
 
+// The sum with one variable more.
+fn sum_with(sum: u32, x: u32) -> u32 {
+    ((sum as u64 * 31 + x as u64) % 4_294_967_291) as u32
+}
+
 fn sum_of(xs: &[u32]) -> u32 {
-    let mut sum: u32 = 7;
+    let mut sum = 7;
     for x in xs {
-        sum = ((sum as u64 * 31 + *x as u64) % 4_294_967_291) as u32;
+        sum = sum_with(sum, *x);
     }
     sum
+}
+
+fn sum_of_set(set: &BTreeSet<u32>) -> u32 {
+    let mut sum = 7;
+    for x in set.iter() {
+        sum = sum_with(sum, *x);
+    }
+    sum
+}
+
+// Puts an allowance behind the others and gives its number, unless there are too many.
+fn put(classes: &mut Classes, allowance: Allowance) -> Result<u32, Memory> {
+    let number = classes.allowances.len();
+    if number >= MOST_CLASSES {
+        return Ok(NONE);
+    }
+    have!(classes.allowances.push(allowance));
+    Ok(number as u32)
+}
+
+// Takes room for so many variables, if it is left.
+fn take_room(classes: &mut Classes, size: usize) -> bool {
+    if size > classes.room {
+        return false;
+    }
+    classes.room = classes.room - size;
+    true
 }
 
 // The child at a place of the tables.
@@ -94,18 +130,15 @@ fn put_class(
     place: (usize, usize),
     child: &ChildTable,
 ) -> Result<u32, Memory> {
-    let number = classes.allowances.len();
-    let moved = child.moved.len();
-    let shared = child.shared.len();
-    if number >= 4_000_000 || moved > classes.room || shared > classes.room - moved {
+    let size = child.moved.len().saturating_add(child.shared.len());
+    if !take_room(classes, size) {
         return Ok(NONE);
     }
-    classes.room = classes.room - moved - shared;
     let allowance = have!(allowance_of(alloc, child));
-    have!(classes.allowances.push(allowance));
+    let number = have!(put(classes, allowance));
     have!(classes.firsts.push(place));
-    have!(classes.known.insert(key, number as u32));
-    Ok(number as u32)
+    have!(classes.known.insert(key, number));
+    Ok(number)
 }
 
 /// The number of the allowance of a child, if it has one.
@@ -122,23 +155,49 @@ pub(crate) fn class_of(
     }
 }
 
-// How many variables it has.
-fn size_of(allowances: &List<Allowance>, number: u32) -> usize {
+/// The number of the allowance of a block, if it has one. Blocks have no variable in common, so each gets its own.
+pub(crate) fn class_of_block(
+    alloc: Global,
+    classes: &mut Classes,
+    l: &Layout,
+) -> Result<u32, Memory> {
+    let size = l.variables.len();
+    if size == 0 {
+        return Ok(NONE);
+    }
+    if !take_room(classes, size) {
+        return Ok(NONE);
+    }
+    let allowance = have!(allowance_of_block(alloc, l));
+    put(classes, allowance)
+}
+
+// How many variables it has, of each kind.
+fn size_of(allowance: &Allowance) -> usize {
+    allowance
+        .stored
+        .len()
+        .saturating_add(allowance.loaded.len())
+}
+
+// The same by its number.
+fn size_at(allowances: &List<Allowance>, number: u32) -> usize {
     match allowances.get(number as usize) {
         None => 0,
-        Some(allowance) => allowance
-            .stored
-            .len()
-            .saturating_add(allowance.loaded.len()),
+        Some(allowance) => size_of(allowance),
     }
 }
 
-fn sum_of_set(set: &BTreeSet<u32>) -> u32 {
-    let mut sum: u32 = 7;
-    for x in set.iter() {
-        sum = ((sum as u64 * 31 + *x as u64) % 4_294_967_291) as u32;
+// Whether it is the one of this number.
+fn is_at(allowances: &List<Allowance>, number: u32, allowance: &Allowance) -> bool {
+    match allowances.get(number as usize) {
+        None => false,
+        Some(one) => {
+            size_of(one) == size_of(allowance)
+                && (allowance.stops || !one.stops)
+                && is_within(allowance, one)
+        }
     }
-    sum
 }
 
 // Whether one is within the other, by their numbers.
@@ -171,28 +230,24 @@ fn common_to(
     }
 }
 
-// The number of an allowance that two have in common: that of an earlier one that is the same, or a new one.
+// The number of an allowance that two have in common: that of an earlier one that is the same, or a new one. None if it
+// has nothing.
 fn put_met(classes: &mut Classes, allowance: Allowance) -> Result<u32, Memory> {
-    let key = (sum_of_set(&allowance.stored), sum_of_set(&allowance.loaded));
-    let number = classes.allowances.len();
-    if number >= 4_000_000 {
+    if size_of(&allowance) == 0 && !allowance.stops {
         return Ok(NONE);
     }
-    let number = number as u32;
-    have!(classes.allowances.push(allowance));
+    let key = (sum_of_set(&allowance.stored), sum_of_set(&allowance.loaded));
     match classes.met.get(&key).copied() {
         None => {
+            let number = have!(put(classes, allowance));
             have!(classes.met.insert(key, number));
             Ok(number)
         }
         Some(earlier) => {
-            if size_of(&classes.allowances, earlier) == size_of(&classes.allowances, number)
-                && lies_within(&classes.allowances, number, earlier)
-            {
-                let _same = classes.allowances.pop();
+            if is_at(&classes.allowances, earlier, &allowance) {
                 Ok(earlier)
             } else {
-                Ok(number)
+                put(classes, allowance)
             }
         }
     }
@@ -209,8 +264,8 @@ fn steps_of(size: usize, other: usize) -> usize {
 
 // Takes the steps that it takes to compare two of them, if they are left.
 fn take_steps(classes: &mut Classes, one: u32, other: u32) -> bool {
-    let size = size_of(&classes.allowances, one);
-    let other = size_of(&classes.allowances, other);
+    let size = size_at(&classes.allowances, one);
+    let other = size_at(&classes.allowances, other);
     let steps = steps_of(size.min(other), size.max(other));
     if steps > classes.work {
         return false;
@@ -230,7 +285,7 @@ fn meet(alloc: Global, classes: &mut Classes, one: u32, other: u32) -> Result<u3
     if lies_within(&classes.allowances, other, one) {
         return Ok(other);
     }
-    let size = size_of(&classes.allowances, one).min(size_of(&classes.allowances, other));
+    let size = size_at(&classes.allowances, one).min(size_at(&classes.allowances, other));
     if size > classes.room_met {
         return Ok(NONE);
     }

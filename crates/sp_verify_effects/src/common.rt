@@ -1,15 +1,16 @@
 //! Finds for each area an allowance that all have that ask about it: what all children are handed that come to an area
-//! need not be asked about it. It goes over the groups of `callers.rt` once. Nothing here has a contract:
+//! need not be asked about it, nor what is done to the variables of a block that all blocks which rules ask about and
+//! that come to it have themselves. It goes over the groups of `callers.rt` once. Nothing here has a contract:
 //! `asked_areas.rt` checks what is found.
 
 use crate::allowance::{Allowance, passes_within};
 use crate::asked_areas::target;
 use crate::callers::{Groups, NONE, number_of, set_number};
-use crate::classes::{Classes, UNKNOWN, class_of, may_compare, met, no_classes};
+use crate::classes::{Classes, UNKNOWN, class_of, class_of_block, may_compare, met, no_classes};
 use crate::edges::Edge;
 use crate::have;
 use sp_base::{List, Memory};
-use sp_code::{ChildTable, ForkTable};
+use sp_code::{ChildTable, ForkTable, Layout, Parts};
 use sp_verify_areas::flags::flag_at;
 use std::alloc::Global;
 
@@ -46,6 +47,25 @@ fn number_tables(
 ) -> Result<(), Memory> {
     for (t, table) in tables.iter().enumerate() {
         have!(number_children(alloc, classes, numbers, t, table.children.items()));
+    }
+    Ok(())
+}
+
+// Gives the blocks whose flags are set theirs.
+fn number_blocks(
+    alloc: Global,
+    classes: &mut Classes,
+    numbers: &mut List<u32>,
+    layouts: &[Layout],
+    blocks: &List<bool>,
+) -> Result<(), Memory> {
+    for l in layouts {
+        let m = l.entry as usize;
+        if flag_at(blocks, m) {
+            let number = have!(class_of_block(alloc, classes, l));
+            let now = have!(met(alloc, classes, number_of(numbers, m), number));
+            set_number(numbers, m, now);
+        }
     }
     Ok(())
 }
@@ -186,30 +206,26 @@ fn number_group(
     Ok(())
 }
 
-// As many areas as there are instructions; nothing is known of those that are asked about in part, and the others have
-// no allowance.
-fn first_numbers(alloc: Global, count: usize, whole: &List<bool>) -> Result<List<u32>, Memory> {
-    let mut numbers = List::new(alloc);
-    for m in 0..count {
-        let number = if flag_at(whole, m) { NONE } else { UNKNOWN };
-        have!(numbers.push(number));
-    }
-    Ok(numbers)
-}
-
-/// The allowances of the areas whose flags are set, by the edges between areas. Those that are to be asked about as a
-/// whole have none.
+/// The allowances of the areas whose flags are set, by the edges between areas. There are flags of blocks too: of those
+/// of which the rules ask what they do outside themselves.
 pub(crate) fn common_of(
-    tables: &List<ForkTable>,
+    parts: &Parts,
     rows: &List<List<Edge>>,
     groups: &Groups,
     flags: &List<bool>,
-    whole: &List<bool>,
+    blocks: &List<bool>,
 ) -> Result<Common, Memory> {
     let alloc = rows.alloc();
-    let mut numbers = have!(first_numbers(alloc, rows.len(), whole));
-    let mut classes = no_classes(alloc, tables);
-    have!(number_tables(alloc, &mut classes, &mut numbers, tables.items()));
+    let mut numbers = List::of(have!(vec![in alloc; UNKNOWN; rows.len()]));
+    let mut classes = no_classes(alloc, &parts.forks);
+    have!(number_tables(alloc, &mut classes, &mut numbers, parts.forks.items()));
+    have!(number_blocks(
+        alloc,
+        &mut classes,
+        &mut numbers,
+        parts.layouts.items(),
+        blocks
+    ));
     let pass = Pass {
         rows,
         groups,

@@ -21,7 +21,8 @@
 //!   called inside themselves (`specs/AskedAreas.antt`). What no such area comes to is not followed. `asked_areas.rt`
 //!   marks them with no contract, and looks whether the marks are right; else all areas are followed.
 //! - What all children are handed that come to an area is not asked about it (`allowance.rt`, `specs/Allowances.antt`):
-//!   the rule lets them do it. `common.rt` finds that with no contract, and `asked_areas.rt` looks whether it is right.
+//!   the rule lets them do it. So too what is done to the own variables of a block that comes to it. `common.rt` finds
+//!   that with no contract, and `asked_areas.rt` looks whether it is right.
 //! - `facts.rt` is a set of facts about areas (`specs/Facts.antt`), `places.rt` and `own.rt` are what instructions do
 //!   themselves, `edges.rt` and `closure.rt` how facts go from area to area until nothing is new, `effects.rt` makes a
 //!   table of them, with the variables of blocks (`variables.rt`).
