@@ -647,17 +647,27 @@ module _ (g : RunInput) (code : Code) (w : Identity) (Named : Channel → ℕ �
 
     -- what is shared is the input, a variable, or an index, and is held; scoped: a variable that is used is declared,
     -- and an index other than the child's own in scope
-    abbrev pub IndexStands : Spot → Type 0
-    IndexStands q = (k : ℕ) × J k × (j : FramePair) × (rest : List FramePair) × (x : ℕ) × (v : ℤ)
-        × (pairs_from (suc k) js ≡ j ∷ rest)
-        × (j.source.home ≡ OfIndex x v) × (q ≡ spot_at j.machine.number 0)
+    pub record IndexStands (q : Spot) : Type 0 where
+      pub height : ℕ
+      pub is_held : J height
+      pub frame : FramePair
+      pub rest : List FramePair
+      pub index : ℕ
+      pub at_value : ℤ
+      pub from : pairs_from (suc height) js ≡ frame ∷ rest
+      pub home_is : frame.source.home ≡ OfIndex index at_value
+      pub spot_is : q ≡ spot_at frame.machine.number 0
+
+    pub record CellStands (q : Spot) : Type 0 where
+      pub owner : Name
+      pub height : ℕ
+      pub variable : ℕ
+      pub live : Live p js owner height variable
+      pub may : R (Cell owner height variable)
+      pub spot_is : q ≡ spot_at live.joint.machine.number (slot p variable)
 
     abbrev pub SharedStands : Spot → Type 0
-    SharedStands q =
-        ((q ≡ position_at.spot) × R Input)
-        ⊎ (((r : Name) × (k : ℕ) × (x : ℕ) × (l : Live p js r k x) × R (Cell r k x)
-        × (q ≡ spot_at l.joint.machine.number (slot p x)))
-        ⊎ IndexStands q)
+    SharedStands q = ((q ≡ position_at.spot) × R Input) ⊎ (CellStands q ⊎ IndexStands q)
 
     module _ (consoles : (y : ℕ) (v : Variable) → slice_get p.variables y ≡ Some v → v.role ≡ role.Console → y < 2)
         (sc : List Scope) (chain : Chain sc js)
@@ -689,17 +699,18 @@ module _ (g : RunInput) (code : Code) (w : Identity) (Named : Channel → ℕ �
           let at = ap (λ b. if b then Some (record { frame = 0; variable = y }) else
           spot_from code.layouts (length (machines js)) (machines js) y) (far_index y v ev iv)
           ∙ index_spot p formed code.layouts laid Called y v ev iv sc (length (machines js)) js chain t.frames.paired
-          (subst (λ z. length js ≤ z) (sym (machines_length js)) (omega arith)) up lev f.frame f.rest f.frame_at in (
-            length f.rest,
-            held_index y up other direct lev f.frame f.rest f.frame_at,
-            f.frame,
-            f.rest,
-            y,
-            w.0,
-            up_from up js f.frame f.rest f.frame_at,
-            w.1,
-            same_Some q (spot_at f.frame.machine.number 0) (sym e ∙ at),
-          )
+          (subst (λ z. length js ≤ z) (sym (machines_length js)) (omega arith)) up lev f.frame f.rest f.frame_at in
+          record {
+            height = length f.rest;
+            is_held = held_index y up other direct lev f.frame f.rest f.frame_at;
+            frame = f.frame;
+            rest = f.rest;
+            index = y;
+            at_value = w.0;
+            from = up_from up js f.frame f.rest f.frame_at;
+            home_is = w.1;
+            spot_is = same_Some q (spot_at f.frame.machine.number 0) (sym e ∙ at);
+          }
 
       pub shared_stands : (q : Spot) → In q h.shared → SharedStands q
       shared_stands q i =
@@ -720,14 +731,14 @@ module _ (g : RunInput) (code : Code) (w : Identity) (Named : Channel → ℕ �
               let f = spot_agrees p formed code.layouts laid Called y v ev hs js t.frames.paired far owner height
               variable stood in
               let z : Some q ≡ Some (spot_at f.live.joint.machine.number (slot p variable)) = sym e ∙ f.spot in
-              inr (inl (
-                owner,
-                height,
-                variable,
-                f.live,
-                right_of (Cell owner height variable) y used stood,
-                same_Some q (spot_at f.live.joint.machine.number (slot p variable)) z,
-              ))
+              inr (inl (record {
+                owner = owner;
+                height = height;
+                variable = variable;
+                live = f.live;
+                may = right_of (Cell owner height variable) y used stood;
+                spot_is = same_Some q (spot_at f.live.joint.machine.number (slot p variable)) z;
+              }))
 
           console_spot : (y : ℕ) (v : Variable) → slice_get p.variables y ≡ Some v → v.role ≡ role.Console
               → IsMember y (shares st) → IsUsed p (In_stmt st) y → spot_of code.layouts (machines js) y ≡ Some q → y < 2
@@ -761,15 +772,14 @@ module _ (g : RunInput) (code : Code) (w : Identity) (Named : Channel → ℕ �
           by (inl (spot_is, may)) = let z = t.position may in
               subst (λ y. IsPiece (fin.get n.store.map y)) (sym spot_is)
               (piece_of_cells (fin.get n.store.map position_at.spot) _ z.2)
-          by (inr (inl (owner, height, variable, live, may, spot_is))) =
-              let z = t.held owner height variable live may in
-              subst (λ y. IsPiece (fin.get n.store.map y)) (sym spot_is)
-              (piece_of_cells (fin.get n.store.map (spot_at live.joint.machine.number (slot p variable))) z.cells
+          by (inr (inl c)) =
+              let z = t.held c.owner c.height c.variable c.live c.may in
+              subst (λ y. IsPiece (fin.get n.store.map y)) (sym c.spot_is)
+              (piece_of_cells (fin.get n.store.map (spot_at c.live.joint.machine.number (slot p c.variable))) z.cells
               z.piece)
-          by (inr (inr (height, held, frame, rest, variable, value, from, home, spot_is))) =
-              subst (λ y. IsPiece (fin.get n.store.map y)) (sym spot_is)
-              (piece_of_cells (fin.get n.store.map (spot_at frame.machine.number 0)) _
-              (t.indexes height held frame rest variable value from home))
+          by (inr (inr i)) = subst (λ y. IsPiece (fin.get n.store.map y)) (sym i.spot_is)
+              (piece_of_cells (fin.get n.store.map (spot_at i.frame.machine.number 0)) _
+              (t.indexes i.height i.is_held i.frame i.rest i.index i.at_value i.from i.home_is))
 
       -- and the output, where the parent holds it, is not shared
       pub output_unshared : R Output → In output_spot h.shared → ⊥
@@ -777,10 +787,9 @@ module _ (g : RunInput) (code : Code) (w : Identity) (Named : Channel → ℕ �
         where
           by : SharedStands output_spot → ⊥
           by (inl (spot_is, _)) = let bad : 1 ≡ 0 = ap (λ (y : Spot). y.variable) spot_is in omega (arith, bad)
-          by (inr (inl (owner, height, variable, live, may1, spot_is))) =
-              no_console_spot 1 owner height variable live may1 (inr may) (omega arith) (sym spot_is)
-          by (inr (inr (_, _, _, _, _, _, _, _, spot_is))) =
-              let bad : 1 ≡ 0 = ap (λ (y : Spot). y.variable) spot_is in omega (arith, bad)
+          by (inr (inl c)) = no_console_spot 1 c.owner c.height c.variable c.live c.may (inr may) (omega arith)
+              (sym c.spot_is)
+          by (inr (inr i)) = let bad : 1 ≡ 0 = ap (λ (y : Spot). y.variable) i.spot_is in omega (arith, bad)
 
       -- two variables of the statement with one spot are one, where the first is no index
       pub once : (y z : ℕ) → IsUsed p (In_stmt st) y → IsUsed p (In_stmt st) z → (IsIndexOf p y → ⊥)
@@ -828,19 +837,18 @@ module _ (g : RunInput) (code : Code) (w : Identity) (Named : Channel → ℕ �
           by_kinds v w ev ew ix (inl c) (inr (inl d)) =
               absurd (far_apart z y v ev c a (consoles y v ev c) e (held_spot z w ew b d q f))
           by_kinds v w ev ew ix (inl c) (inr (inr d)) =
-              let (height, held, frame, rest, variable, value, from, home, spot_is) = ix d in
-              absurd (index_no_console height held frame rest variable value from home
+              let i = ix d in
+              absurd (index_no_console i.height i.is_held i.frame i.rest i.index i.at_value i.from i.home_is
               (console_right y v ev c a (consoles y v ev c))
-              (ap (λ (x : Spot). x.frame) (sym spot_is ∙ console_at y (consoles y v ev c) e)))
+              (ap (λ (x : Spot). x.frame) (sym i.spot_is ∙ console_at y (consoles y v ev c) e)))
           by_kinds v w ev ew ix (inr (inl c)) (inl d) =
               absurd (far_apart y z w ew d b (consoles z w ew d) f (held_spot y v ev a c q e))
           by_kinds v w ev ew ix (inr (inl c)) (inr (inl d)) = used_once y z v w ev ew c d a b q e f
           by_kinds v w ev ew ix (inr (inl c)) (inr (inr d)) =
-              let (height, held, frame, rest, index, value, from, home, spot_is) = ix d in
+              let i = ix d in
               let h = held_spot y v ev a c q e in
-              absurd (no_index_spot h.owner h.height h.variable h.live h.may height held frame rest index value from
-              home
-              (sym h.spot ∙ spot_is))
+              absurd (no_index_spot h.owner h.height h.variable h.live h.may i.height i.is_held i.frame i.rest i.index
+              i.at_value i.from i.home_is (sym h.spot ∙ i.spot_is))
           by_kinds v w ev ew ix (inr (inr c)) d = absurd (no_index (v, ev, c))
 
           by : Scoped y → Scoped z → y ≡ z
