@@ -197,7 +197,8 @@ module _ (s : syntax.Program) (calm : broken_name_rules s ≡ []) (no_types : ty
       by false h e = (
         (λ i. h (c, at, [], i)),
         λ g args i leads.
-            let (path, reach) = from_call p_ (In_stmt c.body) g args Stop i (stop_is p_ g leads) in h (c, at, path, reach),
+            let (path, reach) = from_call p_ (In_stmt c.body) g args Stop i (stop_is p_ g leads) in
+            h (c, at, path, reach),
       )
 
   pub block_fine : (f q : ℕ) (c : plain.Block) → slice_get p_.blocks f ≡ Some c
