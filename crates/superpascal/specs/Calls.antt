@@ -63,8 +63,7 @@ call w f s r o n x = record { words = w; files = f; source = s; reports = r; out
 -- of the run that the words ask for, and its text, where the library tells it
 abbrev pub OfRun : Call → (RunRequest → List ℕ → Type 0) → Type 0
 OfRun c P = (a : RunRequest) (text : List ℕ) → command_of c.words ≡ Some (command.Run a)
-    → c.files.held a.file ≡ Some text
-    → P a text
+    → c.files.held a.file ≡ Some text → P a text
 
 -- the same with the input, where the source tells it
 abbrev pub OfInput : Call → (RunRequest → List ℕ → List ℕ → Type 0) → Type 0

@@ -43,8 +43,7 @@ pub record Files : Type 0 where
 
 -- a library of the type A before and after, by what it holds and counts
 abbrev pub files_of : {A : Type 0} → (A → List ℕ → Option (List ℕ)) → (A → List ℕ → ℕ) → A → A → Files
-files_of held faults before after =
-    record { held = held before; before = faults before; after = faults after }
+files_of held faults before after = record { held = held before; before = faults before; after = faults after }
 
 -- what a source has left, where it tells it, before and after the call, and its counts of faults
 pub record Stream : Type 0 where
@@ -235,16 +234,13 @@ pub data Due (f : Files) (s : Stream) (reports : Reports) (c : Command) (a : Ans
   by_length : IsLongInput f s c a → Due f s reports c a
   by_replay : (asked : ReplayRequest) → c ≡ command.Replay asked → HasReplayed f s asked a → Due f s reports c a
   by_entry : (asked : ReplayRequest) (n : ℕ) → c ≡ command.Replay asked → IsUnfit f s asked n a → Due f s reports c a
-  by_line : (asked : ReplayRequest) (n : ℕ) → c ≡ command.Replay asked → IsBadJournal f asked n a
-      → Due f s reports c a
+  by_line : (asked : ReplayRequest) (n : ℕ) → c ≡ command.Replay asked → IsBadJournal f asked n a → Due f s reports c a
   by_size : (asked : ReplayRequest) → c ≡ command.Replay asked → IsLongJournal f asked a → Due f s reports c a
   by_execution : (asked : ExecRequest) → c ≡ command.Exec asked → HasExecuted f s asked a → Due f s reports c a
   by_long_file : (asked : ExecRequest) → c ≡ command.Exec asked → IsLongFile f asked a → Due f s reports c a
-  by_code_line : (asked : ExecRequest) (n : ℕ) → c ≡ command.Exec asked → IsBadCode f asked n a
-      → Due f s reports c a
+  by_code_line : (asked : ExecRequest) (n : ℕ) → c ≡ command.Exec asked → IsBadCode f asked n a → Due f s reports c a
   by_rejection : (asked : ExecRequest) (v : VRule) (i : ℕ) → c ≡ command.Exec asked
-      → IsRejectedCode f asked v i a
-      → Due f s reports c a
+      → IsRejectedCode f asked v i a → Due f s reports c a
   by_memory : a ≡ answer_without_output e.OutOfMemory → Due f s reports c a
 
 -- the source is touched only where the command reads it, and what it loads before is right

@@ -33,8 +33,7 @@ IsFaultyFile bytes =
 
 -- the run that is given back is one of the code file and the input that the words ask for, of which nothing is left
 abbrev pub IsExecutionOfWords : Call → Closed → Type 0
-IsExecutionOfWords c r =
-    (b : ExecRequest) × (command_of c.words ≡ Some (command.Exec b)) × IsAtEnd c.source.left'
+IsExecutionOfWords c r = (b : ExecRequest) × (command_of c.words ≡ Some (command.Exec b)) × IsAtEnd c.source.left'
     × (bytes input : List ℕ) × IsKnownAs (c.files.held b.file) bytes × IsKnownAs c.source.left input
     × IsExecutionOf bytes input b.limits r
 

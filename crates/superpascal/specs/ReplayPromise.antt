@@ -54,8 +54,7 @@ pub record Following (c : Call) : Type 0 where
   -- else the first entry is named with which it is not defined
   pub unfit : OfReplayInput c (λ b text bytes input. IsAcceptedText text → length input ≤ 16777216 → (p : Program)
       → IsProgramOf text p → (j : Journal) → IsJournalOf bytes j → (n : ℕ)
-      → IsUnfitAt (run_input p input b.limits) j.entries n
-      → SaysEnding c (e.Unfit n))
+      → IsUnfitAt (run_input p input b.limits) j.entries n → SaysEnding c (e.Unfit n))
   -- of bytes that are the text of no journal, the first line is named that is not the text of a next entry
   pub bad : OfReplay c (λ b text bytes. IsAcceptedText text → length bytes ≤ 67108864 → (IsText bytes → ⊥)
       → ((n : ℕ) × IsFirstBad n bytes × SaysEnding c (e.BadJournal n)) ⊎ IsOutside c.outcome.status)

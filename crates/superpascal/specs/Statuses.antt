@@ -77,8 +77,7 @@ pub record Statuses (c : Call) : Type 0 where
   -- 7: the input is too long, where what is loaded before it is right
   pub too_long : c.outcome.status ≡ 7 → InputIsTooLong c
   pub long_refused : OfRun c (λ a text. IsAcceptedText text → (input : List ℕ) → c.source.left ≡ Some input
-      → IsTooLong input
-      → IsOutside c.outcome.status)
+      → IsTooLong input → IsOutside c.outcome.status)
   pub long_unfollowed : OfReplay c (λ b text bytes. IsAcceptedText text → IsJournalText bytes → (input : List ℕ)
       → c.source.left ≡ Some input → IsTooLong input → IsOutside c.outcome.status)
   -- 8: nothing is put to the output, and no run is given back

@@ -44,8 +44,7 @@ HasSets text out = (p : c.Program) × IsChecked text p × (s : Sets) × AreSets 
 abbrev pub HasCodeText : List ℕ → List ℕ → Type 0
 HasCodeText text out =
     (p : c.Program) × IsAccepted text p × (tree_length (without_places p) ≤ 1048576) × (code : Parts)
-    × IsCodeOf (without_places p) code
-    × IsTextOf code out
+    × IsCodeOf (without_places p) code × IsTextOf code out
 
 -- the text of the code is no longer than is loaded
 abbrev pub IsCodeFile : List ℕ → List ℕ → Type 0

@@ -26,8 +26,7 @@ WritesLine c = (ending : Ending) × (c.outcome.status ≡ status_of ending) × (
 pub record Writing (c : Call) : Type 0 where
   -- what a command makes of the text alone
   pub made : OfText c (λ d text. (out line : List ℕ) → Makes d text out line → c.outcome.status ≡ 0
-      → WroteAll c.output out
-      × WroteAll c.notes line)
+      → WroteAll c.output out × WroteAll c.notes line)
   -- the output of a run, or the witness of its race; and its end, verdict and reports, or its journal
   pub ran : (a : RunRequest) → command_of c.words ≡ Some (command.Run a) → (r : Ran) → c.outcome.ran ≡ Some r
       → AreWritten c (told_output a.telling r) (told_notes c.reports a.telling r)
