@@ -9,9 +9,8 @@ use Rattle.sp_tree.specs.Plain.{ExprForm, Number, Read, Unary, Binary, Apply, St
 use Rattle.sp_tree.specs.Uses.{In_form}
 use Rattle.sp_cell.specs.declared.spot.Address.{Address as Ptr}
 use Rattle.sp_meaning.specs.Maps.{at_key}
-use Rattle.sp_meaning.specs.Model.{Channel}
 use Rattle.sp_meaning.specs.Values.{Value, get_at}
-use Rattle.sp_meaning.specs.LocalWork.{Tree, Address, LocalState, Item, bind, give, who, fetch, assign, content_with}
+use Rattle.sp_meaning.specs.LocalWork.{Tree, Address, LocalState, Item, bind, give, fetch, assign, content_with}
 use Rattle.sp_meaning.specs.LocalWork.{same_loc, value_in}
 use Rattle.sp_meaning.specs.Eval.{Place, AtAddress, Fixed, Calls, checked_value, read_at, form_value, place}
 use Rattle.sp_meaning.specs.Actions.{Stepped}

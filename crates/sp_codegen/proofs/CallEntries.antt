@@ -39,7 +39,8 @@ use Rattle.sp_tree.specs.TreeShape.{IsFormed}
 use Rattle.sp_codegen.specs.Relation.{Relation, Owns, OneCell as IsOneCell, StackHolds, GivensAre, frame_for}
 use Rattle.sp_codegen.specs.Relation.{CallMatches}
 use Rattle.sp_codegen.specs.Relation.{cell_of}
-use Rattle.sp_codegen.specs.MemoryRelation.{PointsTo, machine_run, relation}
+use Rattle.sp_codegen.specs.MemoryRelation.{PointsTo, relation}
+use Rattle.sp_codegen.specs.TurnAgrees.{code_run}
 use Rattle.sp_codegen.proofs.Shapes.{whole}
 use Rattle.sp_codegen.proofs.FramePairs.{from_here, sources_length}
 use Rattle.sp_codegen.proofs.Numbers.{frame_cells, next_small}
@@ -239,7 +240,7 @@ module _ (g : RunInput) (code : Code) (w : Identity) (Named : Channel → ℕ �
 
       opens : Bool → Bool → Bool → MemoryResult (Memory Plain)
       opens a c d = if a then (if c then (if d then Failed fault.F12 else
-          Done (memory_after_call plain (machine_run g code w Named Called W R J low base born since pause moved)
+          Done (memory_after_call plain (code_run g code pause)
           l up es
           n)) else Failed fault.F11) else Failed fault.F10
 
@@ -313,7 +314,7 @@ module _ (g : RunInput) (code : Code) (w : Identity) (Named : Channel → ℕ �
             ticks = o.ticks + 1;
             cells = o.cells + size;
           }) s)
-          (Done (memory_after_call plain (machine_run g code w Named Called W R J low base born since pause moved) l
+          (Done (memory_after_call plain (code_run g code pause) l
           up es n))
       done hd hc =
           let st = stands_new g code w Named Called W R J low base born since pause moved formed based mine_read room t
@@ -351,18 +352,18 @@ module _ (g : RunInput) (code : Code) (w : Identity) (Named : Channel → ℕ �
           ∙ run_bind (copy_in g (length js) b.formals gs) (λ u. give b) w o5 s1
           ∙ ap (λ z. then_run (λ u. give b) w z) c.runs in
           subst (λ z. CallMatches rel w js s f b (j ∷ rest) gs z
-          (Done (memory_after_call plain (machine_run g code w Named Called W R J low base born since pause moved)
+          (Done (memory_after_call plain (code_run g code pause)
           l up es
           n))) (sym r) (refl, (j1, refl, c.stands, t.frames.above_base))
 
       -- the frame of the enclosing block is found
       by_link : o.depth + 1 ≤ g.limits.depth → o.cells + size ≤ g.limits.cells
           → CallMatches rel w js s f b (j ∷ rest) gs (run (bind (enclosing_link g b.parent) after_link) w o3 s)
-          (Done (memory_after_call plain (machine_run g code w Named Called W R J low base born since pause moved) l
+          (Done (memory_after_call plain (code_run g code pause) l
           up es n))
       by_link hd hc =
           let D : MemoryResult (Memory Plain) = Done (memory_after_call plain
-          (machine_run g code w Named Called W R J low base born since pause moved) l up es n) in
+          (code_run g code pause) l up es n) in
           subst (λ z. CallMatches rel w js s f b (j ∷ rest) gs (run (bind (enclosing_link g z) after_link) w o3 s) D)
           (sym ep)
           (subst (λ z. CallMatches rel w js s f b (j ∷ rest) gs

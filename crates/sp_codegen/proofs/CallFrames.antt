@@ -40,7 +40,7 @@ use Rattle.sp_codegen.specs.Shapes.{leaves, initial_value}
 use Rattle.sp_tree.specs.TreeShape.{IsFormed, is_parameter, numbers_with_role}
 use Rattle.sp_codegen.specs.Relation.{Owns, OneCell as IsOneCell, StackHolds, GivenIs, GivensAre, frame_for}
 use Rattle.sp_codegen.specs.Relation.{Relation}
-use Rattle.sp_codegen.specs.MemoryRelation.{Paired, spot_at, Live, PointsTo, ReferencesAre, HeldAt, HoldsAt}
+use Rattle.sp_codegen.specs.MemoryRelation.{Paired, spot_at, Live, PointsTo, ReferencesAre, HeldAt, HoldsIn}
 use Rattle.sp_codegen.specs.MemoryRelation.{made_frames}
 use Rattle.sp_codegen.specs.MemoryRelation.{relation}
 use Rattle.sp_codegen.proofs.Shapes.{cells_length}
@@ -124,7 +124,7 @@ module _ (g : RunInput) (code : Code) (w : Identity) (Named : Channel → ℕ �
   S js o s n = St g code w Named Called W R J low base born since pause moved formed js o s n
 
   abbrev Ho : List FramePair → ℕ → Type 0
-  Ho js h = HoldsAt g code w Named Called W R J low base born since pause moved js h
+  Ho js h = HoldsIn g.program R J base js h
 
   abbrev rel : Relation (Memory Plain)
   rel = relation g code w Named Called W R J low base born since pause moved
@@ -385,7 +385,7 @@ module _ (g : RunInput) (code : Code) (w : Identity) (Named : Channel → ℕ �
 
     -- a variable of the new frame has its first value, and its cells
     new_held : (h : ℕ) (x : ℕ) (v : Variable) (qn : Name) → slice_get p.variables x ≡ Some v → Owns v.role → v.block ≡ f
-        → h ≡ length js → qn ≡ w.name → HeldAt g code w Named Called W R J low base born since pause moved s1 m1
+        → h ≡ length js → qn ≡ w.name → HeldAt g.program Named s1 m1
         (Cell qn h x) (spot_at nf (slot p x)) v.kind
     new_held h x v qn ev ov bv hh hq =
         let here : HasVar x v vs = subst (λ z. HasVar z v vs) {x = 0 + x} {y = x} (omega arith)
@@ -494,7 +494,7 @@ module _ (g : RunInput) (code : Code) (w : Identity) (Named : Channel → ℕ �
 
         held_by : (qn : Name) (h x : ℕ) (v : Live p (j1 ∷ js) qn h x) → R (Cell qn h x)
             → ((suc h ≡ suc (length js)) × (j1 ∷ js ≡ v.joint ∷ v.rest)) ⊎ (pairs_from (suc h) js ≡ v.joint ∷ v.rest)
-            → HeldAt g code w Named Called W R J low base born since pause moved s1 m1 (Cell qn h x)
+            → HeldAt g.program Named s1 m1 (Cell qn h x)
             (spot_at v.joint.machine.number (slot p x)) v.info.kind
         held_by qn h x v r (inl c) =
             let same : j1 ≡ v.joint = first_same j1 v.joint js v.rest c.1 in
@@ -503,7 +503,7 @@ module _ (g : RunInput) (code : Code) (w : Identity) (Named : Channel → ℕ �
             let hh : h ≡ length js = let a = c.0 in omega (arith, a) in
             let z = new_held h x v.info qn v.known v.owns (cc home) hh
             (sym v.owner_is ∙ ap (λ (z : FramePair). z.source.owner) (sym same)) in
-            subst (λ (y : FramePair). HeldAt g code w Named Called W R J low base born since pause moved s1 m1
+            subst (λ (y : FramePair). HeldAt g.program Named s1 m1
             (Cell qn h x)
             (spot_at y.machine.number (slot p x)) v.info.kind) same z
         held_by qn h x v r (inr c) =

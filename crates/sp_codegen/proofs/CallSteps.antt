@@ -6,7 +6,7 @@ use Rattle.sp_base.proofs.Facts.{length_of_map}
 use Rattle.sp_tree.specs.Plain.{Actuals, Program, Block}
 use Rattle.sp_tree.specs.Uses.{In_stmt, In_call}
 use Rattle.sp_meaning.specs.LocalWork.{OfBlock, Frame, LocalState, Item, Leave, WorkOutcome, Computed, EndsInFault}
-use Rattle.sp_meaning.specs.LocalWork.{IllFormed, OutOfFuel, Work, bind, give, who}
+use Rattle.sp_meaning.specs.LocalWork.{IllFormed, OutOfFuel, Work, bind, give}
 use Rattle.sp_meaning.specs.LocalWork.{is_block, seek}
 use Rattle.sp_meaning.specs.Rights.{frame_found, Linked, Sound, AreArgumentsOf}
 use Rattle.sp_meaning.specs.Eval.{ArgumentValue}
@@ -30,7 +30,7 @@ use Rattle.sp_codegen.specs.FramePairs.{FramePair, sources, pairs_from, HomeIs, 
 use Rattle.sp_codegen.specs.Executions.{Execution}
 use Rattle.sp_codegen.specs.CodePositions.{StandsFor}
 use Rattle.sp_codegen.specs.Relation.{CallMatches, GivensAre, frame_for}
-use Rattle.sp_codegen.proofs.Runs.{stays, goes, breaks, holds_when}
+use Rattle.sp_codegen.proofs.Runs.{stays, breaks, holds_when}
 use Rattle.sp_codegen.proofs.FramePairs.{sources_length, up_from}
 use Rattle.sp_codegen.proofs.Chains.{block_agrees, found, seek_all, find_in}
 use Rattle.sp_codegen.proofs.Follows.{slides, push_follows, Made}

@@ -1,5 +1,5 @@
 -- The children of a fork: where the code of each begins, its place in the tree, and the indexes that it is handed.
-use Rattle.std.proofs.Common.{◌≡◌, inl, inr, ⊎_elim, ℕ, zero, suc, ◌+◌, ◌≤◌, ◌==◌, ℤ, List, [], ◌∷◌, ◌++◌, Option, Some}
+use Rattle.std.proofs.Common.{◌≡◌, inl, inr, ⊎_elim, ℕ, zero, suc, ◌≤◌, ◌==◌, ℤ, List, [], ◌∷◌, ◌++◌, Option, Some}
 use Rattle.std.proofs.Common.{None, Bool, true, false, if◌then◌else◌, length, refl, sym, ap, ◌∙◌, subst, arith}
 use Rattle.std.proofs.Common.{eqb-true, eq-eqb}
 use Rattle.std.specs.Prelude.{◌≢◌, ◌+ℤ◌, pos, slice_get}
@@ -15,7 +15,7 @@ use Rattle.sp_cell.specs.declared.spot.Spot.{Spot}
 use Rattle.sp_cell.proofs.FrameLaws.{is_other}
 use Rattle.sp_meaning.specs.Model.{Name}
 use Rattle.sp_meaning.specs.LocalWork.{RunInput, Loc, Home, OfBlock, OfIndex, Frame}
-use Rattle.sp_meaning.specs.Actions.{Birth, push, children, indexed_children}
+use Rattle.sp_meaning.specs.Actions.{Birth, push, indexed_children}
 use Rattle.sp_meaning.specs.Rights.{Linked, Aimed, Used, Sound}
 use Rattle.sp_meaning.proofs.Within.{part}
 use Rattle.sp_meaning.proofs.Children.{child_sound, index_linked}

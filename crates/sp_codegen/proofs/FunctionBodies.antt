@@ -22,7 +22,6 @@ use Rattle.sp_meaning.specs.Actions.{Action, Stepped, Ticked, Opened, Forked, Of
 use Rattle.sp_meaning.specs.Actions.{item_action}
 use Rattle.sp_meaning.specs.Actions.{without_frame, function_result, items_after, call_by, rest_by, run_items}
 use Rattle.sp_meaning.specs.Run.{Store, run}
-use Rattle.sp_meaning.specs.Turn as source
 use Rattle.sp_meaning.proofs.Run.{then_run, run_bind}
 use Rattle.sp_code.specs.declared.code.Layout.{Layout}
 use Rattle.sp_code.specs.declared.instr.Instr.TheVariants as i

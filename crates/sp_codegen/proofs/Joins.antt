@@ -30,7 +30,7 @@ module _ (g : RunInput) (code : Code) (w : Identity) (Named : Channel → ℕ �
   St js o s n = Agrees g code w Named Called W R J low base born since pause moved js o s n
 
   abbrev Ha : Store → Map → Loc → Spot → ℕ → Type 0
-  Ha s mp l q k = HeldAt g code w Named Called W R J low base born since pause moved s mp l q k
+  Ha s mp l q k = HeldAt g.program Named s mp l q k
 
   abbrev JoiningStands : (Spot → Type 0) → List FramePair → LocalState → Store → Memory Plain → Map → Type 0
   JoiningStands A js o s n mp = Joining g code w Named Called W R J low base born since pause moved A js o s n mp

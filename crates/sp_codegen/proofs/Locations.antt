@@ -38,7 +38,8 @@ use Rattle.sp_codegen.specs.Shapes.{AreBefore}
 use Rattle.sp_tree.specs.TreeShape.{IsFormed}
 use Rattle.sp_code.specs.Sizes.{HasSmallTypes}
 use Rattle.sp_codegen.specs.Relation.{Owns, OneCell as IsOneCell}
-use Rattle.sp_codegen.specs.MemoryRelation.{Live, PointsTo, Paired, Agrees, FixesTo, machine_run}
+use Rattle.sp_codegen.specs.MemoryRelation.{Live, PointsTo, Paired, Agrees, FixesTo}
+use Rattle.sp_codegen.specs.TurnAgrees.{code_run}
 use Rattle.sp_codegen.proofs.Shapes.{shape_length, whole, reaches_on, many_replicate, item_replicate, before_replicate}
 use Rattle.sp_codegen.proofs.Shapes.{cells_length, cells_part, cells_look}
 use Rattle.sp_codegen.proofs.Types.{array_initial, record_initial, initial_is, sized, many_map, item_map, before_map}
@@ -217,7 +218,7 @@ module _ (g : RunInput) (code : Code) (w : Identity) (Named : Channel → ℕ �
   St js o s n = Agrees g code w Named Called W R J low base born since pause moved js o s n
 
   abbrev pub ops : Ops (Memory Plain)
-  ops = memory plain (machine_run g code w Named Called W R J low base born since pause moved)
+  ops = memory plain (code_run g code pause)
 
   -- frames in pairs, from so many levels outward on
   pub outward : {js : List FramePair} {o : LocalState} {s : Store} {n : Memory Plain} → St js o s n

@@ -2,18 +2,17 @@
 use Rattle.std.proofs.Common.{◌≡◌, inl, inr, ℕ, ◌+◌, ℤ, List, [], ◌∷◌, Some, Bool, true, false, if◌then◌else◌, refl}
 use Rattle.std.proofs.Common.{sym, ap, ◌∙◌, subst}
 use Rattle.std.specs.Prelude.{slice_get}
-use Rattle.sp_tree.specs.declared.checked.KindOf.TheVariants as kind
-use Rattle.sp_tree.specs.Plain.{Number, Program, Stmt}
+use Rattle.sp_tree.specs.Plain.{Program, Stmt}
 use Rattle.sp_tree.specs.Uses.{Use, Target, In_loop}
 use Rattle.sp_cell.specs.declared.cell.Cell.TheVariants as cell
 use Rattle.sp_cell.specs.declared.spot.Address.{Address as Ptr}
 use Rattle.sp_meaning.specs.Values.{Ordinal}
-use Rattle.sp_meaning.specs.LocalWork.{Address, LocalState, Item, First, Again, bind, give, who, assign, tick, is_block}
+use Rattle.sp_meaning.specs.LocalWork.{Address, LocalState, Item, First, Again, bind, give, assign, tick, is_block}
 use Rattle.sp_meaning.specs.Rights.{location_of, location_at, location_by, cell_of as cell_in}
-use Rattle.sp_meaning.specs.Eval.{AtAddress, place_of, address, in_frame, place_by}
+use Rattle.sp_meaning.specs.Eval.{AtAddress, place_of, in_frame, place_by}
 use Rattle.sp_meaning.specs.Actions.{Stepped, Ticked, push, is_range, turn_of}
 use Rattle.sp_meaning.specs.Run.{Store}
-use Rattle.sp_meaning.proofs.Static.{sought, home_is}
+use Rattle.sp_meaning.proofs.Static.{home_is}
 use Rattle.sp_code.specs.declared.instr.Instr.TheVariants as i
 use Rattle.sp_code.specs.Machine.{Entry, Config, Goes, is_in_no_function, when, on_some, next_step}
 use Rattle.sp_code.specs.Machine as m

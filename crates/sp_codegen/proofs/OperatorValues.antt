@@ -11,7 +11,7 @@ use Rattle.sp_tree.specs.declared.operators.StandardFn.TheVariants as standard
 use Rattle.sp_tree.specs.Operators.{OperatorResult, Yields, OperatorFault, truth, value_in_range, successor}
 use Rattle.sp_tree.specs.Operators.{predecessor, absolute_value, square}
 use Rattle.sp_tree.specs.Operators.{is_odd, unary_op, binary_op, least_ordinal, greatest_ordinal}
-use Rattle.sp_tree.specs.Plain.{Number, Program}
+use Rattle.sp_tree.specs.Plain.{Program}
 use Rattle.sp_meaning.specs.Model.{Channel, same_channel}
 use Rattle.sp_meaning.specs.Values.{Value, Ordinal, Chan}
 use Rattle.sp_meaning.specs.LocalWork.{Input, LocalState, Work, bind}

@@ -6,10 +6,9 @@ use Rattle.std.specs.Fmt.{signed_decimal}
 use Rattle.sp_base.specs.declared.fault.Fault.TheVariants as fault
 use Rattle.sp_tree.specs.declared.checked.KindOf.{KindOf}
 use Rattle.sp_tree.specs.declared.checked.KindOf.TheVariants as kind
-use Rattle.sp_tree.specs.Plain.{Expr, Number, Program, WriteText}
+use Rattle.sp_tree.specs.Plain.{Expr, Program}
 use Rattle.sp_tree.specs.Uses.{In_width}
-use Rattle.sp_meaning.specs.Model.{Channel}
-use Rattle.sp_meaning.specs.LocalWork.{Output, LocalState, Item, bind, give, fail, who}
+use Rattle.sp_meaning.specs.LocalWork.{Output, LocalState, Item, bind, give, fail}
 use Rattle.sp_meaning.specs.Texts.{right_justified, truth_text, byte}
 use Rattle.sp_meaning.specs.Eval.{Calls, kind_at, ordinal_of}
 use Rattle.sp_meaning.specs.Actions.{Stepped, in_width, ordinal_text, write, width}

@@ -8,11 +8,10 @@ use Rattle.sp_tree.specs.declared.checked.KindOf.{KindOf}
 use Rattle.sp_tree.specs.declared.checked.KindOf.TheVariants as kind
 use Rattle.sp_tree.specs.declared.checked.Role.{Role}
 use Rattle.sp_tree.specs.declared.checked.Role.TheVariants as role
-use Rattle.sp_tree.specs.Plain.{Number, Index, Field, Program, Variable}
+use Rattle.sp_tree.specs.Plain.{Program, Variable}
 use Rattle.sp_cell.specs.declared.cell.Cell.{Cell}
 use Rattle.sp_cell.specs.declared.cell.Cell.TheVariants as cell
 use Rattle.sp_cell.specs.declared.spot.Address.{Address as Ptr}
-use Rattle.sp_meaning.specs.Model.{Channel}
 use Rattle.sp_meaning.specs.Values.{Value, Undefined, Ordinal, Chan, Parts, get_at}
 use Rattle.sp_meaning.specs.LocalWork.{Address, Home, OfBlock, OfIndex, Frame, LocalState, Work, bind, give, fail}
 use Rattle.sp_meaning.specs.LocalWork.{ill_formed, or_ill_formed}
@@ -36,7 +35,7 @@ use Rattle.sp_codegen.specs.CodePositions.{StandsFor}
 use Rattle.sp_codegen.specs.Relation.{StackHolds, Owns, OneCell}
 use Rattle.sp_codegen.proofs.Runs.{goes, gives_known, gives_give, gives_fail, gives_by, holds_when}
 use Rattle.sp_codegen.proofs.Chains.{block_agrees, index_agrees, found, seek_all, find_in}
-use Rattle.sp_codegen.proofs.ValueForms.{NotNone, IsMany, IsTrue, within, G, at_one, Top, St, PlaceTop, PlaceIs}
+use Rattle.sp_codegen.proofs.ValueForms.{NotNone, IsMany, IsTrue, G, at_one, Top, St, PlaceTop, PlaceIs}
 use Rattle.sp_codegen.proofs.ValueForms.{MayRead, visible_known, or_known, kind_known, fetch_known}
 
 module _ {M : Type 0} (ex : Execution M) where

@@ -3,7 +3,7 @@ use Rattle.sp_tree.specs.Interference.{IsMember}
 use Rattle.std.proofs.Common.{◌≡◌, ◌⊎◌, inl, inr, ⊎_elim, ℕ, suc, ◌+◌, ◌<◌, ◌≤◌, ◌==◌, List, [], ◌∷◌, ◌++◌, Some, None}
 use Rattle.std.proofs.Common.{Bool, true, false, ◌&&◌, if◌then◌else◌, length, refl, sym, ap, ◌∙◌, subst, arith}
 use Rattle.std.proofs.Common.{eqb-true, eq-eqb, zero-add}
-use Rattle.std.specs.Prelude.{◌-◌, ◌≢◌, IsSome, map, sum, slice_get, take}
+use Rattle.std.specs.Prelude.{◌-◌, ◌≢◌, IsSome, sum, slice_get, take}
 use Rattle.std.proofs.lemmas.List.{append_assoc}
 use Rattle.std.specs.FinMap as fin
 use Rattle.std.proofs.lemmas.Bool.{cases_eq}
@@ -35,7 +35,8 @@ use Rattle.sp_code.specs.TreeCode as emitted
 use Rattle.sp_codegen.specs.FramePairs.{FramePair, sources, machines, pairs_from}
 use Rattle.sp_tree.specs.TreeShape.{IsFormed, is_parameter, numbers_with_role}
 use Rattle.sp_codegen.specs.Relation.{Owns}
-use Rattle.sp_codegen.specs.MemoryRelation.{HomesAre, spot_at, PointsTo, HoldsAt, made_frames, machine_run}
+use Rattle.sp_codegen.specs.MemoryRelation.{HomesAre, spot_at, PointsTo, HoldsIn, made_frames}
+use Rattle.sp_codegen.specs.TurnAgrees.{code_run}
 use Rattle.sp_codegen.proofs.Shapes.{whole}
 use Rattle.sp_codegen.proofs.Slots.{slot_is}
 use Rattle.sp_codegen.proofs.FramePairs.{from_push, from_here, from_length, from_cases}
@@ -119,7 +120,7 @@ module _ (g : RunInput) (code : Code) (w : Identity) (Named : Channel → ℕ �
   S js o s n = St g code w Named Called W R J low base born since pause moved formed js o s n
 
   abbrev Ho : List FramePair → ℕ → Type 0
-  Ho js h = HoldsAt g code w Named Called W R J low base born since pause moved js h
+  Ho js h = HoldsIn g.program R J base js h
 
   pub result_law : {j : FramePair} {js : List FramePair} {o : LocalState} {s : Store} {n : Memory Plain}
       → S (j ∷ js) o s n
@@ -183,16 +184,16 @@ module _ (g : RunInput) (code : Code) (w : Identity) (Named : Channel → ℕ �
       × S js (source.without_frame g o.frames o) s
       ((ops g code w Named Called W R J low base born since pause moved formed).close_frame n)
   close_law {j} {js} {o} {s} {n} t l = (
-    ap (λ fs. can_pop plain (machine_run g code w Named Called W R J low base born since pause moved) fs n.store)
+    ap (λ fs. can_pop plain (code_run g code pause) fs n.store)
         t.frames.machines_are
         ∙ ap (λ ns. is_newest ns j.machine.number && none_away n.store.map j.machine.number) own_is
         ∙ ap (λ b. b && none_away n.store.map j.machine.number) (is_newest_is (made_frames base js) j.machine.number)
         ∙ none_away_is n.store.map j.machine.number t.unaway,
     subst (λ fs. S js (source.without_frame g fs o) s
-        (m.without_frame plain (machine_run g code w Named Called W R J low base born since pause moved) n.frames
+        (m.without_frame plain (code_run g code pause) n.frames
         n)) (sym t.frames.sources_are)
         (subst (λ fs. S js (source.without_frame g (sources (j ∷ js)) o) s
-        (m.without_frame plain (machine_run g code w Named Called W R J low base born since pause moved) fs n))
+        (m.without_frame plain (code_run g code pause) fs n))
         (sym t.frames.machines_are) after),
   )
     where

@@ -2,9 +2,9 @@
 use Rattle.std.proofs.Common.{◌≡◌, ℕ, ◌+◌, ℤ, List, ◌∷◌, Some, Bool, true, false, if◌then◌else◌, refl, sym, ap, ◌∙◌}
 use Rattle.std.proofs.Common.{subst}
 use Rattle.std.specs.Prelude.{pos, int_le, slice_get, not}
-use Rattle.sp_tree.specs.Plain.{Number, Program, Stmt}
+use Rattle.sp_tree.specs.Plain.{Program, Stmt}
 use Rattle.sp_tree.specs.Uses.{Use}
-use Rattle.sp_meaning.specs.LocalWork.{Address, LocalState, Item, Work, bind, give, local_state, who}
+use Rattle.sp_meaning.specs.LocalWork.{Address, LocalState, Item, Work, bind, give, local_state}
 use Rattle.sp_meaning.specs.Eval.{AtAddress, Calls, address_of}
 use Rattle.sp_meaning.specs.Actions.{Action, Stepped}
 use Rattle.sp_meaning.specs.Run.{Store, run}

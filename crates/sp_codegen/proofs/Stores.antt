@@ -62,7 +62,7 @@ module _ (g : RunInput) (code : Code) (w : Identity) (Named : Channel → ℕ �
   here_spot js q h x l = spot_at l.joint.machine.number (slot p x)
 
   abbrev Is : Map → Store → (l : Loc) → Spot → ℕ → Type 0
-  Is m s l q k = HeldAt g code w Named Called W R J low base born since pause moved s m l q k
+  Is m s l q k = HeldAt g.program Named s m l q k
 
   -- the memory with something else at one spot that is known
   abbrev with_content : Memory Plain → Spot → Content → Memory Plain

@@ -3,23 +3,21 @@ use Rattle.std.proofs.Common.{◌≡◌, ℕ, ℤ, List, [], ◌∷◌, Option, 
 use Rattle.std.proofs.Common.{ap, ◌∙◌, subst}
 use Rattle.std.specs.Prelude.{slice_get}
 use Rattle.sp_tree.specs.declared.checked.KindOf.{KindOf}
-use Rattle.sp_tree.specs.declared.checked.KindOf.TheVariants as kind
 use Rattle.sp_tree.specs.declared.checked.Role.TheVariants as role
-use Rattle.sp_tree.specs.Plain.{Number, Entire, Index, Selectors, Program, Variable}
+use Rattle.sp_tree.specs.Plain.{Entire, Selectors, Program, Variable}
 use Rattle.sp_tree.specs.Uses.{Use, Target, Seen}
 use Rattle.sp_tree.specs.Cells.{first_or}
 use Rattle.sp_cell.specs.declared.spot.Address.{Address as Ptr}
 use Rattle.sp_meaning.specs.Model.{Channel}
 use Rattle.sp_meaning.specs.Values.{Value, Ordinal, Chan, get_at}
 use Rattle.sp_meaning.specs.LocalWork.{RunInput, Loc, Input, Address, Home, LocalState, Work, or_ill_formed}
-use Rattle.sp_meaning.specs.LocalWork.{visible_frame, fetch, is_index, seek}
+use Rattle.sp_meaning.specs.LocalWork.{visible_frame, fetch, seek}
 use Rattle.sp_meaning.specs.LocalWork.{top_frame, value_in, position_in}
 use Rattle.sp_meaning.specs.Rights.{location_of}
 use Rattle.sp_meaning.specs.Eval.{Place, AtAddress, Fixed, ordinal, channel, kind_at, input_left}
 use Rattle.sp_meaning.specs.Run.{Store, run}
 use Rattle.sp_meaning.proofs.Within.{part}
 use Rattle.sp_code.specs.declared.instr.Instr.{Instr}
-use Rattle.sp_code.specs.declared.instr.Instr.TheVariants as i
 use Rattle.sp_code.specs.Machine.{Entry, Config, instruction, next_step}
 use Rattle.sp_code.specs.Machine as m
 use Rattle.sp_code.specs.Scopes.{Sort, Ordinals, Channels, Many, NoSort, Scope, sort, level}

@@ -64,7 +64,7 @@ module _ (g : RunInput) (code : Code) (w : Identity) (Names : Channel → ℕ �
     pub unaway : (q : Spot) → fin.get mp q ≡ Some Away → A q
     pub held : (q : Name) (h x : ℕ) → (l : Live g.program js q h x) → R (Cell q h x)
         → A (spot_at l.joint.machine.number (slot g.program x))
-        ⊎ HeldAt g code w Names Calls W R J low base born since pause moved s mp (Cell q h x)
+        ⊎ HeldAt g.program Names s mp (Cell q h x)
         (spot_at l.joint.machine.number (slot g.program x)) l.info.kind
     pub indexes : (h : ℕ) → J h → (j : FramePair) (rest : List FramePair) (x : ℕ) (v : ℤ)
         → pairs_from (suc h) js ≡ j ∷ rest

@@ -1,6 +1,7 @@
--- The entry `Send` or `Receive` on both sides where an offer is pending on the channel. It meets the other one, and
--- both go on, the receiver with the message (`meeting_outcome`); or both have one way, or other types: F6, F7
--- (`clashes`).
+-- The entry `Send` or `Receive` on both sides if an offer is pending on the channel (`meeting_entry`). If one sends and
+-- the other receives, with the same type, both go on, and the receiver has the message (`sending_meets`,
+-- `receiving_meets`). If not, the entry is a fault (`clash_entry`): F6 if both have the same way, F7 if the types
+-- differ.
 use Rattle.std.proofs.Common.{◌≡◌, ◌⊎◌, inl, inr, ⊎_elim, ℕ, ◌+◌, ◌<◌, ◌==◌, List, [], ◌∷◌, Option, Some, None, Bool}
 use Rattle.std.proofs.Common.{true, false, cond, if◌then◌else◌, eqb-true, eq-eqb, refl, sym, ap, ◌∙◌, subst, arith}
 use Rattle.std.specs.Prelude.{◌≢◌, nat_lt}
@@ -30,6 +31,7 @@ use Rattle.sp_meaning.specs.LocalWork.{same_loc}
 use Rattle.sp_meaning.specs.Values.{Value}
 use Rattle.sp_meaning.specs.Actions.{Action, Offered}
 use Rattle.sp_meaning.specs.SuperPascal.{superpascal}
+use Rattle.sp_meaning.specs.Rights.{MayTake}
 use Rattle.sp_meaning.specs.Run.{Store}
 use Rattle.sp_meaning.specs.Runs.{StateOf, total_limits, next_state, happening_at, happening_of}
 use Rattle.sp_meaning.specs.Along.{JournalState, ticks_in, ticks_of, with_ticks}
@@ -51,21 +53,19 @@ use Rattle.sp_code.specs.Scopes.{sort}
 use Rattle.sp_code.specs.System.{System, system_after_turn, event_of, event_or, fault_of, apply_unless_fault, on_store}
 use Rattle.sp_code.specs.System as sys
 use Rattle.sp_codegen.specs.CodePositions.{cells_in}
+use Rattle.sp_codegen.specs.Shapes.{Flat}
 use Rattle.sp_link.proofs.AtOffer as ao
 use Rattle.sp_link.proofs.AtStop.{w, p1, known_at, rights_at, ended_at, other_name, does_at}
 use Rattle.sp_link.proofs.Halts.{failed_entry, offered_halt}
 use Rattle.sp_link.proofs.Journal.{IsOpen, now_by}
 use Rattle.sp_link.proofs.KernelSteps.{kernel_next, kernel_says}
 use Rattle.sp_link.proofs.Messages.{sent_flat, receiver_stands}
-use Rattle.sp_link.proofs.OneChanges.{here, inv_local, since_other}
+use Rattle.sp_link.proofs.OneChanges.{here, inv_local, since_other, unlaid}
 use Rattle.sp_link.proofs.OthersStay.{does_stay, stands_stay}
 use Rattle.sp_link.proofs.Pauses.{Entry_of, Meant, Kept_to, after_no_fault, way_of_step, makes_step}
-use Rattle.sp_link.proofs.Relation.{W_of, R_of, Named, ProcessMatches, Ca, Performs_all}
-use Rattle.sp_link.proofs.Relation.{IsPending, Linked}
-use Rattle.sp_link.proofs.Relation.{run_is}
-use Rattle.sp_link.proofs.Relation.{AtStop}
 use Rattle.sp_link.proofs.Pauses.{MatchesNow, OffersAt}
-use Rattle.sp_link.proofs.OneChanges.{unlaid}
+use Rattle.sp_link.proofs.Relation.{W_of, R_of, Named, ProcessMatches, Ca, Performs_all, IsPending, Linked, run_is}
+use Rattle.sp_link.proofs.Relation.{AtStop}
 
 -- one that waits does not run
 pub waiting_idle : (m : Name → Condition Process LocationContent Address) (q : Name) (ch : Channel)
@@ -117,6 +117,10 @@ module _ (at_stop : AtStop) (z : MatchesNow at_stop)
     abbrev off : OfferOf (superpascal G.g)
     off = ao.off at_stop z ch kd cg todo o m x t y
 
+    -- the machine's process where it goes on after its offer
+    abbrev there : Config (Memory Plain)
+    there = ao.there at_stop z ch kd cg todo o m x t y
+
     known_then : StateKeeps G.g x.state
     known_then = known_at at_stop z r x what said
 
@@ -149,12 +153,31 @@ module _ (at_stop : AtStop) (z : MatchesNow at_stop)
     name_of : channel u.births j ≡ ch
     name_of = l.began.openings j is_open ∙ named.2
 
-    -- ---- the two meet: a is where the message goes, hv the message, wr who receives it
+    -- ---- the two meet
 
-    module _ (a : Address) (hv : LocationContent) (same_kind : kd == off2.kind ≡ true)
-        (msg : message cg off2.payload ≡ Some (a, hv))
-        (wr : Name) (wr_alone : IsAlone x.state wr) (wr_is : (wr ≡ v) ⊎ (wr ≡ zn))
-        (may : OwnOrGiven (W_of G lv) wr a.spot) where
+    -- what is known when they do: where the message goes, the message, and which of the two receives it
+    record Meeting : Type 0 where
+      address : Address
+      content : LocationContent
+      same_kind : kd == off2.kind ≡ true
+      message_is : message cg off2.payload ≡ Some (address, content)
+      who_receives : Name
+      alone : IsAlone x.state who_receives
+      is_either : (who_receives ≡ v) ⊎ (who_receives ≡ zn)
+      may_receive : OwnOrGiven (W_of G lv) who_receives address.spot
+
+    module _ (meeting : Meeting) where
+      open meeting use {
+        address as a,
+        content as hv,
+        same_kind,
+        message_is as msg,
+        who_receives as wr,
+        alone as wr_alone,
+        is_either as wr_is,
+        may_receive as may,
+      }
+
       abbrev t1 : StateOf G.g
       t1 = After {L = superpascal G.g} (meeting_changes {L = superpascal G.g} x.state v off zn off2 (a, hv)) x.state
 
@@ -413,19 +436,31 @@ module _ (at_stop : AtStop) (z : MatchesNow at_stop)
       alone_z = inr (ch, subst (λ b. WaitsOn ch b) (sym waits) on)
 
       may_z : OwnOrGiven (W_of G lv) zn a.spot
-      may_z = (subst (λ b. Rattle.sp_meaning.specs.Rights.MayTake G.g.program (λ k. OwnOrGiven (W_of G lv) zn k)
+      may_z = (subst (λ b. MayTake G.g.program (λ k. OwnOrGiven (W_of G lv) zn k)
           (λ k. OwnOrGiven (R_of G lv) zn k) b) payload2
           (subst (λ b. ConditionInRights G.g.program (W_of G lv) (R_of G lv) x.state.forks zn b) waits
           (rights_then.holds zn)).1)
 
+      abbrev sending : Meeting
+      sending = record {
+        address = a;
+        content = Tree value;
+        same_kind = same_kind;
+        message_is = msg;
+        who_receives = zn;
+        alone = alone_z;
+        is_either = inr refl;
+        may_receive = may_z;
+      }
+
       abbrev t1s : StateOf G.g
-      t1s = t1 a (Tree value) same_kind msg zn alone_z (inr refl) may_z
+      t1s = t1 sending
 
       abbrev c1s : JournalState
-      c1s = c1 a (Tree value) same_kind msg zn alone_z (inr refl) may_z
+      c1s = c1 sending
 
       since_s : c1s.since v ≡ t.memory.ticks
-      since_s = since_here a (Tree value) same_kind msg zn alone_z (inr refl) may_z
+      since_s = since_here sending
 
       -- what it gives, at the stop, and where the other takes it
       gives : Ca G (lv v) (λ a b. lv ((a, b) ∷ v)) v z.fresh x.left.who x.good.named (c1s.since v) t.frames ch kd
@@ -439,29 +474,29 @@ module _ (at_stop : AtStop) (z : MatchesNow at_stop)
       takes = subst (λ b. Ca G (lv zn) (λ a b. lv ((a, b) ∷ zn)) zn t2.fresh off2.next.who t2.named (c.since zn) t2.js
           off2.channel off2.kind b st2) payload2 ca2
 
-      cs : List OneCell
-      cs = cells_in gives.1
+      abbrev sent_cells : List OneCell
+      sent_cells = cells_in gives.1
 
-      flat : Rattle.sp_codegen.specs.Shapes.Flat G.g.program (Named G) off2.kind value (cells_in gives.1)
+      flat : Flat G.g.program (Named G) off2.kind value sent_cells
       flat = let (_, entry, _, _, fits) = gives in
-          subst (λ k. Rattle.sp_codegen.specs.Shapes.Flat G.g.program (Named G) k value (cells_in entry))
+          subst (λ k. Flat G.g.program (Named G) k value (cells_in entry))
           (eqb-true kd off2.kind same_kind)
           (sent_flat G (lv v) (λ a b. lv ((a, b) ∷ v)) v x.left.who (c1s.since v) kd (sort G.g.program kd) refl value
           entry fits)
 
       sender : ProcessMatches G (lv v) (λ a b. lv ((a, b) ∷ v)) v (c1s.since v) off.next t1s.store
-          (ao.there at_stop z ch kd cg todo o m x t y)
-      sender = stands_stay G lv x.state (with_message a (Tree value) same_kind msg zn alone_z (inr refl) may_z)
-          known_then.sound rights_then.fair zn alone_z (stays a (Tree value) same_kind msg zn alone_z (inr refl) may_z)
+          there
+      sender = stands_stay G lv x.state (with_message sending)
+          known_then.sound rights_then.fair zn alone_z (stays sending)
           v
           (λ e. apart (sym e)) refl (λ k n. refl) (λ k n h. h)
-          (c1s.since v) off.next (ao.there at_stop z ch kd cg todo o m x t y) (inl (x.left, x.runs))
+          (c1s.since v) off.next there (inl (x.left, x.runs))
           (ao.stands at_stop z ch kd cg todo o m x t y (c1s.since v) since_s)
 
       receiver : ProcessMatches G (lv zn) (λ a b. lv ((a, b) ∷ zn)) zn (c.since zn) off2.next t1s.store
-          (on_store (put_cells plain takes.1 (cells_in gives.1)) d2)
+          (on_store (put_cells plain takes.1 sent_cells) d2)
       receiver = receiver_stands G (lv zn) (λ a b. lv ((a, b) ∷ zn)) zn t2 off2.channel off2.kind a st2 takes value
-          (cells_in gives.1) flat
+          sent_cells flat
 
       -- ---- in the machine
 
@@ -472,11 +507,11 @@ module _ (at_stop : AtStop) (z : MatchesNow at_stop)
       jj = let (number, _, _, (_, below, channel_is), _) = gives in
           G.one_channel number j below named.1 (channel_is ∙ sym named.2)
 
-      stop_is : t.stop ≡ Sends j kd (cells_in gives.1)
-      stop_is = gives.2 ∙ ap (λ k. Sends k kd (cells_in gives.1)) jj
+      stop_is : t.stop ≡ Sends j kd sent_cells
+      stop_is = gives.2 ∙ ap (λ k. Sends k kd sent_cells) jj
 
       abbrev tn : Turn (Memory Plain)
-      tn = Stopped (Sends j kd (cells_in gives.1)) (At t.pc t.stack t.memory)
+      tn = Stopped (Sends j kd sent_cells) (At t.pc t.stack t.memory)
 
       turn_has_no_fault : fault_of G.g.limits u tn ≡ None
       turn_has_no_fault = ap (λ b. sys.first_fault (if b then Some fault.F15 else None)
@@ -487,9 +522,8 @@ module _ (at_stop : AtStop) (z : MatchesNow at_stop)
           ∙ ap (λ b. if b then None else Some fault.F7) kinds_back
 
       abbrev u1s : System Plain
-      u1s = u1 a (Tree value) same_kind msg zn alone_z (inr refl) may_z
-          (ao.there at_stop z ch kd cg todo o m x t y)
-          (on_store (put_cells plain takes.1 (cells_in gives.1)) d2) sender receiver
+      u1s = u1 sending
+          there (on_store (put_cells plain takes.1 sent_cells) d2) sender receiver
 
       after_is : system_after_turn plain (run_is G) i tn u ≡ u1s
       after_is = after_no_fault G i tn u no_fault ∙ ap
@@ -499,19 +533,19 @@ module _ (at_stop : AtStop) (z : MatchesNow at_stop)
           })
           turn_has_no_fault
           ∙ ap (λ b. record (sys.with_entry_counted plain (run_is G)
-          (sys.apply_send plain (run_is G) i (Sends j kd (cells_in gives.1)) j (cells_in gives.1)
-          (ao.there at_stop z ch kd cg todo o m x t y) b u)) { births = u.births }) pending_is
+          (sys.apply_send plain (run_is G) i (Sends j kd sent_cells) j sent_cells
+          there b u)) { births = u.births }) pending_is
           ∙ ap (λ b. record u {
             condition = at_key ◌==◌ i
-                (sys.Working (ao.there at_stop z ch kd cg todo o m x t y))
-                (at_key ◌==◌ zi (sys.after_message plain (run_is G) (cells_in gives.1) b) u.condition);
+                (sys.Working there)
+                (at_key ◌==◌ zi (sys.after_message plain (run_is G) sent_cells b) u.condition);
             pending = at_key ◌==◌ j None u.pending;
             entries = u.entries + 1;
           }) at_z
           ∙ ap (λ b. record u {
             condition = at_key ◌==◌ i
-                (sys.Working (ao.there at_stop z ch kd cg todo o m x t y))
-                (at_key ◌==◌ zi (sys.after_message plain (run_is G) (cells_in gives.1) (sys.Waits b d2)) u.condition);
+                (sys.Working there)
+                (at_key ◌==◌ zi (sys.after_message plain (run_is G) sent_cells (sys.Waits b d2)) u.condition);
             pending = at_key ◌==◌ j None u.pending;
             entries = u.entries + 1;
           }) takes.2
@@ -521,9 +555,8 @@ module _ (at_stop : AtStop) (z : MatchesNow at_stop)
           ∙ ap (λ f. event_or f tn) turn_has_no_fault
 
       pub sending_meets : Entry_of G c s u i d
-      sending_meets = entry_by a (Tree value) same_kind msg zn alone_z (inr refl) may_z
-          (ao.there at_stop z ch kd cg todo o m x t y)
-          (on_store (put_cells plain takes.1 (cells_in gives.1)) d2) sender receiver
+      sending_meets = entry_by sending
+          there (on_store (put_cells plain takes.1 sent_cells) d2) sender receiver
           (ap (λ st. system_after_turn plain (run_is G) i (Stopped st (At t.pc t.stack t.memory)) u) stop_is ∙ after_is)
           (ap (λ st. happening u.births (event_of G.g.limits u (Stopped st (At t.pc t.stack t.memory)))) stop_is
           ∙ ap (λ f. happening u.births f) event_is ∙ ap (λ k. Is_offered way.Send k) name_of
@@ -542,17 +575,29 @@ module _ (at_stop : AtStop) (z : MatchesNow at_stop)
       alone_v = inl (x.left, x.runs)
 
       may_v : OwnOrGiven (W_of G lv) v a.spot
-      may_v = subst (λ b. Rattle.sp_meaning.specs.Rights.MayTake G.g.program (λ k. OwnOrGiven (W_of G lv) v k)
+      may_v = subst (λ b. MayTake G.g.program (λ k. OwnOrGiven (W_of G lv) v k)
           (λ k. OwnOrGiven (R_of G lv) v k) b) cg_is (ao.holds at_stop z ch kd cg todo o m x t y).1
 
+      abbrev receiving : Meeting
+      receiving = record {
+        address = a;
+        content = Tree value;
+        same_kind = same_kind;
+        message_is = msg_r;
+        who_receives = v;
+        alone = alone_v;
+        is_either = inl refl;
+        may_receive = may_v;
+      }
+
       abbrev t1r : StateOf G.g
-      t1r = t1 a (Tree value) same_kind msg_r v alone_v (inl refl) may_v
+      t1r = t1 receiving
 
       abbrev c1r : JournalState
-      c1r = c1 a (Tree value) same_kind msg_r v alone_v (inl refl) may_v
+      c1r = c1 receiving
 
       since_r : c1r.since v ≡ t.memory.ticks
-      since_r = since_here a (Tree value) same_kind msg_r v alone_v (inl refl) may_v
+      since_r = since_here receiving
 
       takes_v : Ca G (lv v) (λ a b. lv ((a, b) ∷ v)) v z.fresh x.left.who x.good.named (c1r.since v) t.frames ch kd
           (Takes a)
@@ -567,26 +612,29 @@ module _ (at_stop : AtStop) (z : MatchesNow at_stop)
       gives_z = subst (λ b. Ca G (lv zn) (λ a b. lv ((a, b) ∷ zn)) zn t2.fresh off2.next.who t2.named (c.since zn) t2.js
           off2.channel off2.kind b st2) payload2 ca2
 
-      flat_r : Rattle.sp_codegen.specs.Shapes.Flat G.g.program (Named G) kd value (cells_in gives_z.1)
+      abbrev received_cells : List OneCell
+      received_cells = cells_in gives_z.1
+
+      flat_r : Flat G.g.program (Named G) kd value received_cells
       flat_r = let (_, entry, _, _, fits) = gives_z in
-          subst (λ k. Rattle.sp_codegen.specs.Shapes.Flat G.g.program (Named G) k value (cells_in entry))
+          subst (λ k. Flat G.g.program (Named G) k value (cells_in entry))
           (sym (eqb-true kd off2.kind same_kind))
           (sent_flat G (lv zn) (λ a b. lv ((a, b) ∷ zn)) zn off2.next.who (c.since zn) off2.kind
           (sort G.g.program off2.kind) refl value entry fits)
 
       sender_z : ProcessMatches G (lv zn) (λ a b. lv ((a, b) ∷ zn)) zn (c.since zn) off2.next t1r.store d2
-      sender_z = stands_stay G lv x.state (with_message a (Tree value) same_kind msg_r v alone_v (inl refl) may_v)
-          known_then.sound rights_then.fair v alone_v (stays a (Tree value) same_kind msg_r v alone_v (inl refl) may_v)
+      sender_z = stands_stay G lv x.state (with_message receiving)
+          known_then.sound rights_then.fair v alone_v (stays receiving)
           zn
           apart refl (λ k n. refl) (λ k n h. h)
           (c.since zn) off2.next d2 (inr (ch, subst (λ b. WaitsOn ch b) (sym waits) on)) t2
 
       receiver_v : ProcessMatches G (lv v) (λ a b. lv ((a, b) ∷ v)) v (c1r.since v) off.next t1r.store
-          (on_store (put_cells plain takes_v.1 (cells_in gives_z.1))
-          (ao.there at_stop z ch kd cg todo o m x t y))
+          (on_store (put_cells plain takes_v.1 received_cells)
+          there)
       receiver_v = receiver_stands G (lv v) (λ a b. lv ((a, b) ∷ v)) v
           (ao.stands at_stop z ch kd cg todo o m x t y (c1r.since v) since_r) ch kd a t.stop takes_v value
-          (cells_in gives_z.1) flat_r
+          received_cells flat_r
 
       jj_r : takes_v.0 ≡ j
       jj_r = let (number, _, _, (_, below, channel_is), _, _, _) = takes_v in
@@ -610,9 +658,9 @@ module _ (at_stop : AtStop) (z : MatchesNow at_stop)
           ∙ ap (λ b. if b then None else Some fault.F7) kinds_back_r
 
       abbrev u1r : System Plain
-      u1r = u1 a (Tree value) same_kind msg_r v alone_v (inl refl) may_v
-          (on_store (put_cells plain takes_v.1 (cells_in gives_z.1))
-          (ao.there at_stop z ch kd cg todo o m x t y)) d2 receiver_v sender_z
+      u1r = u1 receiving
+          (on_store (put_cells plain takes_v.1 received_cells)
+          there) d2 receiver_v sender_z
 
       after_is_r : system_after_turn plain (run_is G) i tr u ≡ u1r
       after_is_r = after_no_fault G i tr u no_fault ∙ ap
@@ -623,12 +671,12 @@ module _ (at_stop : AtStop) (z : MatchesNow at_stop)
           no_fault_r
           ∙ ap (λ b. record (sys.with_entry_counted plain (run_is G)
           (sys.apply_receive plain (run_is G) i (Receives j kd takes_v.1) j takes_v.1
-          (ao.there at_stop z ch kd cg todo o m x t y) b u)) { births = u.births }) pending_is
+          there b u)) { births = u.births }) pending_is
           ∙ ap (λ b. record u {
             condition = at_key ◌==◌ i
                 (sys.Working (on_store (put_cells plain takes_v.1
                 (sys.message_of plain (run_is G) (sys.stop_of {S = Plain} b)))
-                (ao.there at_stop z ch kd cg todo o m x t y)))
+                there))
                 (at_key ◌==◌ zi (sys.after_message plain (run_is G) [] b) u.condition);
             pending = at_key ◌==◌ j None u.pending;
             entries = u.entries + 1;
@@ -636,7 +684,7 @@ module _ (at_stop : AtStop) (z : MatchesNow at_stop)
           ∙ ap (λ b. record u {
             condition = at_key ◌==◌ i
                 (sys.Working (on_store (put_cells plain takes_v.1 (sys.message_of plain (run_is G) (Some b)))
-                (ao.there at_stop z ch kd cg todo o m x t y)))
+                there))
                 (at_key ◌==◌ zi (sys.after_message plain (run_is G) [] (sys.Waits b d2)) u.condition);
             pending = at_key ◌==◌ j None u.pending;
             entries = u.entries + 1;
@@ -647,9 +695,9 @@ module _ (at_stop : AtStop) (z : MatchesNow at_stop)
           ∙ ap (λ f. event_or f tr) no_fault_r
 
       pub receiving_meets : Entry_of G c s u i d
-      receiving_meets = entry_by a (Tree value) same_kind msg_r v alone_v (inl refl) may_v
-          (on_store (put_cells plain takes_v.1 (cells_in gives_z.1))
-          (ao.there at_stop z ch kd cg todo o m x t y)) d2 receiver_v sender_z
+      receiving_meets = entry_by receiving
+          (on_store (put_cells plain takes_v.1 received_cells)
+          there) d2 receiver_v sender_z
           (ap (λ st. system_after_turn plain (run_is G) i (Stopped st (At t.pc t.stack t.memory)) u) stop_is_r
           ∙ after_is_r)
           (ap (λ st. happening u.births (event_of G.g.limits u (Stopped st (At t.pc t.stack t.memory)))) stop_is_r
@@ -672,7 +720,7 @@ module _ (at_stop : AtStop) (z : MatchesNow at_stop)
 
     -- what the machine finds at this stop against the other one
     found : (st : Stop) (w1 : Way) → t.stop ≡ st → ((e1 : Option Fault)
-        → Rattle.sp_code.specs.System.fault_of G.g.limits u (Stopped st (At t.pc t.stack t.memory))
+        → fault_of G.g.limits u (Stopped st (At t.pc t.stack t.memory))
         ≡ sys.first_fault (if nat_lt G.g.limits.entries (u.entries + 1) then Some fault.F15 else None)
         (sys.clash_by w1 kd (sys.pending_stop u (u.pending j))))
         → fault_of G.g.limits u (Stopped t.stop (At t.pc t.stack t.memory)) ≡ sys.clash_by w1 kd (Some st2)

@@ -35,7 +35,7 @@ use Rattle.sp_verify_rules.specs.InstructionFacts.{ProcessAt, StoppedAt, StopsSo
 use Rattle.sp_verify_rules.specs.Writable.{IsWritable, WritesWithin}
 use Rattle.sp_verify_rules.proofs.TurnEnds as ending
 use Rattle.sp_verify_rules.proofs.TurnEnds.{T}
-use Rattle.sp_verify_rules.proofs.Firsts.{kid}
+use Rattle.sp_verify_rules.proofs.Firsts.{code_child}
 use Rattle.sp_verify_rules.proofs.Safe as safe
 use Rattle.sp_verify_rules.proofs.SafeRuns.{mays, calls, ready, forks, writes}
 use Rattle.sp_verify_rules.proofs.ShapePaths.{passes}
@@ -130,7 +130,7 @@ module _ (g : CodeRun) (k : KeepsCodeRules g.code) (e : KeepsEffects g.code (Doe
         (ks : List Caller) → IsArea g.code a → Reaches g.code a p ss → StopsSo g.code x a p ss m.frames ks
         → WritesWithin g.code r m.store.moved a m.frames → StopWrites r x (At q s1 m)
     stop_writes (Forks t v n) a p q ss s1 m ks i way so w = λ j lt s h. (
-        let ch = kid plain g k p t n j so lt in
+        let ch = code_child plain g k p t n j so lt in
         let y = spots_from g.code.layouts m.frames
         (child_or (table_child (table_or (slice_get g.code.forks t)) j)).moved
         s h in
