@@ -1,4 +1,4 @@
-//! Code files.
+//! Rows of the promise for `exec`: what it answers to a code file that is wrong, too long, or sound.
 
 ghost use Rattle.std.specs.Prelude.{◌≡◌, ◌⊎◌, ◌<◌, ◌≤◌, ℕ, List, [], ◌∷◌, ◌++◌, Some, codes, length};
 ghost use Rattle.sp_codefile.specs.CodeText.{IsTextOf, code_text};
@@ -46,7 +46,7 @@ pub fn sound_files_are_not_refused()
     a_text_is_of_one_code();
 }
 
-/// `exec` of code that breaks no rule: a run is given back, and its output is written, unless memory is wanting.
+/// `exec` of code that breaks no rule: the run is the answer, and its output is written, except if memory is lacking.
 pub fn sound_files_are_run()
     ensures { (c : Call) (out notes bytes : List ℕ) (code : Parts)
         → Observed c (codes "exec" ∷ codes "a" ∷ []) [] out notes

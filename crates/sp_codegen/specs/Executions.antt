@@ -12,7 +12,7 @@ use Rattle.sp_code.specs.declared.code.Parts.{Parts}
 use Rattle.sp_code.specs.Machine.{Ops, layout_of}
 use Rattle.sp_codegen.specs.Relation.{Relation, KeepsRelation}
 
--- all of it
+-- a process, the code that it runs, and what the simulation needs to know of both
 pub record Execution (M : Type 0) : Type 1 where
   -- the program with its input and limits, its code, and which variables each child of a fork takes over
   pub run_input : RunInput

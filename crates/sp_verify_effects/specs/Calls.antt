@@ -21,16 +21,17 @@ use Rattle.sp_verify_effects.specs.Effects.{touches}
 use Rattle.sp_verify_effects.specs.Variables.{owns}
 use Rattle.sp_verify_effects.specs.Sets.{all_new}
 
--- the variable of an operand for a formal, if that is by reference
+-- the variable of an operand, if it is an address
 abbrev pub variable_of : Shape → Option ℕ
 variable_of (A x n) = Some x
 variable_of _ = None
 
+-- the variable of an operand for a formal, if that is by reference
 abbrev pub actual_of : Formal → Shape → Option ℕ
 actual_of (formal.Value n) s = None
 actual_of (formal.Reference n) s = variable_of s
 
--- that of the operand below i others
+-- the variable of the operand that has i others above it, if its formal is by reference
 abbrev pub actual_at : List Formal → List Shape → ℕ → Option ℕ
 actual_at fs ss i = on_option None (slice_get fs (length fs - 1 - i))
     (λ f. on_option None (slice_get ss i) (actual_of f))
@@ -39,15 +40,16 @@ abbrev pub list_of_option : Option ℕ → List ℕ
 list_of_option None = []
 list_of_option (Some x) = x ∷ []
 
--- those of the n topmost operands
+-- the variables of the n topmost operands for their reference formals
 abbrev pub actuals : List Formal → List Shape → ℕ → List ℕ
 actuals fs ss zero = []
 actuals fs ss (suc n) = actuals fs ss n ++ list_of_option (actual_at fs ss n)
 
--- a block that begins there stores or loads a variable that is not its own; one of these
+-- the block with this entry stores or loads the variable, and the variable is not its own
 abbrev pub is_outer : Effects → ℕ → ℕ → Bool
 is_outer e entry x = touches e entry x && not (owns e.own.keys entry x)
 
+-- the block does so with one of these variables
 abbrev pub meets_outer : Effects → ℕ → List ℕ → Bool
 meets_outer e entry [] = false
 meets_outer e entry (x ∷ xs) = is_outer e entry x || meets_outer e entry xs
@@ -57,13 +59,13 @@ abbrev pub call_clashes : Effects → Layout → List Shape → Bool
 call_clashes e l ss = not (all_new [] (actuals l.formals ss (length l.formals)))
     || meets_outer e l.entry (actuals l.formals ss (length l.formals))
 
--- where these shapes are brought to an instruction, it is a call that clashes
+-- the instruction is a call that clashes, with the list of shapes of this number (None: nothing arrives there)
 abbrev pub clashes_at : Effects → List Layout → Stacks → Option ℕ → Option Instr → Bool
 clashes_at e ls st o instr =
     on_option false o (λ n. on_option false (called_block instr)
     (λ b. on_option false (layout_of ls b) (λ l. call_clashes e l (list_of st n))))
 
--- the instruction at p is
+-- the instruction at p is such a call
 abbrev pub fails_at : Parts → Effects → Shapes → ℕ → Bool
 fails_at c e s p = clashes_at e c.layouts s.stacks (reached_at s p) (instr_at c p)
 

@@ -45,7 +45,7 @@ fn formal_at(formals: &[Formal], at: usize) -> Formal
     formals[at]
 }
 
-// Puts a variable behind others, if there is one.
+// Adds a variable to a list, if there is one.
 fn put(xs: &mut List<u32>, x: Option<u32>) -> Result<(), Memory>
     ensures { OnOk result (xs.new ≡ xs.old ++ list_of_option x) }
 {
@@ -82,14 +82,14 @@ fn actuals(
     Ok(xs)
 }
 
-// Whether a block that begins there stores or loads a variable that is not its own.
+// Whether the block with this entry stores or loads the variable, and the variable is not its own.
 fn is_outer(effects: &Effects, entry: u32, x: u32) -> bool
     ensures { result ≡ is_outer effects.now entry x }
 {
     effects.touches(entry, x) && !owns(&effects.own, entry, x)
 }
 
-// Whether it does so with one of these.
+// Whether the block with this entry does so with one of these variables.
 fn meets_outer(effects: &Effects, entry: u32, xs: &[u32]) -> bool
     ensures { result ≡ meets_outer effects.now entry xs.now }
 {
@@ -139,7 +139,7 @@ fn fails_at(g: &PassContext, effects: &Effects, p: u32) -> Result<bool, Memory>
     }
 }
 
-// Whether it is one that does, and repeats no earlier one.
+// Whether an instruction is a call that clashes, and repeats no earlier one.
 fn fails_first(g: &PassContext, effects: &Effects, p: u32) -> Result<bool, Memory>
     requires known { IsPassContext g.now }
     ensures { IfOk result (λ fails. fails

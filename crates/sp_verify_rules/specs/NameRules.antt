@@ -33,15 +33,17 @@ is_none (Some x) = false
 
 -- ---- layouts
 
--- the cells in the frame of a formal; of all of them, and of the answer behind them
+-- the cells of a formal in the frame
 abbrev pub formal_cells : Formal → ℕ
 formal_cells (formal.Value n) = n
 formal_cells (formal.Reference n) = 1
 
+-- those of each formal, in order
 abbrev pub formals_cells : List Formal → List ℕ
 formals_cells [] = []
 formals_cells (f ∷ fs) = formal_cells f ∷ formals_cells fs
 
+-- the answer has one cell, after the formals
 abbrev pub answer_cells : Bool → List ℕ
 answer_cells true = 1 ∷ []
 answer_cells false = []
@@ -226,7 +228,7 @@ module _ (c : Parts) where
       × (((q : ℕ) → Names t q → ⊥)
       ⊎ (((q r : ℕ) × Names t q × Names t r × (q ≢ r)) ⊎ ((q : ℕ) × Names t q × ((a : Area) → LiesIn q a → ⊥))))
 
-  -- 7: a child of a fork has an index; a forall has not one child alone, or one without an index
+  -- 7: a child of a fork has an index; or a forall has another number of children than one, or its child has no index
   abbrev pub Indexed : ℕ → Type 0
   Indexed p = (t q : ℕ)
       × ((instr_at c q ≡ Some (i.Fork t))
@@ -235,7 +237,7 @@ module _ (c : Parts) where
       × ((ch : ChildTable) × (tb : ForkTable) × IsChild t 0 ch × (ch.entry ≡ p) × (slice_get c.forks t ≡ Some tb)
       × (((length tb.children == 1) && is_some ch.index) ≡ false)))
 
-  -- 8: an instruction of an area names a table, and a child of the table is handed a variable that nothing around has
+  -- 8: an instruction of an area names a table, a child of which gets a variable that nothing around the area has
   pub record Unknown (p : ℕ) : Type 0 where
     pub instruction : ℕ
     pub area : Area
