@@ -149,7 +149,6 @@ fn race(
 {
     let first = have!(first_unknown(ledger, tables, entries, until, at, racing_offer));
     match first {
-        // The offer is racing, so there is an unknown one: this is never the case.
         None => Ok(Verdict::Ordered),
         Some(earlier) => {
             let channel = have!(ledger.channel(racing_offer.channel));

@@ -1,5 +1,5 @@
 //! What follows from the definitions of the meaning, for every program, input and limits. These functions do nothing:
-//! each one's contract is a law, and a proof that uses the law calls it or cites it.
+//! each one's contract is a law, and whoever rests on the law calls it or cites it.
 
 ghost use Rattle.std.specs.Prelude.{◌≡◌, ◌≢◌, ℕ, ◌++◌, length, Some};
 ghost use Rattle.std.specs.Prelude.{List};

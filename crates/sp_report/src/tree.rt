@@ -19,7 +19,7 @@ use sp_writer::Writer;
 use std::alloc::Global;
 use std::collections::BTreeMap;
 
-/// Prints the processes in the order of their names, each two columns further in than its parent.
+/// Tells the processes in the order of their names, each two places further in than its parent.
 #[derive(Drop)]
 pub struct ProcessTree {
     alloc: Global,
@@ -28,7 +28,7 @@ pub struct ProcessTree {
 }
 
 impl ProcessTree {
-    /// A tree of no entries. It takes no memory, and keeps the allocator.
+    /// A tree that was told nothing. It takes no memory, and keeps the allocator.
     pub fn new(alloc: Global) -> ProcessTree
         ensures { result.journal.entries ≡ [] }
     {
@@ -41,7 +41,7 @@ impl ProcessTree {
     }
 }
 
-/// The processes except the root, in the order of their names.
+/// The processes but the root, in the order of their names.
 fn forked(alloc: Global, ledger: &Ledger) -> Result<BTreeMap<ProcName, u32>, Memory>
     requires { IsLedger ledger.now }
     ensures { IfOk result (λ m. m.entries
@@ -102,7 +102,7 @@ fn put_names(out: &mut Writer<u8>, names: &List<ProcName>)
     }
 }
 
-/// Puts the lines of the processes except the root.
+/// Puts the lines of the processes but the root.
 fn put_forked(out: &mut Writer<u8>, alloc: Global, ledger: &Ledger) -> Result<(), Memory>
     requires { IsLedger ledger.now }
     ensures { OnOk result (Adds out.old out.new
