@@ -3,6 +3,8 @@
 -- and the part, and no more.
 use Rattle.std.specs.Prelude.{◌≡◌, ℕ, List, [], ◌∷◌, map, Some, None}
 use Rattle.sp_tree.specs.PlainChecked as c
+use Rattle.sp_tree.specs.Plain.{Program}
+use Rattle.sp_tree.specs.Around.{Scope as Around, OfIndex}
 use Rattle.sp_code.specs.declared.code.ChildTable.{ChildTable}
 use Rattle.sp_code.specs.declared.code.ForkTable.{ForkTable}
 use Rattle.sp_code.specs.declared.instr.Instr.{Instr}
@@ -13,7 +15,7 @@ use Rattle.sp_varsets.specs.declared.sets.Sets.{Sets}
 use Rattle.sp_writer.specs.Adds.{Keeps}
 use Rattle.sp_generate.specs.declared.code_buffer.CodeBuffer.{CodeBuffer}
 use Rattle.sp_generate.specs.declared.code_context.CodeContext.{CodeContext}
-use Rattle.sp_generate.specs.declared.levels.Scope.{Scope}
+use Rattle.sp_generate.specs.declared.statement_context.StatementContext.{StatementContext}
 use Rattle.sp_generate.specs.Handings.{moved_of, shared_of}
 use Rattle.sp_generate.specs.Tables.{child, children}
 use Rattle.sp_generate.specs.Views.{plain_program, scopes}
@@ -27,57 +29,64 @@ written d = record { instrs = d.instrs.items.items; forks = d.forks; texts = d.t
 abbrev pub Wrote : CodeBuffer → CodeBuffer → w.WrittenCode → Type 0
 Wrote old new after = Keeps old.instrs new.instrs (written new ≡ after)
 
-module _ (g : CodeContext) (sets : Sets) (sc : List Scope) where
+-- at a statement: what is behind a part, where this is around it
+module _ (context : StatementContext) where
+  abbrev program : Program
+  program = plain_program context.program.now
+
+  abbrev moved : ℕ → List ℕ
+  moved = moved_of context.sets.now
+
+  abbrev shared : ℕ → List ℕ
+  shared = shared_of context.sets.now
+
+  abbrev around : List Around
+  around = scopes context.scopes.now
+
   abbrev pub with_statement : CodeBuffer → c.Statement → w.WrittenCode
-  with_statement d s = w.buffer_after (plain_program g) (moved_of sets) (shared_of sets) (written d) (scopes sc) s
+  with_statement d s = w.buffer_after program moved shared (written d) around s
 
   abbrev pub with_form : CodeBuffer → c.Form → w.WrittenCode
-  with_form d form = w.buffer_after_form (plain_program g) (moved_of sets) (shared_of sets) (written d) (scopes sc) form
+  with_form d form = w.buffer_after_form program moved shared (written d) around form
 
   abbrev pub with_all : CodeBuffer → c.Statements → w.WrittenCode
-  with_all d ss = w.buffer_after_all (plain_program g) (moved_of sets) (shared_of sets) (written d) (scopes sc) ss
+  with_all d ss = w.buffer_after_all program moved shared (written d) around ss
 
   abbrev pub with_children : CodeBuffer → c.Statements → w.WrittenCode
-  with_children d ss = w.buffer_after_children (plain_program g) (moved_of sets) (shared_of sets) (written d)
-      (scopes sc) ss
+  with_children d ss = w.buffer_after_children program moved shared (written d) around ss
 
   abbrev pub with_arms : CodeBuffer → c.Arms → (end : ℕ) → w.WrittenCode
-  with_arms d arms end = w.buffer_after_arms (plain_program g) (moved_of sets) (shared_of sets) (written d)
-      (scopes sc) arms end
+  with_arms d arms end = w.buffer_after_arms program moved shared (written d) around arms end
 
   abbrev pub with_branch : CodeBuffer → c.Statement → (beyond : ℕ) → w.WrittenCode
-  with_branch d s beyond = w.buffer_after_branch (plain_program g) (moved_of sets) (shared_of sets) (written d)
-      (scopes sc)
-      s beyond
+  with_branch d s beyond = w.buffer_after_branch program moved shared (written d) around s beyond
 
   abbrev pub with_passed : CodeBuffer → c.Statement → w.WrittenCode
-  with_passed d s = w.buffer_after_passed (plain_program g) (moved_of sets) (shared_of sets) (written d) (scopes sc) s
+  with_passed d s = w.buffer_after_passed program moved shared (written d) around s
 
   abbrev pub with_loop : CodeBuffer → c.Statement → (ℕ → Instr) → Instr → w.WrittenCode
-  with_loop d s leave again = w.buffer_after_loop (plain_program g) (moved_of sets) (shared_of sets) (written d)
-      (scopes sc) s
-      leave again
+  with_loop d s leave again = w.buffer_after_loop program moved shared (written d) around s leave again
 
   abbrev pub with_spread : CodeBuffer → (index : ℕ) → c.Statement → w.WrittenCode
-  with_spread d x s = w.buffer_after_forall (plain_program g) (moved_of sets) (shared_of sets) (written d) (scopes sc)
-      x s
+  with_spread d x s = w.buffer_after_forall program moved shared (written d) around x s
 
   abbrev pub with_choices : CodeBuffer → c.Arms → w.WrittenCode
-  with_choices d arms = w.buffer_after_case (plain_program g) (moved_of sets) (shared_of sets) (written d) (scopes sc)
-      arms
+  with_choices d arms = w.buffer_after_case program moved shared (written d) around arms
 
--- the fork table's line for a process statement
-abbrev pub child_of : CodeContext → Sets → ℕ → c.Statement → ChildTable
-child_of g sets q s = child (plain_program g) (moved_of sets) (shared_of sets) q None s
+  -- the element statement of a forall, inside the scope of its index
+  abbrev pub with_inside : CodeBuffer → (index : ℕ) → c.Statement → w.WrittenCode
+  with_inside d x s = w.buffer_after program moved shared (written d) (OfIndex x ∷ around) s
 
--- the table of a forall
-abbrev pub index_table : CodeContext → Sets → (x q : ℕ) → c.Statement → ForkTable
-index_table g sets x q s = record {
-  children = child (plain_program g) (moved_of sets) (shared_of sets) q (Some x) s ∷ [];
-}
+  -- the fork table's line for a process statement
+  abbrev pub child_of : ℕ → c.Statement → ChildTable
+  child_of q s = child program moved shared q None s
 
-abbrev pub children_of : CodeContext → Sets → ℕ → c.Statements → List ChildTable
-children_of g sets q ss = children (plain_program g) (moved_of sets) (shared_of sets) q ss
+  -- the table of a forall
+  abbrev pub index_table : (x q : ℕ) → c.Statement → ForkTable
+  index_table x q s = record { children = child program moved shared q (Some x) s ∷ [] }
+
+  abbrev pub children_of : ℕ → c.Statements → List ChildTable
+  children_of q ss = children program moved shared q ss
 
 -- a block in its own scopes, with its end behind it
 abbrev pub with_block : CodeContext → Sets → CodeBuffer → ℕ → c.Block → w.WrittenCode

@@ -13,6 +13,7 @@ use crate::code_context::CodeContext;
 use crate::frames::frame;
 use crate::levels::Scope;
 use crate::single::size;
+use crate::statement_context::StatementContext;
 use crate::statements::put_statement;
 use sp_base::{List, Memory};
 use sp_code::{Formal, Instr, Layout};
@@ -138,7 +139,12 @@ pub fn put_block(g: &CodeContext, sets: &Sets, d: &mut CodeBuffer, b: u32, k: &B
     match scopes_of(g.alloc, g.checked, b) {
         Err(Memory) => d.instrs.lose(),
         Ok(scopes) => {
-            put_statement(g, sets, scopes.as_slice(), d, &k.body);
+            let context = StatementContext {
+                program: g,
+                sets,
+                scopes: scopes.as_slice(),
+            };
+            put_statement(&context, d, &k.body);
             d.instrs.put(end_instr(b));
         }
     }

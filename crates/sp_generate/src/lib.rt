@@ -15,8 +15,9 @@
 //!   of memory. Neither is in the code of a text, which has at most 1,048,576 bytes. So is code whose forks would hand
 //!   over 33,554,432 variables or more (`room.rt`): a `parallel` of as many calls as a text has room for, of a
 //!   procedure with as many implicit variables, would take gigabytes, and no code file could hold it.
-//! - `code_context.rt` is what is kept of the tree, `single.rt` has single instructions, `expressions.rt`, `simple.rt`,
-//!   `statements.rt`, `choices.rt` and `blocks.rt` are the pass, `handings.rt` is what a process is handed.
+//! - `code_context.rt` is what is kept of the tree, `statement_context.rt` what is around a statement. `single.rt` has
+//!   single instructions, `expressions.rt`, `simple.rt`, `statements.rt`, `choices.rt` and `blocks.rt` are the pass,
+//!   `handings.rt` is what a process is handed.
 //! - The writer of the instructions keeps in mind whether memory was refused, for tables and texts too, so the pass has
 //!   no `?`. Its contracts say `Adds` of `sp_writer`, and `Wrote` of `specs/BuffersAfter.antt`.
 //! - `specs/CodeBuffers.antt` is what stands once a part was written behind what stood: the form of every contract of
@@ -49,6 +50,7 @@ mod program;
 mod room;
 mod simple;
 mod single;
+mod statement_context;
 mod statements;
 
 pub use law::one_code;

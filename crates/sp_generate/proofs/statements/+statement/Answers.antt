@@ -35,10 +35,10 @@ use Rattle.sp_generate.proofs.statements.+statement.Goals as goal
 
 pub put_statement-returns : goal.put_statement-returns
 put_statement-returns t c =
-    let p = plain_program c.args.g.now in
-    let mv = moved_of c.args.sets.now in
-    let sh = shared_of c.args.sets.now in
-    let sc = scopes c.args.sc.now in
+    let p = plain_program c.args.context.now.program.now in
+    let mv = moved_of c.args.context.now.sets.now in
+    let sh = shared_of c.args.context.now.sets.now in
+    let sc = scopes c.args.context.now.scopes.now in
     let d = written c.args.d.now in
     let s = out-Stmt c.args.s.now in
     let i : statement_of c.args.s.now ≡ tree.Does s.number s.at (statement_form_of s.form) =
@@ -51,16 +51,16 @@ put_statement_form-returns-in-Empty t c =
     search (rules, folds.the_lemmas) in
     rw i (λ k. (
       k,
-      empty_is (plain_program c.args.g.now) (moved_of c.args.sets.now) (shared_of c.args.sets.now)
-          (scopes c.args.sc.now) (written c.args.d.now),
+      empty_is (plain_program c.args.context.now.program.now) (moved_of c.args.context.now.sets.now)
+          (shared_of c.args.context.now.sets.now) (scopes c.args.context.now.scopes.now) (written c.args.d.now),
     ))
 
 pub put_statement_form-returns-in-Assign : goal.put_statement_form-returns-in-Assign
 put_statement_form-returns-in-Assign t c =
-    let p = plain_program c.args.g.now in
-    let mv = moved_of c.args.sets.now in
-    let sh = shared_of c.args.sets.now in
-    let sc = scopes c.args.sc.now in
+    let p = plain_program c.args.context.now.program.now in
+    let mv = moved_of c.args.context.now.sets.now in
+    let sh = shared_of c.args.context.now.sets.now in
+    let sc = scopes c.args.context.now.scopes.now in
     let d = written c.args.d.now in
     let i : statement_form_of c.args.form.now ≡ tree.Assign (variable_of c.in-Assign.v) (expression_of c.in-Assign.e) =
     search (rules, folds.the_lemmas) in
@@ -69,10 +69,10 @@ put_statement_form-returns-in-Assign t c =
 
 pub put_statement_form-returns-in-Call : goal.put_statement_form-returns-in-Call
 put_statement_form-returns-in-Call t c =
-    let p = plain_program c.args.g.now in
-    let mv = moved_of c.args.sets.now in
-    let sh = shared_of c.args.sets.now in
-    let sc = scopes c.args.sc.now in
+    let p = plain_program c.args.context.now.program.now in
+    let mv = moved_of c.args.context.now.sets.now in
+    let sh = shared_of c.args.context.now.sets.now in
+    let sc = scopes c.args.context.now.scopes.now in
     let d = written c.args.d.now in
     let i : statement_form_of c.args.form.now ≡ tree.Call c.in-Call.f (actuals (map actual_of c.in-Call.args)) =
     search (rules, folds.the_lemmas) in
@@ -95,10 +95,10 @@ put_statement_form-returns-in-If-default-default-None t c =
 pub put_statement_form-returns-in-If-default-default-Some :
     goal.put_statement_form-returns-in-If-default-default-Some
 put_statement_form-returns-in-If-default-default-Some t c =
-    let p = plain_program c.args.g.now in
-    let mv = moved_of c.args.sets.now in
-    let sh = shared_of c.args.sets.now in
-    let sc = scopes c.args.sc.now in
+    let p = plain_program c.args.context.now.program.now in
+    let mv = moved_of c.args.context.now.sets.now in
+    let sh = shared_of c.args.context.now.sets.now in
+    let sc = scopes c.args.context.now.scopes.now in
     let d = written c.args.d.now in
     let d2 = written c.put_branch.new.d in
     let e = expression_of c.in-If-default-default-Some.e in
@@ -134,11 +134,28 @@ put_statement_form-returns-in-Repeat t c =
 
 pub put_statement_form-returns-in-For : goal.put_statement_form-returns-in-For
 put_statement_form-returns-in-For t c =
-    let i : statement_form_of c.args.form.now
-    ≡ tree.For c.in-For.variable c.in-For.at (expression_of c.in-For.from) c.in-For.down (expression_of c.in-For.to)
-    (statement_of c.in-For.body) =
+    let p = plain_program c.args.context.now.program.now in
+    let mv = moved_of c.args.context.now.sets.now in
+    let sh = shared_of c.args.context.now.sets.now in
+    let sc = scopes c.args.context.now.scopes.now in
+    let d = written c.args.d.now in
+    let from = expression_of c.in-For.from in
+    let down = c.in-For.down in
+    let to = expression_of c.in-For.to in
+    let body = statement_of c.in-For.body in
+    let i : statement_form_of c.args.form.now ≡ tree.For c.in-For.variable c.in-For.at from down to body =
     search (rules, folds.the_lemmas) in
-    rw i (rw c.get-in-For.ensures at c.put_for.ensures)
+    let vb = value_code p sc (bare_expression to) in
+    let inside : c.get-in-For.result.now ≡ c.in-For.body = search rules in
+    rw i (λ k. let f = c.put_for_body.ensures k in
+    let w = c.put_value-in-For-2.ensures f.0 in
+    let v = c.put_value-in-For.ensures w.0 in
+    let both = w.1 ∙ ap (λ (ys : List Instr). ys ++ vb) v.1 in (
+      v.0,
+      f.1 ∙ (λ j. buffer_after_loop p mv sh (buffer_of (both j) d.forks d.texts) sc (statement_of (inside j))
+          (for_instr down (c.slot.ensures j)) (next_instr down (c.slot.ensures j) (length (both j) + 1)))
+          ∙ for_is p mv sh sc d c.in-For.variable c.in-For.at from down to body,
+    ))
 
 pub put_statement_form-returns-in-Case : goal.put_statement_form-returns-in-Case
 put_statement_form-returns-in-Case t c =
@@ -163,10 +180,10 @@ put_statement_form-returns-in-Forall t c =
 
 pub put_statement_form-returns-in-Assume : goal.put_statement_form-returns-in-Assume
 put_statement_form-returns-in-Assume t c =
-    let p = plain_program c.args.g.now in
-    let mv = moved_of c.args.sets.now in
-    let sh = shared_of c.args.sets.now in
-    let sc = scopes c.args.sc.now in
+    let p = plain_program c.args.context.now.program.now in
+    let mv = moved_of c.args.context.now.sets.now in
+    let sh = shared_of c.args.context.now.sets.now in
+    let sc = scopes c.args.context.now.scopes.now in
     let d = written c.args.d.now in
     let i : statement_form_of c.args.form.now ≡ tree.Assume (expression_of c.in-Assume.e) =
     search (rules, folds.the_lemmas) in
@@ -175,10 +192,10 @@ put_statement_form-returns-in-Assume t c =
 
 pub put_statement_form-returns-in-ReadValue : goal.put_statement_form-returns-in-ReadValue
 put_statement_form-returns-in-ReadValue t c =
-    let p = plain_program c.args.g.now in
-    let mv = moved_of c.args.sets.now in
-    let sh = shared_of c.args.sets.now in
-    let sc = scopes c.args.sc.now in
+    let p = plain_program c.args.context.now.program.now in
+    let mv = moved_of c.args.context.now.sets.now in
+    let sh = shared_of c.args.context.now.sets.now in
+    let sc = scopes c.args.context.now.scopes.now in
     let d = written c.args.d.now in
     let i : statement_form_of c.args.form.now ≡ tree.ReadValue (variable_of c.in-ReadValue.v) =
     search (rules, folds.the_lemmas) in
@@ -187,10 +204,10 @@ put_statement_form-returns-in-ReadValue t c =
 
 pub put_statement_form-returns-in-ReadLine : goal.put_statement_form-returns-in-ReadLine
 put_statement_form-returns-in-ReadLine t c =
-    let p = plain_program c.args.g.now in
-    let mv = moved_of c.args.sets.now in
-    let sh = shared_of c.args.sets.now in
-    let sc = scopes c.args.sc.now in
+    let p = plain_program c.args.context.now.program.now in
+    let mv = moved_of c.args.context.now.sets.now in
+    let sh = shared_of c.args.context.now.sets.now in
+    let sc = scopes c.args.context.now.scopes.now in
     let d = written c.args.d.now in
     let i : statement_form_of c.args.form.now ≡ tree.ReadLine =
     search (rules, folds.the_lemmas) in
@@ -199,10 +216,10 @@ put_statement_form-returns-in-ReadLine t c =
 
 pub put_statement_form-returns-in-WriteValue : goal.put_statement_form-returns-in-WriteValue
 put_statement_form-returns-in-WriteValue t c =
-    let p = plain_program c.args.g.now in
-    let mv = moved_of c.args.sets.now in
-    let sh = shared_of c.args.sets.now in
-    let sc = scopes c.args.sc.now in
+    let p = plain_program c.args.context.now.program.now in
+    let mv = moved_of c.args.context.now.sets.now in
+    let sh = shared_of c.args.context.now.sets.now in
+    let sc = scopes c.args.context.now.scopes.now in
     let d = written c.args.d.now in
     let i : statement_form_of c.args.form.now
     ≡ tree.WriteValue (expression_of c.in-WriteValue.e) (width_of c.in-WriteValue.w) =
@@ -218,10 +235,10 @@ put_statement_form-returns-in-WriteText t c =
 
 pub put_statement_form-returns-in-WriteLine : goal.put_statement_form-returns-in-WriteLine
 put_statement_form-returns-in-WriteLine t c =
-    let p = plain_program c.args.g.now in
-    let mv = moved_of c.args.sets.now in
-    let sh = shared_of c.args.sets.now in
-    let sc = scopes c.args.sc.now in
+    let p = plain_program c.args.context.now.program.now in
+    let mv = moved_of c.args.context.now.sets.now in
+    let sh = shared_of c.args.context.now.sets.now in
+    let sc = scopes c.args.context.now.scopes.now in
     let d = written c.args.d.now in
     let i : statement_form_of c.args.form.now ≡ tree.WriteLine =
     search (rules, folds.the_lemmas) in
@@ -230,10 +247,10 @@ put_statement_form-returns-in-WriteLine t c =
 
 pub put_statement_form-returns-in-Open : goal.put_statement_form-returns-in-Open
 put_statement_form-returns-in-Open t c =
-    let p = plain_program c.args.g.now in
-    let mv = moved_of c.args.sets.now in
-    let sh = shared_of c.args.sets.now in
-    let sc = scopes c.args.sc.now in
+    let p = plain_program c.args.context.now.program.now in
+    let mv = moved_of c.args.context.now.sets.now in
+    let sh = shared_of c.args.context.now.sets.now in
+    let sc = scopes c.args.context.now.scopes.now in
     let d = written c.args.d.now in
     let i : statement_form_of c.args.form.now ≡ tree.Open (variable_of c.in-Open.v) =
     search (rules, folds.the_lemmas) in
@@ -242,10 +259,10 @@ put_statement_form-returns-in-Open t c =
 
 pub put_statement_form-returns-in-Send : goal.put_statement_form-returns-in-Send
 put_statement_form-returns-in-Send t c =
-    let p = plain_program c.args.g.now in
-    let mv = moved_of c.args.sets.now in
-    let sh = shared_of c.args.sets.now in
-    let sc = scopes c.args.sc.now in
+    let p = plain_program c.args.context.now.program.now in
+    let mv = moved_of c.args.context.now.sets.now in
+    let sh = shared_of c.args.context.now.sets.now in
+    let sc = scopes c.args.context.now.scopes.now in
     let d = written c.args.d.now in
     let i : statement_form_of c.args.form.now
     ≡ tree.Send (expression_of c.in-Send.channel) (expression_of c.in-Send.e) =
@@ -255,10 +272,10 @@ put_statement_form-returns-in-Send t c =
 
 pub put_statement_form-returns-in-Receive : goal.put_statement_form-returns-in-Receive
 put_statement_form-returns-in-Receive t c =
-    let p = plain_program c.args.g.now in
-    let mv = moved_of c.args.sets.now in
-    let sh = shared_of c.args.sets.now in
-    let sc = scopes c.args.sc.now in
+    let p = plain_program c.args.context.now.program.now in
+    let mv = moved_of c.args.context.now.sets.now in
+    let sh = shared_of c.args.context.now.sets.now in
+    let sc = scopes c.args.context.now.scopes.now in
     let d = written c.args.d.now in
     let i : statement_form_of c.args.form.now
     ≡ tree.Receive (expression_of c.in-Receive.channel) (variable_of c.in-Receive.v) =
@@ -272,7 +289,7 @@ put_statement_form-returns-in-SendEach t c =
     ≡ tree.Sequence (sends c.in-SendEach.number c.in-SendEach.at (expression_of c.in-SendEach.channel)
     (map expression_of c.in-SendEach.values)) =
     search (rules, folds.the_lemmas) in
-    rw i (c.put_send_each.ensures c.args.sets.now c.in-SendEach.at c.in-SendEach.number)
+    rw i (c.put_send_each.ensures c.in-SendEach.at c.in-SendEach.number)
 
 pub put_statement_form-returns-in-ReceiveEach : goal.put_statement_form-returns-in-ReceiveEach
 put_statement_form-returns-in-ReceiveEach t c =
@@ -280,14 +297,14 @@ put_statement_form-returns-in-ReceiveEach t c =
     ≡ tree.Sequence (receives c.in-ReceiveEach.number c.in-ReceiveEach.at (expression_of c.in-ReceiveEach.channel)
     (map variable_of c.in-ReceiveEach.variables)) =
     search (rules, folds.the_lemmas) in
-    rw i (c.put_receive_each.ensures c.args.sets.now c.in-ReceiveEach.at c.in-ReceiveEach.number)
+    rw i (c.put_receive_each.ensures c.in-ReceiveEach.at c.in-ReceiveEach.number)
 
 pub put_if-returns : goal.put_if-returns
 put_if-returns t c k =
-    let p = plain_program c.args.g.now in
-    let mv = moved_of c.args.sets.now in
-    let sh = shared_of c.args.sets.now in
-    let sc = scopes c.args.sc.now in
+    let p = plain_program c.args.context.now.program.now in
+    let mv = moved_of c.args.context.now.sets.now in
+    let sh = shared_of c.args.context.now.sets.now in
+    let sc = scopes c.args.context.now.scopes.now in
     let d = written c.args.d.now in
     let e = expression_of c.args.e.now in
     let a = statement_of c.args.a.now in
@@ -300,10 +317,10 @@ put_if-returns t c k =
 
 pub put_branch-returns : goal.put_branch-returns
 put_branch-returns t c k =
-    let p = plain_program c.args.g.now in
-    let mv = moved_of c.args.sets.now in
-    let sh = shared_of c.args.sets.now in
-    let sc = scopes c.args.sc.now in
+    let p = plain_program c.args.context.now.program.now in
+    let mv = moved_of c.args.context.now.sets.now in
+    let sh = shared_of c.args.context.now.sets.now in
+    let sc = scopes c.args.context.now.scopes.now in
     let d = written c.args.d.now in
     let d2 = written c.put_statement.new.d in
     let m = c.mend_branch.ensures k in
@@ -317,10 +334,10 @@ put_branch-returns t c k =
 
 pub put_passed-returns : goal.put_passed-returns
 put_passed-returns t c k =
-    let p = plain_program c.args.g.now in
-    let mv = moved_of c.args.sets.now in
-    let sh = shared_of c.args.sets.now in
-    let sc = scopes c.args.sc.now in
+    let p = plain_program c.args.context.now.program.now in
+    let mv = moved_of c.args.context.now.sets.now in
+    let sh = shared_of c.args.context.now.sets.now in
+    let sc = scopes c.args.context.now.scopes.now in
     let d = written c.args.d.now in
     let d2 = written c.put_statement.new.d in
     let m = c.mend_jump.ensures k in
@@ -333,10 +350,10 @@ put_passed-returns t c k =
 
 pub put_while_body-returns : goal.put_while_body-returns
 put_while_body-returns t c k =
-    let p = plain_program c.args.g.now in
-    let mv = moved_of c.args.sets.now in
-    let sh = shared_of c.args.sets.now in
-    let sc = scopes c.args.sc.now in
+    let p = plain_program c.args.context.now.program.now in
+    let mv = moved_of c.args.context.now.sets.now in
+    let sh = shared_of c.args.context.now.sets.now in
+    let sc = scopes c.args.context.now.scopes.now in
     let d = written c.args.d.now in
     let d2 = written c.put_statement.new.d in
     let i3 = c.put-3.new.self.items.items in
@@ -353,10 +370,10 @@ put_while_body-returns t c k =
 
 pub put_while-returns : goal.put_while-returns
 put_while-returns t c k =
-    let p = plain_program c.args.g.now in
-    let mv = moved_of c.args.sets.now in
-    let sh = shared_of c.args.sets.now in
-    let sc = scopes c.args.sc.now in
+    let p = plain_program c.args.context.now.program.now in
+    let mv = moved_of c.args.context.now.sets.now in
+    let sh = shared_of c.args.context.now.sets.now in
+    let sc = scopes c.args.context.now.scopes.now in
     let d = written c.args.d.now in
     let e = expression_of c.args.e.now in
     let s = statement_of c.args.s.now in
@@ -372,10 +389,10 @@ put_while-returns t c k =
 
 pub put_repeat-returns : goal.put_repeat-returns
 put_repeat-returns t c k =
-    let p = plain_program c.args.g.now in
-    let mv = moved_of c.args.sets.now in
-    let sh = shared_of c.args.sets.now in
-    let sc = scopes c.args.sc.now in
+    let p = plain_program c.args.context.now.program.now in
+    let mv = moved_of c.args.context.now.sets.now in
+    let sh = shared_of c.args.context.now.sets.now in
+    let sc = scopes c.args.context.now.scopes.now in
     let d = written c.args.d.now in
     let e = expression_of c.args.e.now in
     let s = statement_of c.args.s.now in
@@ -398,10 +415,10 @@ put_repeat-returns t c k =
 
 pub put_for_body-returns : goal.put_for_body-returns
 put_for_body-returns t c k =
-    let p = plain_program c.args.g.now in
-    let mv = moved_of c.args.sets.now in
-    let sh = shared_of c.args.sets.now in
-    let sc = scopes c.args.sc.now in
+    let p = plain_program c.args.context.now.program.now in
+    let mv = moved_of c.args.context.now.sets.now in
+    let sh = shared_of c.args.context.now.sets.now in
+    let sc = scopes c.args.context.now.scopes.now in
     let d = written c.args.d.now in
     let down = c.args.down in
     let var = c.args.var in
@@ -427,34 +444,12 @@ put_for_body-returns t c k =
           ∙ ap (λ (y : Instr). a ++ y ∷ b) c.for_instr-2.ensures),
     )
 
-pub put_for-returns : goal.put_for-returns
-put_for-returns t c k =
-    let p = plain_program c.args.g.now in
-    let mv = moved_of c.args.sets.now in
-    let sh = shared_of c.args.sets.now in
-    let sc = scopes c.args.sc.now in
-    let d = written c.args.d.now in
-    let from = expression_of c.args.from.now in
-    let to = expression_of c.args.to.now in
-    let s = statement_of c.args.s.now in
-    let vb = value_code p sc (bare_expression to) in
-    let f = c.put_for_body.ensures k in
-    let w = c.put_value-2.ensures f.0 in
-    let v = c.put_value.ensures w.0 in
-    let both = w.1 ∙ ap (λ (ys : List Instr). ys ++ vb) v.1 in (
-      v.0,
-      f.1 ∙ (λ k. buffer_after_loop p mv sh (buffer_of (both k) d.forks d.texts) sc s
-          (for_instr c.args.down (c.slot.ensures k))
-          (next_instr c.args.down (c.slot.ensures k) (length (both k) + 1)))
-          ∙ for_is p mv sh sc d c.args.x c.args.at from c.args.down to s,
-    )
-
 pub put_forall-returns : goal.put_forall-returns
 put_forall-returns t c k =
-    let p = plain_program c.args.g.now in
-    let mv = moved_of c.args.sets.now in
-    let sh = shared_of c.args.sets.now in
-    let sc = scopes c.args.sc.now in
+    let p = plain_program c.args.context.now.program.now in
+    let mv = moved_of c.args.context.now.sets.now in
+    let sh = shared_of c.args.context.now.sets.now in
+    let sc = scopes c.args.context.now.scopes.now in
     let d = written c.args.d.now in
     let from = expression_of c.args.from.now in
     let to = expression_of c.args.to.now in
@@ -471,10 +466,10 @@ put_forall-returns t c k =
 
 pub put_case-returns : goal.put_case-returns
 put_case-returns t c k =
-    let p = plain_program c.args.g.now in
-    let mv = moved_of c.args.sets.now in
-    let sh = shared_of c.args.sets.now in
-    let sc = scopes c.args.sc.now in
+    let p = plain_program c.args.context.now.program.now in
+    let mv = moved_of c.args.context.now.sets.now in
+    let sh = shared_of c.args.context.now.sets.now in
+    let sc = scopes c.args.context.now.scopes.now in
     let d = written c.args.d.now in
     let e = expression_of c.args.e.now in
     let xs = arms (map arm_of c.args.xs.now) in
@@ -487,20 +482,20 @@ put_case-returns t c k =
 
 pub put_inside-returns-in-Ok : goal.put_inside-returns-in-Ok
 put_inside-returns-in-Ok t c =
-    let p = plain_program c.args.g.now in
-    let mv = moved_of c.args.sets.now in
-    let sh = shared_of c.args.sets.now in
-    let sc = scopes c.args.sc.now in
+    let p = plain_program c.args.context.now.program.now in
+    let mv = moved_of c.args.context.now.sets.now in
+    let sh = shared_of c.args.context.now.sets.now in
+    let sc = scopes c.args.context.now.scopes.now in
     let d = written c.args.d.now in
     went c.put_statement.ensures (ap (λ (ys : List Scope). buffer_after p mv sh d (scopes ys)
     (statement_of c.args.s.now)) (c.as_slice.ensures.value ∙ c.in-Ok.ensures))
 
 pub put_spread-returns : goal.put_spread-returns
 put_spread-returns t c k =
-    let p = plain_program c.args.g.now in
-    let mv = moved_of c.args.sets.now in
-    let sh = shared_of c.args.sets.now in
-    let sc = scopes c.args.sc.now in
+    let p = plain_program c.args.context.now.program.now in
+    let mv = moved_of c.args.context.now.sets.now in
+    let sh = shared_of c.args.context.now.sets.now in
+    let sc = scopes c.args.context.now.scopes.now in
     let d = written c.args.d.now in
     let s = statement_of c.args.s.now in
     let d2 = written c.put_inside.new.d in
@@ -519,7 +514,7 @@ put_spread-returns t c k =
       number_good,
       spread_is p mv sh sc d d2 c.args.x s c.push_to.new.list i0 c.put-2.new.self.items.items i3
           c.mend_jump.new.code.items.items
-          (index_table c.args.g.now c.args.sets.now c.args.x c.number-entry.result s)
+          (index_table c.args.context.now c.args.x c.number-entry.result s)
           c.number-number.result c.number-entry.result c.count-at.result (length i3) (number_is ∙ c.len.ensures)
           (entry_is ∙ ap (λ (m : ℕ). m + 2) (first_is ∙ ap length number_same)) refl forks_are
           (x.1 ∙ ap (λ (ys : List Instr). ys ++ i.Forall c.number-number.result ∷ []) kept)
@@ -529,10 +524,10 @@ put_spread-returns t c k =
 
 pub put_parallel-returns : goal.put_parallel-returns
 put_parallel-returns t c k =
-    let p = plain_program c.args.g.now in
-    let mv = moved_of c.args.sets.now in
-    let sh = shared_of c.args.sets.now in
-    let sc = scopes c.args.sc.now in
+    let p = plain_program c.args.context.now.program.now in
+    let mv = moved_of c.args.context.now.sets.now in
+    let sh = shared_of c.args.context.now.sets.now in
+    let sc = scopes c.args.context.now.scopes.now in
     let d = written c.args.d.now in
     let d2 = written c.put_children-children.new.d in
     let i0 = c.put.new.self.items.items in
@@ -555,10 +550,10 @@ put_parallel-returns t c k =
 
 pub put_choices-returns : goal.put_choices-returns
 put_choices-returns t c k =
-    let p = plain_program c.args.g.now in
-    let mv = moved_of c.args.sets.now in
-    let sh = shared_of c.args.sets.now in
-    let sc = scopes c.args.sc.now in
+    let p = plain_program c.args.context.now.program.now in
+    let mv = moved_of c.args.context.now.sets.now in
+    let sh = shared_of c.args.context.now.sets.now in
+    let sc = scopes c.args.context.now.scopes.now in
     let d = written c.args.d.now in
     let xs = arms (map arm_of c.args.xs.now) in
     let d2 = written c.put_arms-starts.new.d in
@@ -581,10 +576,10 @@ put_choices-returns t c k =
 
 pub put_sequence-loop-s-preserved : goal.put_sequence-loop-s-preserved
 put_sequence-loop-s-preserved t c k =
-    let p = plain_program c.args.g.now in
-    let mv = moved_of c.args.sets.now in
-    let sh = shared_of c.args.sets.now in
-    let sc = scopes c.args.sc.now in
+    let p = plain_program c.args.context.now.program.now in
+    let mv = moved_of c.args.context.now.sets.now in
+    let sh = shared_of c.args.context.now.sets.now in
+    let sc = scopes c.args.context.now.scopes.now in
     let d = written c.loop-s.d in
     let rest = statements (map statement_of (drop (c.loop-s.s-index + 1) c.args.ss.now)) in
     let on = rw c.items-s-items.ensures at (statements_on c.items-s-items.result.now c.loop-s.s-index c.s-item.result
@@ -600,10 +595,10 @@ put_sequence-loop-s-preserved t c k =
 
 pub put_sequence-returns : goal.put_sequence-returns
 put_sequence-returns t c k =
-    let p = plain_program c.args.g.now in
-    let mv = moved_of c.args.sets.now in
-    let sh = shared_of c.args.sets.now in
-    let sc = scopes c.args.sc.now in
+    let p = plain_program c.args.context.now.program.now in
+    let mv = moved_of c.args.context.now.sets.now in
+    let sh = shared_of c.args.context.now.sets.now in
+    let sc = scopes c.args.context.now.scopes.now in
     let d = written c.loop-s.d in
     let end = rw c.items-s-items.ensures at (statements_end c.items-s-items.result.now c.loop-s.s-index
     c.loop-s-test.false) in
@@ -615,10 +610,10 @@ put_sequence-returns t c k =
 
 pub put_children-loop-s-preserved : goal.put_children-loop-s-preserved
 put_children-loop-s-preserved t c k =
-    let p = plain_program c.args.g.now in
-    let mv = moved_of c.args.sets.now in
-    let sh = shared_of c.args.sets.now in
-    let sc = scopes c.args.sc.now in
+    let p = plain_program c.args.context.now.program.now in
+    let mv = moved_of c.args.context.now.sets.now in
+    let sh = shared_of c.args.context.now.sets.now in
+    let sc = scopes c.args.context.now.scopes.now in
     let d = written c.loop-s.d in
     let out = c.loop-s.lines in
     let s = statement_of c.s-item.result in
@@ -642,7 +637,7 @@ put_children-loop-s-preserved t c k =
             ∙ (λ j. buffer_after_children p mv sh d sc (sym on j))
             ∙ rest_put,
         (λ j. (lines_are j) ++ children p mv sh (place j) rest)
-            ∙ append_assoc out (child_of c.args.g.now c.args.sets.now c.place-entry.result s ∷ []) behind
+            ∙ append_assoc out (child_of c.args.context.now c.place-entry.result s ∷ []) behind
             ∙ (λ j. out ++ (child p mv sh (entry_is j) None s ∷ behind))
             ∙ (λ j. out ++ children p mv sh (length d.instrs) (sym on j))
             ∙ rest_lines,
@@ -651,10 +646,10 @@ put_children-loop-s-preserved t c k =
 
 pub put_children-returns : goal.put_children-returns
 put_children-returns t c k =
-    let p = plain_program c.args.g.now in
-    let mv = moved_of c.args.sets.now in
-    let sh = shared_of c.args.sets.now in
-    let sc = scopes c.args.sc.now in
+    let p = plain_program c.args.context.now.program.now in
+    let mv = moved_of c.args.context.now.sets.now in
+    let sh = shared_of c.args.context.now.sets.now in
+    let sc = scopes c.args.context.now.scopes.now in
     let d = written c.loop-s.d in
     let end = rw c.items-s-items.ensures at (statements_end c.items-s-items.result.now c.loop-s.s-index
     c.loop-s-test.false) in
@@ -669,10 +664,10 @@ put_children-returns t c k =
 
 pub put_arms-loop-a-preserved : goal.put_arms-loop-a-preserved
 put_arms-loop-a-preserved t c k =
-    let p = plain_program c.args.g.now in
-    let mv = moved_of c.args.sets.now in
-    let sh = shared_of c.args.sets.now in
-    let sc = scopes c.args.sc.now in
+    let p = plain_program c.args.context.now.program.now in
+    let mv = moved_of c.args.context.now.sets.now in
+    let sh = shared_of c.args.context.now.sets.now in
+    let sc = scopes c.args.context.now.scopes.now in
     let d = written c.loop-a.d in
     let starts = c.loop-a.starts in
     let ends = c.loop-a.ends in
@@ -715,10 +710,10 @@ put_arms-loop-a-preserved t c k =
 
 pub put_arms-returns : goal.put_arms-returns
 put_arms-returns t c k =
-    let p = plain_program c.args.g.now in
-    let mv = moved_of c.args.sets.now in
-    let sh = shared_of c.args.sets.now in
-    let sc = scopes c.args.sc.now in
+    let p = plain_program c.args.context.now.program.now in
+    let mv = moved_of c.args.context.now.sets.now in
+    let sh = shared_of c.args.context.now.sets.now in
+    let sc = scopes c.args.context.now.scopes.now in
     let d = written c.loop-a.d in
     let end = rw c.items-a-items.ensures at (arms_end c.items-a-items.result.now c.loop-a.a-index
     c.loop-a-test.false) in

@@ -15,8 +15,9 @@ use Rattle.sp_generate.proofs.statements.put_written.Goals as goal
 
 pub returns : goal.returns
 returns c k =
-    let p = plain_program c.args.g.now in
-    let sc = scopes c.args.sc.now in
+    let context = c.args.context.now in
+    let p = plain_program context.program.now in
+    let sc = scopes context.scopes.now in
     let d = written c.args.d.now in
     let w = bare_width (width_of c.args.w.now) in
     let (text_good, (text_same, texts_are)) = c.push_to.ensures _ c.duplicate.ensures k in
@@ -25,8 +26,8 @@ returns c k =
     let number = count_is ∙ c.len.ensures in (
       number_good,
       (λ j. buffer_of (text_same j) d.forks (texts_are j))
-          ∙ text_is p (moved_of c.args.sets.now) (shared_of c.args.sets.now) sc d c.args.text.now (width_of
-          c.args.w.now)
+          ∙ text_is p (moved_of context.sets.now) (shared_of context.sets.now) sc d c.args.text.now
+          (width_of c.args.w.now)
           c.put_text.new.code.items.items
           (code_is ∙ (λ j. number_same j ++ (width_code p sc w
           ++ (if is_given w then i.WritewText (number j) else i.WriteText (number j)) ∷ []))),
