@@ -39,11 +39,8 @@ root_map sizes = with_pieces (map.insert (map.insert map.empty (record { frame =
 
 -- the store with a new frame, of an undefined piece for each size
 abbrev pub with_new_frame : Plain → List ℕ → Plain
-with_new_frame p sizes = record {
-  map = with_pieces p.map (next_frame p) 0 sizes;
-  own = p.own ++ next_frame p ∷ [];
-  moved = p.moved;
-}
+with_new_frame p sizes =
+    record { map = with_pieces p.map (next_frame p) 0 sizes; own = p.own ++ next_frame p ∷ []; moved = p.moved }
 
 -- the last of the own frames
 abbrev pub last_own_frame : List ℕ → ℕ

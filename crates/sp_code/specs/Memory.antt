@@ -153,11 +153,8 @@ position_at = cell_at 0 0
 
 -- the position that a piece holds, if it does
 abbrev pub position_in : Option (List Cell) → Option ℕ
-position_in None = None
-position_in (Some []) = None
-position_in (Some (cell.Undefined ∷ cs)) = None
 position_in (Some (cell.Ordinal n ∷ cs)) = Some (nat_abs n)
-position_in (Some (cell.Channel c ∷ cs)) = None
+position_in _ = None
 
 -- the input from a position on
 abbrev pub left_after : List ℕ → Option ℕ → Option (List ℕ)

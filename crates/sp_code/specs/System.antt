@@ -99,11 +99,8 @@ index_by value k (Some x) = Some (0, value +ℤ pos k)
 
 -- what child k is handed
 abbrev pub handing_of : List Layout → List Frame → ℤ → ℕ → ChildTable → Handing
-handing_of ls fs value k c = record {
-  moved = spots_of ls fs c.moved;
-  shared = spots_of ls fs c.shared;
-  index = index_by value k c.index;
-}
+handing_of ls fs value k c =
+    record { moved = spots_of ls fs c.moved; shared = spots_of ls fs c.shared; index = index_by value k c.index }
 
 -- for a number that no child has
 abbrev pub no_child : ChildTable
@@ -266,13 +263,8 @@ module _ {S : Type 0} (stores : Stores S) (g : CodeRun) where
   -- the frames of a child, above them that of its index
   abbrev pub with_index_frame : ℕ → Handing → Option ℕ → List Frame → List Frame
   with_index_frame q h None fs = fs
-  with_index_frame q h (Some x) fs = record {
-    owner = q;
-    number = index_frame h;
-    home = OfIndex x;
-    link = length fs;
-    references = [];
-  } ∷ fs
+  with_index_frame q h (Some x) fs =
+      record { owner = q; number = index_frame h; home = OfIndex x; link = length fs; references = [] } ∷ fs
 
   -- child k of a fork at c, with the number q: its frames are its parent's, with the index's above; it is one level
   -- deeper
@@ -305,18 +297,9 @@ module _ {S : Type 0} (stores : Stores S) (g : CodeRun) where
 
   -- a message goes over to a process that waits to receive, or from one that waits to send
   abbrev pub after_message : List Cell → Condition S → Condition S
-  after_message cs Absent = Absent
-  after_message cs (Working c) = Working c
   after_message cs (Waits (Receives d k a) c) = Working (on_store (put_cells stores a cs) c)
-  after_message cs (Waits (Sends d k bs) c) = Working c
-  after_message cs (Waits (Forks t value n) c) = Working c
-  after_message cs (Waits (Opens a) c) = Working c
-  after_message cs (Waits Ends c) = Working c
-  after_message cs (Waits Pauses c) = Working c
-  after_message cs (Joins left c) = Joins left c
-  after_message cs (Laid c) = Laid c
-  after_message cs Gone = Gone
-  after_message cs (Over c) = Over c
+  after_message cs (Waits stop c) = Working c
+  after_message cs d = d
 
   -- the cells that are sent
   abbrev pub message_of : Option Stop → List Cell
@@ -339,15 +322,10 @@ module _ {S : Type 0} (stores : Stores S) (g : CodeRun) where
 
   -- a child's pieces go back to its parent, which goes on after the last one. The first process has none
   abbrev pub parent_after_join : Config (Memory S) → Condition S → Condition S
-  parent_after_join c Absent = Absent
-  parent_after_join c (Working d) = Working d
-  parent_after_join c (Waits stop d) = Waits stop d
   parent_after_join c (Joins left d) =
       let e = on_store (λ m. stores.joined m (store_of c)) d in
       if left == 1 then Working e else Joins (left - 1) e
-  parent_after_join c (Laid d) = Laid d
-  parent_after_join c Gone = Gone
-  parent_after_join c (Over d) = Over d
+  parent_after_join c d = d
 
   -- a process without a parent is over, and the parent of another one waits for a child fewer
   abbrev pub apply_end : ℕ → Config (Memory S) → Option Birth → System S → System S

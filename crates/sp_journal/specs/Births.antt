@@ -60,12 +60,7 @@ births_after_event s p event.Open = record s {
   opening = at_key ◌==◌ s.channels (record { owner = p; nth = s.opens p }) s.opening;
   opens = at_key ◌==◌ p (s.opens p + 1) s.opens;
 }
-births_after_event s p (event.Send c) = s
-births_after_event s p (event.Receive c) = s
-births_after_event s p event.End = s
-births_after_event s p (event.Fault f) = s
-births_after_event s p event.Laid = s
-births_after_event s p event.Pause = s
+births_after_event s p _ = s
 
 -- the same of an entry
 abbrev pub births_after_entry : Births → Entry → Births

@@ -38,46 +38,26 @@ known_with j p n i = j.past p i || n == i
 
 -- an offer that waits adds nothing; one that meets gives both sides what both know and the indices of both offers
 abbrev pub knowledge_after_offer : Knowledge → Name → ℕ → Channel → Option (Name × ℕ) → Knowledge
-knowledge_after_offer j p n c None = record {
-  past = j.past;
-  pending = at_key same_channel c (Some (p, n)) j.pending;
-  forks = j.forks;
-  completed = j.completed;
-}
+knowledge_after_offer j p n c None = record j { pending = at_key same_channel c (Some (p, n)) j.pending }
 knowledge_after_offer j p n c (Some o) =
-    record {
+    record j {
       past = learn o.0 (λ i. known_with j p n i || known_with j o.0 o.1 i)
           (learn p (λ i. known_with j p n i || known_with j o.0 o.1 i) j.past);
       pending = at_key same_channel c None j.pending;
-      forks = j.forks;
       completed = λ i. cond (n == i) (Some n) (cond (o.1 == i) (Some n) (j.completed i));
     }
 
 -- the entry of index n: open and fork add their own index, an end adds it to the child's past, a pause, a fault and a
 -- laid process add nothing
 abbrev pub knowledge_after : Knowledge → ℕ → Name → Happening → Knowledge
-knowledge_after j n p Opened = record {
-  past = learn p (λ i. n == i) j.past;
-  pending = j.pending;
-  forks = j.forks;
-  completed = j.completed;
-}
-knowledge_after j n p (Forked k) = record {
+knowledge_after j n p Opened = record j { past = learn p (λ i. n == i) j.past }
+knowledge_after j n p (Forked k) = record j {
   past = teach p (j.forks p) (known_with j p n) 0 k (learn p (λ i. n == i) j.past);
-  pending = j.pending;
   forks = at_key same_name p (j.forks p + 1) j.forks;
-  completed = j.completed;
 }
 knowledge_after j n p (Offered w c) = knowledge_after_offer j p n c (j.pending c)
-knowledge_after j n p Ended = record {
-  past = report p (known_with j p n) (learn p (λ i. n == i) j.past);
-  pending = j.pending;
-  forks = j.forks;
-  completed = j.completed;
-}
-knowledge_after j n p (Faulted f) = j
-knowledge_after j n p Laid = j
-knowledge_after j n p Paused = j
+knowledge_after j n p Ended = record j { past = report p (known_with j p n) (learn p (λ i. n == i) j.past) }
+knowledge_after j n p _ = j
 
 abbrev pub no_knowledge : Knowledge
 no_knowledge = record { past = λ p i. false; pending = λ c. None; forks = λ p. 0; completed = λ i. None }

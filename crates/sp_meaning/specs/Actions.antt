@@ -50,26 +50,8 @@ pub data Action : Type 0 where
 abbrev mutual
   pub push : Stmt → List Item → List Item
   push Empty todo = todo
-  push (Assign v e) todo = Do (Assign v e) ∷ todo
-  push (Call f args) todo = Do (Call f args) ∷ todo
   push (Sequence ss) todo = push_all ss todo
-  push (If e a) todo = Do (If e a) ∷ todo
-  push (IfElse e a b) todo = Do (IfElse e a b) ∷ todo
-  push (While e s) todo = Do (While e s) ∷ todo
-  push (Repeat s e) todo = Do (Repeat s e) ∷ todo
-  push (For x from down to s) todo = Do (For x from down to s) ∷ todo
-  push (Case e arms) todo = Do (Case e arms) ∷ todo
-  push (Parallel ss) todo = Do (Parallel ss) ∷ todo
-  push (Forall x from to s) todo = Do (Forall x from to s) ∷ todo
-  push (Assume e) todo = Do (Assume e) ∷ todo
-  push (ReadValue v) todo = Do (ReadValue v) ∷ todo
-  push ReadLine todo = Do ReadLine ∷ todo
-  push (WriteValue e w) todo = Do (WriteValue e w) ∷ todo
-  push (WriteText t w) todo = Do (WriteText t w) ∷ todo
-  push WriteLine todo = Do WriteLine ∷ todo
-  push (Open v) todo = Do (Open v) ∷ todo
-  push (Send c e) todo = Do (Send c e) ∷ todo
-  push (Receive c v) todo = Do (Receive c v) ∷ todo
+  push s todo = Do s ∷ todo
 
   pub push_all : Stmts → List Item → List Item
   push_all No todo = todo
@@ -142,13 +124,8 @@ indexed_children x s low (suc n) = record { todo = push s []; index = Some (x, l
 -- a forall's child has its index in a frame of its own
 abbrev pub with_index : Name → Option (ℕ × ℤ) → List Frame → List Frame
 with_index q None fs = fs
-with_index q (Some x) fs = record {
-  owner = q;
-  number = length fs;
-  home = OfIndex x.0 x.1;
-  link = length fs;
-  references = [];
-} ∷ fs
+with_index q (Some x) fs =
+    record { owner = q; number = length fs; home = OfIndex x.0 x.1; link = length fs; references = [] } ∷ fs
 
 -- a child is born, of its parent
 abbrev pub new_process : Identity → LocalState → ℕ → Birth → Process
@@ -320,14 +297,9 @@ module _ (g : RunInput) where
 
   -- leaving a loop is no step, but its variable is read
   abbrev pub settle : List Item → Work (List Item)
-  settle [] = give []
-  settle (Do s ∷ todo) = give (Do s ∷ todo)
-  settle (First x m n down s ∷ todo) = give (First x m n down s ∷ todo)
   settle (Again x n down s ∷ todo) = bind (peek x)
       (λ v. if goes_on down n v then give (Again x n down s ∷ todo) else settle todo)
-  settle (Test s e ∷ todo) = give (Test s e ∷ todo)
-  settle (Leave ∷ todo) = give (Leave ∷ todo)
-  settle (Break f ∷ todo) = give (Break f ∷ todo)
+  settle todo = give todo
 
   -- what is left to do after a local step. A function's body has no other (rule I9)
   abbrev pub items_after : Action → Work (List Item)

@@ -147,9 +147,8 @@ value_in (Tree v) = v
 value_in _ = Undefined
 
 abbrev pub position_in : LocationContent → ℕ
-position_in (Tree v) = 0
 position_in (Position n) = n
-position_in (Written bytes) = 0
+position_in _ = 0
 
 abbrev pub bytes_in : LocationContent → List ℕ
 bytes_in (Written bytes) = bytes

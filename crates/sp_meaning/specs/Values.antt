@@ -47,10 +47,8 @@ with_item f (Then v vs) zero = Then (f v) vs
 with_item f (Then v vs) (suc i) = Then v (with_item f vs i)
 
 abbrev pub with_part : (Value → Value) → Value → ℕ → Value
-with_part f Undefined i = Undefined
-with_part f (Ordinal n) i = Ordinal n
-with_part f (Chan c) i = Chan c
 with_part f (Parts vs) i = Parts (with_item f vs i)
+with_part f v i = v
 
 -- the value with w at a path
 abbrev pub set_at : List ℕ → Value → Value → Value

@@ -38,12 +38,8 @@ offer_in _ = None
 -- process q, if it waits, by its name and that of the channel
 abbrev pub waiter_list : Births → ℕ → Option (Way × ℕ) → List Waiter
 waiter_list b q None = []
-waiter_list b q (Some o) = record {
-  process = proc_name (b.name q);
-  way = o.0;
-  channel =
-      chan_name (channel b o.1);
-} ∷ []
+waiter_list b q (Some o) =
+    record { process = proc_name (b.name q); way = o.0; channel = chan_name (channel b o.1) } ∷ []
 
 -- those of these processes that wait
 abbrev pub waiters_among : Births → (ℕ → Condition Plain) → List ℕ → List Waiter

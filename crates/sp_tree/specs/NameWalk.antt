@@ -122,18 +122,8 @@ title_local l x fs answer = with_declaration l x.text sort.Block (block_meaning 
 -- the result of a function, a variable without a name
 abbrev pub answer_local : Local → Option Name → Local
 answer_local l None = l
-answer_local l (Some t) = record {
-  here = l.here;
-  block = l.block;
-  answer = next_variable l.counts;
-  counts = record {
-    constants = l.counts.constants;
-    kinds = l.counts.kinds;
-    variables = l.counts.variables;
-    results = l.counts.results + 1;
-    blocks = l.counts.blocks;
-  };
-}
+answer_local l (Some t) =
+    record l { answer = next_variable l.counts; counts = record l.counts { results = l.counts.results + 1 } }
 
 -- a procedure's own block with its parameters and result
 abbrev pub heading_local : Local → Name → List SynFormal → Option Name → Local

@@ -156,9 +156,5 @@ block_of b = record {
 
 -- the plain tree of a program
 abbrev pub program_of : named.Named → Program
-program_of p = record {
-  constants = p.constants;
-  kinds = p.kinds;
-  variables = p.variables;
-  blocks = map block_of p.blocks;
-}
+program_of p =
+    record { constants = p.constants; kinds = p.kinds; variables = p.variables; blocks = map block_of p.blocks }

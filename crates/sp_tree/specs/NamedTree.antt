@@ -245,13 +245,8 @@ numbers n (x ∷ xs) = n ∷ numbers (suc n) xs
 -- the result of a function, at the place of the heading's name
 abbrev pub answer_named : Env → ℕ → Name → Option Name → List checked.Variable
 answer_named env block x None = []
-answer_named env block x (Some t) = record {
-  name = x.text;
-  kind = kind_number (find env t.text);
-  block = block;
-  role = role.Answer;
-  at = x.at;
-} ∷ []
+answer_named env block x (Some t) =
+    record { name = x.text; kind = kind_number (find env t.text); block = block; role = role.Answer; at = x.at } ∷ []
 
 abbrev pub answer_of : ℕ → Option Name → Option NamedAnswer
 answer_of k t = option_map (λ t. record { variable = k; at = t.at }) t
@@ -295,37 +290,25 @@ abbrev pub appended_tables : n.Program → n.Program → n.Program
 appended_tables a b = record {
   constants = a.constants ++ b.constants;
   kinds = a.kinds ++ b.kinds;
-  variables = a.variables
-      ++ b.variables;
+  variables = a.variables ++ b.variables;
   blocks = a.blocks ++ b.blocks;
 }
 
 -- a constant
 abbrev pub constant_part : Env → SynConst → n.Program
-constant_part env c = record {
-  constants = constant.Value (named_const env c) ∷ [];
-  kinds = [];
-  variables = [];
-  blocks = [];
-}
+constant_part env c = record nothing_named { constants = constant.Value (named_const env c) ∷ [] }
 
 -- a type, with the constants of an enumeration
 abbrev pub kind_part : Env → Name → SynKind → n.Program
-kind_part env x k = record {
+kind_part env x k = record nothing_named {
   constants = constants_named (next_kind env.local.counts) k;
   kinds = record { at = x.at; form = kind_named env k } ∷ [];
-  variables = [];
-  blocks = [];
 }
 
 -- variables of one type
 abbrev pub variables_part : Env → List Name → Name → n.Program
-variables_part env xs t = record {
-  constants = [];
-  kinds = [];
-  variables = variables_named env.local.block role.Local (kind_number (find env t.text)) xs;
-  blocks = [];
-}
+variables_part env xs t =
+    record nothing_named { variables = variables_named env.local.block role.Local (kind_number (find env t.text)) xs }
 
 -- What stands in a block: the number of its result's variable, its statement part, the indices of the foralls there,
 -- and what its parts declare.

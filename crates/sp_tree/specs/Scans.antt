@@ -20,12 +20,8 @@ offset text bs = length text - length bs
 
 -- the token that is spelled from these bytes up to those
 abbrev pub token_from : List ℕ → Kind → List ℕ → List ℕ → Token
-token_from text k bs r = record {
-  kind = k;
-  from = offset text bs;
-  to = offset text r;
-  at = place_at text (offset text bs);
-}
+token_from text k bs r =
+    record { kind = k; from = offset text bs; to = offset text r; at = place_at text (offset text bs) }
 
 -- In a text: from these bytes to those there are these tokens, each the longest at its place.
 pub data Scans (text : List ℕ) : List ℕ → List ℕ → List Token → Type 0 where

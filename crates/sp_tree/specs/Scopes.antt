@@ -65,34 +65,10 @@ count sort.Block c = c.blocks
 
 -- one more of a sort
 abbrev pub with_one_more : Sort → Counts → Counts
-with_one_more sort.Constant c = record {
-  constants = c.constants + 1;
-  kinds = c.kinds;
-  variables = c.variables;
-  results = c.results;
-  blocks = c.blocks;
-}
-with_one_more sort.Kind c = record {
-  constants = c.constants;
-  kinds = c.kinds + 1;
-  variables = c.variables;
-  results = c.results;
-  blocks = c.blocks;
-}
-with_one_more sort.Variable c = record {
-  constants = c.constants;
-  kinds = c.kinds;
-  variables = c.variables + 1;
-  results = c.results;
-  blocks = c.blocks;
-}
-with_one_more sort.Block c = record {
-  constants = c.constants;
-  kinds = c.kinds;
-  variables = c.variables;
-  results = c.results;
-  blocks = c.blocks + 1;
-}
+with_one_more sort.Constant c = record c { constants = c.constants + 1 }
+with_one_more sort.Kind c = record c { kinds = c.kinds + 1 }
+with_one_more sort.Variable c = record c { variables = c.variables + 1 }
+with_one_more sort.Block c = record c { blocks = c.blocks + 1 }
 
 -- The numbers that the next declarations get: behind the standard constants and types, the input and the output, and
 -- the program. The results of functions are variables too.
@@ -119,21 +95,15 @@ declaration_limit = 4096
 abbrev pub with_declaration : Local → List ℕ → Sort → Meaning → Local
 with_declaration l name s m =
     if nat_le declaration_limit (count s l.counts) then l
-    else record { here = put l.here name m; block = l.block; answer = l.answer; counts = with_one_more s l.counts }
+    else record l { here = put l.here name m; counts = with_one_more s l.counts }
 
 -- a new block inside, of the procedure with this number, with nothing in it
 abbrev pub local_of_inner : ℕ → ℕ → Local → Local
-local_of_inner block answer l = record { here = []; block = block; answer = answer; counts = l.counts }
+local_of_inner block answer l = record l { here = []; block = block; answer = answer }
 
 -- back in the outer block, with what was declared inside
 abbrev pub local_of_outer : Local → Local → Local
-local_of_outer outer inner = record {
-  here = outer.here;
-  block = outer.block;
-  answer = outer.answer;
-  counts =
-      inner.counts;
-}
+local_of_outer outer inner = record outer { counts = inner.counts }
 
 -- the program's block before anything is declared
 abbrev pub empty_local : Local

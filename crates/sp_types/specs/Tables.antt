@@ -64,11 +64,7 @@ value_by known (given.Constant k) = table_entry (slice_get known k)
 
 -- a sign before an integer; before anything else it is wrong, and changes nothing
 abbrev pub signed_value : Option Bool → Option Ordinal → Option Ordinal
-signed_value (Some true) (Some o) = Some (record {
-  kind = o.kind;
-  number = if nat_eq o.kind 0 then neg_ℤ o.number else
-      o.number;
-})
+signed_value (Some true) (Some o) = Some (record o { number = if nat_eq o.kind 0 then neg_ℤ o.number else o.number })
 signed_value sign o = o
 
 -- the type and the number of a written constant

@@ -93,20 +93,16 @@ declaration_at c (OfChild t k) = declared_by (child_of (slice_get c.forks t) k)
 
 -- a home is that of a block
 abbrev pub is_block : Option ℕ → Option Home → Bool
-is_block None h = false
-is_block (Some b) None = false
 is_block (Some b) (Some (OfBlock d)) = b == d
-is_block (Some b) (Some (OfIndex x)) = false
+is_block _ _ = false
 
 abbrev pub is_plain : Naming → Bool
 is_plain Plainly = true
-is_plain Never = false
-is_plain ByReference = false
+is_plain _ = false
 
 abbrev pub is_reference : Naming → Bool
-is_reference Plainly = false
-is_reference Never = false
 is_reference ByReference = true
+is_reference _ = false
 
 -- can be the control variable of a `for`: it is named plainly and has one cell
 abbrev pub is_loop_variable : Option VariableInfo → Bool

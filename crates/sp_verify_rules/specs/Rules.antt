@@ -21,11 +21,8 @@ abbrev pub fits_formal : Formal → Shape → Bool
 fits_formal (formal.Value n) O = n == 1
 fits_formal (formal.Value n) C = n == 1
 fits_formal (formal.Value n) (L k) = k == n
-fits_formal (formal.Value n) (A x k) = false
-fits_formal (formal.Reference n) O = false
-fits_formal (formal.Reference n) C = false
-fits_formal (formal.Reference n) (L k) = false
 fits_formal (formal.Reference n) (A x k) = nat_le n k
+fits_formal _ _ = false
 
 -- operands, the lowest first, fit formals
 abbrev pub fit_formals : List Formal → List Shape → Bool
