@@ -1,62 +1,33 @@
 -- All of this belongs to what the program promises (docs/promise.txt).
 -- The order of broken rules: by place, and at one place by the row of the rule table. The first of all that are
 -- broken. The definition of the program's refusal cites it, and each phase's answer is a first one in this order.
-use Rattle.std.specs.Prelude.{◌≡◌, ℕ, Bool, false}
+use Rattle.std.specs.Prelude.{◌≡◌, ℕ, suc, List, [], ◌∷◌, Bool, false, if◌then◌else◌, codes}
+use Rattle.std.specs.Str.{bytes_eq}
 use Rattle.std.specs.Ordering.{nat_cmp, on, then_cmp, is_lt}
 use Rattle.std.specs.declared.cmp.Ordering.{Ordering}
 use Rattle.sp_base.specs.declared.place.Place.{Place}
 use Rattle.sp_base.specs.declared.halt.Refusal.{Refusal}
 use Rattle.sp_base.specs.declared.rule.Rule.{Rule}
-use Rattle.sp_base.specs.declared.rule.Rule.TheVariants as rule
+use Rattle.sp_base.specs.Rules.{rule_name}
+
+-- the names of the rules in the order of the rule table
+abbrev pub rule_table : List (List ℕ)
+rule_table =
+    codes "L1" ∷ codes "S1" ∷ codes "S2" ∷ codes "S3" ∷ codes "S4" ∷ codes "S5" ∷ codes "U1" ∷ codes "U2" ∷
+    codes "G1" ∷ codes "L2" ∷ codes "G2" ∷ codes "N1" ∷ codes "N2" ∷ codes "N3" ∷ codes "N4" ∷ codes "N5" ∷
+    codes "N6" ∷ codes "N7" ∷ codes "N8" ∷ codes "L4" ∷ codes "Y1" ∷ codes "Y2" ∷ codes "Y3" ∷ codes "Y4" ∷
+    codes "Y5" ∷ codes "Y6" ∷ codes "Y7" ∷ codes "Y8" ∷ codes "Y9" ∷ codes "Y10" ∷ codes "Y11" ∷ codes "Y12" ∷
+    codes "Y13" ∷ codes "Y14" ∷ codes "L3" ∷ codes "L6" ∷ codes "I1" ∷ codes "I2" ∷ codes "I3" ∷ codes "I4" ∷
+    codes "I5" ∷ codes "I6" ∷ codes "I7" ∷ codes "I8" ∷ codes "I9" ∷ codes "L5" ∷ []
+
+-- how many of these names stand before one
+abbrev pub names_before : List (List ℕ) → List ℕ → ℕ
+names_before [] name = 0
+names_before (n ∷ ns) name = if bytes_eq n name then 0 else suc (names_before ns name)
 
 -- the row of the rule table
 abbrev pub row : Rule → ℕ
-row rule.L1 = 0
-row rule.S1 = 1
-row rule.S2 = 2
-row rule.S3 = 3
-row rule.S4 = 4
-row rule.S5 = 5
-row rule.U1 = 6
-row rule.U2 = 7
-row rule.G1 = 8
-row rule.L2 = 9
-row rule.G2 = 10
-row rule.N1 = 11
-row rule.N2 = 12
-row rule.N3 = 13
-row rule.N4 = 14
-row rule.N5 = 15
-row rule.N6 = 16
-row rule.N7 = 17
-row rule.N8 = 18
-row rule.L4 = 19
-row rule.Y1 = 20
-row rule.Y2 = 21
-row rule.Y3 = 22
-row rule.Y4 = 23
-row rule.Y5 = 24
-row rule.Y6 = 25
-row rule.Y7 = 26
-row rule.Y8 = 27
-row rule.Y9 = 28
-row rule.Y10 = 29
-row rule.Y11 = 30
-row rule.Y12 = 31
-row rule.Y13 = 32
-row rule.Y14 = 33
-row rule.L3 = 34
-row rule.L6 = 35
-row rule.I1 = 36
-row rule.I2 = 37
-row rule.I3 = 38
-row rule.I4 = 39
-row rule.I5 = 40
-row rule.I6 = 41
-row rule.I7 = 42
-row rule.I8 = 43
-row rule.I9 = 44
-row rule.L5 = 45
+row r = names_before rule_table (rule_name r)
 
 -- by place, and then by row
 abbrev pub refusal_cmp : Refusal → Refusal → Ordering

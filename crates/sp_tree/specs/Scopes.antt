@@ -117,20 +117,12 @@ empty_local = record {
 -- the standard names, which stand in a block around the program
 abbrev pub standard_scope : Scope
 standard_scope =
-    (codes "integer", meaning.Kind 0) ∷
-    (codes "boolean", meaning.Kind 1) ∷
-    (codes "char", meaning.Kind 2) ∷
-    (codes "false", meaning.Constant 0) ∷
-    (codes "true", meaning.Constant 1) ∷
-    (codes "maxint", meaning.Constant 2) ∷
-    (codes "abs", meaning.StandardFunction fn.Abs) ∷
-    (codes "sqr", meaning.StandardFunction fn.Sqr) ∷
-    (codes "odd", meaning.StandardFunction fn.Odd) ∷
-    (codes "ord", meaning.StandardFunction fn.Ord) ∷
-    (codes "chr", meaning.StandardFunction fn.Chr) ∷
-    (codes "succ", meaning.StandardFunction fn.Succ) ∷
-    (codes "pred", meaning.StandardFunction fn.Pred) ∷
-    (codes "eof", meaning.StandardFunction fn.Eof) ∷
+    (codes "integer", meaning.Kind 0) ∷ (codes "boolean", meaning.Kind 1) ∷ (codes "char", meaning.Kind 2) ∷
+    (codes "false", meaning.Constant 0) ∷ (codes "true", meaning.Constant 1) ∷ (codes "maxint", meaning.Constant 2) ∷
+    (codes "abs", meaning.StandardFunction fn.Abs) ∷ (codes "sqr", meaning.StandardFunction fn.Sqr) ∷
+    (codes "odd", meaning.StandardFunction fn.Odd) ∷ (codes "ord", meaning.StandardFunction fn.Ord) ∷
+    (codes "chr", meaning.StandardFunction fn.Chr) ∷ (codes "succ", meaning.StandardFunction fn.Succ) ∷
+    (codes "pred", meaning.StandardFunction fn.Pred) ∷ (codes "eof", meaning.StandardFunction fn.Eof) ∷
     (codes "eoln", meaning.StandardFunction fn.Eoln) ∷
     (codes "read", meaning.StandardProcedure procedure.Read) ∷
     (codes "readln", meaning.StandardProcedure procedure.Readln) ∷
