@@ -6,7 +6,7 @@ use Rattle.std.specs.Prelude.{Option, Some, None, slice_get}
 use Rattle.sp_journal.specs.declared.entry.Journal.{Journal}
 use Rattle.sp_journal.specs.Maps.{at_key}
 use Rattle.sp_journal.specs.Names.{Name, Channel, same_name, same_channel, Happening, Opened, Forked, Offered, Ended}
-use Rattle.sp_journal.specs.Names.{Faulted, Laid, Paused, Occurrence}
+use Rattle.sp_journal.specs.Names.{Occurrence}
 use Rattle.sp_journal.specs.Births.{occurrences}
 
 -- the set of indices that each process knows (its past), the pending offer of each channel with its index, how many

@@ -8,8 +8,7 @@ use Rattle.std.specs.Prelude.{[], ◌∷◌, Some, None}
 use Rattle.sp_meaning.specs.Model.{Name, Condition, Absent, Works, Waits, Joins, Ended, same_name}
 use Rattle.sp_meaning.specs.LocalWork.{RunInput, LocationContent, Address, Process}
 use Rattle.sp_meaning.specs.SuperPascal.{pauses_next}
-use Rattle.sp_meaning.specs.Entries.{Happening, Opened, Forked, Offered, Faulted, Laid, Paused, Occurrence, is_fault}
-use Rattle.sp_journal.specs.Names as happenings
+use Rattle.sp_meaning.specs.Entries.{Happening, Faulted, Laid, Paused, Occurrence, is_fault}
 use Rattle.sp_meaning.specs.Runs.{StateOf, start, running_process, next_state, happening_at}
 
 -- the first where the test holds, and else the second
@@ -111,11 +110,7 @@ module _ (g : RunInput) where
   EntryStep left c m paused q Laid n = (c.faulted ≡ true) × left (with_fault q c) m n
   EntryStep left c m paused q Paused n = (c.faulted ≡ false) × (paused ≡ true)
       × left (with_ticks q (ticks_of m q) c) m n
-  EntryStep left c m paused q (Forked count) n = KernelStep left c m paused q (Forked count) n
-  EntryStep left c m paused q Opened n = KernelStep left c m paused q Opened n
-  EntryStep left c m paused q (Offered w ch) n = KernelStep left c m paused q (Offered w ch) n
-  EntryStep left c m paused q happenings.Ended n = KernelStep left c m paused q happenings.Ended n
-  EntryStep left c m paused q (Faulted f) n = KernelStep left c m paused q (Faulted f) n
+  EntryStep left c m paused q what n = KernelStep left c m paused q what n
 
   -- the entry e from s on: its process is not laid. It makes local steps up to a middle state, and there the entry. All
   -- steps are n, and left says how it goes on after the entry

@@ -14,7 +14,7 @@ use Rattle.sp_code.specs.declared.code.ForkTable.{ForkTable}
 use Rattle.sp_code.specs.declared.code.Parts.{Parts}
 use Rattle.sp_code.specs.Machine.{layout_of}
 use Rattle.sp_code.specs.Memory.{Home, OfBlock, OfIndex}
-use Rattle.sp_verify_rules.specs.Areas.{Area, Body, Child, VariableInfo, Naming, Plainly, Never, ByReference, on_option}
+use Rattle.sp_verify_rules.specs.Areas.{Area, Body, Child, VariableInfo, Naming, Plainly, ByReference, on_option}
 use Rattle.sp_verify_rules.specs.Areas.{instr_at}
 use Rattle.sp_verify_rules.specs.Areas.{table_named, child_of, homes, variable_at, leads_by}
 use Rattle.sp_verify_rules.specs.Reach.{IsArea, IsInCodeOf, nexts}
