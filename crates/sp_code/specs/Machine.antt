@@ -107,12 +107,8 @@ pub data StepResult (M : Type 0) : Type 0 where
 -- no function is being called
 abbrev pub is_in_no_function : List Entry → Bool
 is_in_no_function [] = true
-is_in_no_function (Number v ∷ stack) = is_in_no_function stack
-is_in_no_function (Chan c ∷ stack) = is_in_no_function stack
-is_in_no_function (Pointer a ∷ stack) = is_in_no_function stack
-is_in_no_function (Cells cs ∷ stack) = is_in_no_function stack
-is_in_no_function (Link r ∷ stack) = is_in_no_function stack
 is_in_no_function (Reply r ∷ stack) = false
+is_in_no_function (e ∷ stack) = is_in_no_function stack
 
 -- how many values a forall's range has, or 2 ^ 64 - 1 where it has more
 abbrev pub values_in : ℤ → ℤ → ℕ
@@ -199,9 +195,8 @@ module _ {M : Type 0} where
 
   -- the ordinal in a cell, or F4; the channel, or F5
   abbrev pub ordinal_in : Cell → (ℤ → StepResult M) → StepResult M
-  ordinal_in cell.Undefined go = Fails fault.F4
   ordinal_in (cell.Ordinal v) go = go v
-  ordinal_in (cell.Channel c) go = Fails fault.F4
+  ordinal_in _ _ = Fails fault.F4
 
   -- on with the channel in a cell, or F5
   abbrev pub channel_in : Cell → (ℕ → StepResult M) → StepResult M

@@ -15,7 +15,7 @@ use Rattle.sp_cell.specs.Lists.{splice, part}
 use Rattle.sp_code.specs.declared.code.Layout.{Layout}
 use Rattle.sp_code.specs.declared.code.Parts.{Parts}
 pub use Rattle.sp_tree.specs.Around.{reference_target}
-use Rattle.sp_code.specs.Machine.{Entry, Number, Chan, Pointer, Cells, Link, Reply, MemoryResult, Done, Failed, Ops}
+use Rattle.sp_code.specs.Machine.{Entry, Number, Chan, Pointer, Cells, MemoryResult, Done, Failed, Ops}
 use Rattle.sp_code.specs.Machine.{Config, At}
 use Rattle.sp_code.specs.Machine.{layout_of}
 
@@ -106,12 +106,8 @@ deref_in (f ∷ fs) var = reference_target var f.references
 -- the addresses among arguments, by the numbers of their parameters, from k on
 abbrev pub references : ℕ → List Entry → List (ℕ × Address)
 references k [] = []
-references k (Number v ∷ es) = references (suc k) es
-references k (Chan c ∷ es) = references (suc k) es
 references k (Pointer a ∷ es) = (k, a) ∷ references (suc k) es
-references k (Cells cs ∷ es) = references (suc k) es
-references k (Link r ∷ es) = references (suc k) es
-references k (Reply r ∷ es) = references (suc k) es
+references k (e ∷ es) = references (suc k) es
 
 -- the cells of a layout's frame; a block that is not there has none
 abbrev pub sizes_of : Option Layout → List ℕ
@@ -198,10 +194,8 @@ module _ {S : Type 0} (stores : Stores S) where
   with_arguments n k [] s = s
   with_arguments n k (Number v ∷ es) s = with_arguments n (suc k) es (put_cell (cell_at n k) (cell.Ordinal v) s)
   with_arguments n k (Chan c ∷ es) s = with_arguments n (suc k) es (put_cell (cell_at n k) (cell.Channel c) s)
-  with_arguments n k (Pointer a ∷ es) s = with_arguments n (suc k) es s
   with_arguments n k (Cells cs ∷ es) s = with_arguments n (suc k) es (put_cells (cell_at n k) cs s)
-  with_arguments n k (Link r ∷ es) s = with_arguments n (suc k) es s
-  with_arguments n k (Reply r ∷ es) s = with_arguments n (suc k) es s
+  with_arguments n k (e ∷ es) s = with_arguments n (suc k) es s
 
   module _ (g : CodeRun) where
     -- the memory after a call of a block whose enclosing frame is so many levels outward

@@ -214,7 +214,6 @@ blocks_texts (k ∷ ks) = texts_of k.body ++ blocks_texts ks
 
 -- a parameter of a role, whose type has so many cells
 abbrev pub formal_of : Role → ℕ → Formal
-formal_of role.Value n = formal.Value n
 formal_of role.Reference n = formal.Reference n
 formal_of _ n = formal.Value n
 

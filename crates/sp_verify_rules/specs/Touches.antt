@@ -1,6 +1,6 @@
 -- Some of this belongs to what the program promises (docs/promise.txt).
 -- The variables that one instruction stores and loads, by the shapes of its operands, and what it needs of the memory.
-use Rattle.std.specs.Prelude.{◌≡◌, ℕ, zero, suc, ◌≤◌, List, [], ◌∷◌, ◌++◌, Option, Some, None, true, length, nat_le}
+use Rattle.std.specs.Prelude.{◌≡◌, ℕ, suc, ◌≤◌, List, [], ◌∷◌, ◌++◌, Option, Some, None, true, length, nat_le}
 use Rattle.std.specs.Prelude.{IsSome}
 use Rattle.sp_tree.specs.Interference.{IsMember}
 use Rattle.sp_cell.specs.declared.spot.Address.{Address}
@@ -11,7 +11,7 @@ use Rattle.sp_code.specs.declared.code.Parts.{Parts}
 use Rattle.sp_code.specs.Machine.{layout_of}
 use Rattle.sp_code.specs.Memory.{CodeRun, Stores, Memory, memory}
 use Rattle.sp_verify_rules.specs.Areas.{Area, Body, VariableInfo, on_option, variable_at}
-use Rattle.sp_verify_rules.specs.Shapes.{Shape, O, C, L, A, below_topmost}
+use Rattle.sp_verify_rules.specs.Shapes.{Shape, A, below_topmost}
 use Rattle.sp_verify_rules.specs.Extents.{HasWhole}
 
 -- the variable of the topmost operand, if it is an address
@@ -21,12 +21,9 @@ topmost_variable _ = []
 
 -- the variables of the addresses among the n topmost
 abbrev pub addresses : ℕ → List Shape → List ℕ
-addresses zero ss = []
-addresses (suc n) [] = []
-addresses (suc n) (O ∷ ss) = addresses n ss
-addresses (suc n) (C ∷ ss) = addresses n ss
-addresses (suc n) (L k ∷ ss) = addresses n ss
 addresses (suc n) (A x k ∷ ss) = x ∷ addresses n ss
+addresses (suc n) (s ∷ ss) = addresses n ss
+addresses _ _ = []
 
 abbrev pub number_list : Option VariableInfo → List ℕ
 number_list None = []
