@@ -39,14 +39,14 @@ pub struct Entry {
 }
 
 /// The one record of a run: its events in their order.
-#[derive(Debug, Drop, PartialEq, Eq)]
+#[derive(Drop, PartialEq, Eq)]
 pub struct Journal {
     pub entries: List<Entry>,
 }
 
 /// How a process came to be: by which process, which of that one's forks, and as which child of it. Forks and
 /// children count from 0.
-#[derive(Clone, Copy, Debug, PartialEq, Eq)]
+#[derive(Clone, Copy)]
 pub struct Birth {
     pub parent: u32,
     pub fork: u32,
@@ -54,7 +54,7 @@ pub struct Birth {
 }
 
 /// How a channel came to be: by which process, and how many channels that one had opened before.
-#[derive(Clone, Copy, Debug, PartialEq, Eq)]
+#[derive(Clone, Copy)]
 pub struct Opening {
     pub owner: u32,
     pub nth: u32,
@@ -62,7 +62,7 @@ pub struct Opening {
 
 /// What happened while the kernel was asked once: the worker that asked, the process that it gave back, the event
 /// that this made, and the process that it got. A note with neither an event nor a process got is an abandon.
-#[derive(Clone, Copy, Debug, PartialEq, Eq)]
+#[derive(Clone, Copy)]
 pub struct Note {
     pub worker: u32,
     pub given: Option<u32>,

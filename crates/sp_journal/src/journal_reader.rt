@@ -13,7 +13,7 @@ use std::alloc::Global;
 use thiserror::Error;
 
 /// Why bytes are not read as a journal.
-#[derive(Clone, Copy, Debug, PartialEq, Eq, Error)]
+#[derive(Clone, Copy, Debug, Error)]
 pub enum ReadError {
     /// This line, counted from 1, is the first that is not the text of a next entry: the first line is no heading,
     /// or a later one, with its line feed, is the text of no entry that can come next.

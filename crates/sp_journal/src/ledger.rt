@@ -14,7 +14,7 @@ use std::collections::HashMap;
 pub(crate) const NUMBERS: u64 = 4_294_967_296;
 
 /// The children of one fork. They have the numbers from `first` on.
-#[derive(Clone, Copy, Debug)]
+#[derive(Clone, Copy)]
 pub(crate) struct Family {
     first: u64,
     parent: u32,
@@ -22,7 +22,7 @@ pub(crate) struct Family {
 }
 
 /// How many forks and opens a process has made.
-#[derive(Clone, Copy, Debug)]
+#[derive(Clone, Copy)]
 pub(crate) struct Made {
     pub(crate) forks: u64,
     pub(crate) opens: u64,

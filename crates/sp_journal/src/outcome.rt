@@ -4,7 +4,7 @@ use crate::entry::Way;
 use sp_base::{ChanName, Fault, List, ProcName};
 
 /// A process that waits at the end of a run, and for what.
-#[derive(Debug, Drop, PartialEq, Eq)]
+#[derive(Drop)]
 pub struct Waiter {
     pub process: ProcName,
     pub way: Way,
@@ -12,7 +12,7 @@ pub struct Waiter {
 }
 
 /// How a run ends.
-#[derive(Debug, Drop, PartialEq, Eq)]
+#[derive(Drop)]
 pub enum End {
     /// The root ended.
     Done,
@@ -25,7 +25,7 @@ pub enum End {
 }
 
 /// Whether the result of a run depends on the schedule.
-#[derive(Debug, Drop, PartialEq, Eq)]
+#[derive(Drop, PartialEq, Eq)]
 pub enum Verdict {
     /// It does not.
     Ordered,

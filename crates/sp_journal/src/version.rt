@@ -6,7 +6,7 @@ ghost use Rattle.sp_journal.specs.Texts.{CanHold};
 use crate::entry::Event;
 
 /// A version of the text. Version 1 has no `pause`.
-#[derive(Clone, Copy, Debug, PartialEq, Eq)]
+#[derive(Clone, Copy)]
 pub enum Version {
     One,
     Two,
