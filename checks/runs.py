@@ -68,7 +68,6 @@ OPEN = {
     "sp_history/proofs/Orders": "orderly_fewer",
     "sp_history/proofs/OutProcesses": "fewer_out",
     "sp_journal/proofs/Walk": "event_birth",
-    "sp_journal/specs/Births": "births_after_event",
     "sp_kernel/proofs/SortedWaiters": "with_more",
     "sp_kernel/specs/Ends": "left_in",
     "sp_lines/proofs/StatementMarks": "form_stands",
