@@ -58,7 +58,7 @@ pub fn absolute_of(n: i64) -> Result<i64, Fault>
 pub fn square_of(n: i64) -> Result<i64, Fault>
     ensures { operator_result result ≡ square n }
 {
-    in_range(n as i128 * n as i128)
+    product(n, n)
 }
 
 /// Whether the number is odd: 1 for true, 0 for false.

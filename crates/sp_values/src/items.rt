@@ -3,7 +3,7 @@
 
 ghost use Rattle.std.specs.Prelude.{◌≡◌, ◌+◌, ◌<◌, ◌≤◌, ◌^◌, MatchOption, length, take, if◌then◌else◌};
 ghost use Rattle.sp_tree.specs.Characters.{is_blank, is_digit};
-ghost use Rattle.sp_tree.specs.Items.{blanks, digits, number_from, signed_integer, number_in, number_after};
+ghost use Rattle.sp_tree.specs.Items.{blanks, digits, number_from, number_in, number_after};
 ghost use Rattle.sp_tree.specs.Items.{digits_after};
 ghost use Rattle.sp_tree.specs.Items.{char_in, line_length, at_line_end, truth_text, byte};
 ghost use Rattle.sp_values.specs.ReadResults.{read_result_of};
@@ -78,14 +78,6 @@ fn number_of(digits: &[u8]) -> Option<u64>
     Some(n)
 }
 
-fn signed(minus: bool, n: u64) -> i64
-    requires { n < 2 ^ 63 }
-    ensures { result ≡ signed_integer minus n }
-{
-    let n = n as i64;
-    if minus { -n } else { n }
-}
-
 /// The number of the digits that stand first, after so many bytes: F17 without a digit, F2 outside the integers.
 fn digits_after(before: usize, minus: bool, bytes: &[u8]) -> ReadResult
     requires { before + length bytes.now < 2 ^ 64 }
@@ -96,7 +88,10 @@ fn digits_after(before: usize, minus: bool, bytes: &[u8]) -> ReadResult
         return ReadResult::ReadFault(Fault::F17);
     }
     match number_of(&bytes[..count]) {
-        Some(n) => ReadResult::ReadItem(signed(minus, n), before + count),
+        Some(n) => {
+            let n = n as i64;
+            ReadResult::ReadItem(if minus { -n } else { n }, before + count)
+        }
         None => ReadResult::ReadFault(Fault::F2),
     }
 }
