@@ -233,11 +233,10 @@ room_of s new rest x (Again w q) = ap room_in q
 room_of s new rest x (Other k w d q) = ap room_in q
 
 pub compared : (s new : Search) (rest : List Arrival) (x : Arrival) → s.arrivals ≡ rest ++ x ∷ []
-    → Places (record s { arrivals = rest }) new x → ComparesOne s new true
+    → Places (record s { arrivals = rest }) new x → ComparesOne s new
 compared s new rest x last pl = record {
   keeps = λ c v1 w. (w.0, placed c v1 w.0 s rest x last w.1 new pl);
-  less = λ e. (let a = ap length last in let b = length_push rest x in let d = ap length (rest_of s new rest x pl) in
+  less = (let a = ap length last in let b = length_push rest x in let d = ap length (rest_of s new rest x pl) in
       omega (arith, a, b, d));
-  none = λ e. absurd (cc e);
   room = room_of s new rest x pl;
 }

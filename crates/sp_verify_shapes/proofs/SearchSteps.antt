@@ -1,5 +1,5 @@
 -- One instruction is stepped from: what is kept stays true.
-use Rattle.std.proofs.Common.{◌≡◌, ◌⊎◌, ◌≢◌, inl, inr, ⊎_elim, refl, ap, sym, ◌∙◌, subst, ℕ, suc, ◌<◌, ◌≤◌, List}
+use Rattle.std.proofs.Common.{◌≡◌, ◌⊎◌, ◌≢◌, inl, inr, ⊎_elim, refl, ap, sym, ◌∙◌, subst, ℕ, suc, ◌<◌, List}
 use Rattle.std.proofs.Common.{[], ◌∷◌, ◌++◌, length, Option, Some, None, Bool, true, false, arith}
 use Rattle.std.specs.Prelude.{slice_get, slice_set}
 use Rattle.std.proofs.lemmas.List.{length-set, length_push}
@@ -271,11 +271,6 @@ module _ (c : Parts) (v1 : KeepsV1 c) (n : ℕ) (s : Search) (rest : List ℕ) (
   step_keeps new (BringsOn k st first second taken q) = subst (WhileStepping c n) (sym q)
       (goes_on k st first second taken)
 
-  -- an instruction that is not there has no list
-  pub past_keeps : length c.instrs ≤ p → WhileStepping c n left
-  past_keeps past = only_rest
-      (λ k w. absurd (let l = slice_get_within s.at p (Some k) w in let a = h.sound.size in omega (arith, l, a, past)))
-
 -- ---- one after the other
 
 -- whatever is found at p, only p is taken from those that wait, and no list is put at an instruction
@@ -289,24 +284,15 @@ left_of c s new rest p (BringsOn k st first second taken q) =
 
 module _ (c : Parts) (v1 : KeepsV1 c) (s : Search) (rest : List ℕ) (p : ℕ) (last : s.frontier ≡ rest ++ p ∷ [])
     (h : AreStepped c s) where
-  pub walks_one : (new : Search) → WalkOutcome c (record s { frontier = rest }) new p → WalksOne c s new true
+  pub walks_one : (new : Search) → WalkOutcome c (record s { frontier = rest }) new p → WalksOne c s new
   walks_one new outcome =
       let (frontier_is, position_is) = left_of c s new rest p outcome in
       record {
         stepped = (h.0, step_keeps c v1 h.0 s rest p last h.1 new outcome);
-        less = λ e. (let a = ap length last in let b = length_push rest p in let d = ap length frontier_is in
+        less = (let a = ap length last in let b = length_push rest p in let d = ap length frontier_is in
             omega (arith, a, b, d));
-        still = λ e. absurd (cc e);
         position_is = position_is;
       }
-
-  pub walks_past : length c.instrs ≤ p → WalksOne c s (record s { frontier = rest }) true
-  walks_past past = record {
-    stepped = (h.0, past_keeps c v1 h.0 s rest p last h.1 past);
-    less = λ e. (let a = ap length last in let b = length_push rest p in omega (arith, a, b));
-    still = λ e. absurd (cc e);
-    position_is = refl;
-  }
 
   pub sane : IsSane c (record s { frontier = rest })
   sane = record { stacks = h.1.sound.stacks; size = h.1.sound.size; held = h.1.sound.held }

@@ -128,11 +128,10 @@ pub data Places (old new : Search) (x : Arrival) : Type 0 where
   Other : (k : ℕ) → HasAt old x.at k → k ≢ x.list → new ≡ record old { broken = slice_set old.broken x.at true }
       → Places old new x
 
--- one is compared, if there is one
-pub record ComparesOne (old new : Search) (more : Bool) : Type 0 where
+-- one is compared
+pub record ComparesOne (old new : Search) : Type 0 where
   pub keeps : (c : Parts) → KeepsV1 c → AreCompared c old → AreCompared c new
-  pub less : more ≡ true → length new.arrivals < length old.arrivals
-  pub none : more ≡ false → new.arrivals ≡ []
+  pub less : length new.arrivals < length old.arrivals
   pub room : room new + length new.frontier ≡ room old + length old.frontier
 
 -- all are
@@ -175,11 +174,10 @@ pub record IsSane (c : Parts) (s : Search) : Type 0 where
   pub size : length s.at ≡ length c.instrs
   pub held : (p k : ℕ) → HasAt s p k → IsListNumber s.stacks k
 
--- one is stepped from, if one waits
-pub record WalksOne (c : Parts) (old new : Search) (more : Bool) : Type 0 where
+-- one is stepped from
+pub record WalksOne (c : Parts) (old new : Search) : Type 0 where
   pub stepped : AreStepped c new
-  pub less : more ≡ true → length new.frontier < length old.frontier
-  pub still : more ≡ false → new.frontier ≡ []
+  pub less : length new.frontier < length old.frontier
   pub position_is : new.at ≡ old.at
 
 -- all are

@@ -64,16 +64,13 @@ fn stays_within(stacks: &Stacks, instr: Instr, n: u32) -> bool
             below(stacks, n),
             span(low, high) * size as u128,
         ),
-        Instr::Field(k) => has_left(stacks, n, k as u128),
-        Instr::Load => has_left(stacks, n, 1),
-        Instr::Loadc => has_left(stacks, n, 1),
+        Instr::Field(k) | Instr::Pack(k) => has_left(stacks, n, k as u128),
+        Instr::Load | Instr::Loadc | Instr::ReadInt | Instr::ReadChar | Instr::Open => has_left(
+            stacks, n, 1,
+        ),
         Instr::Store => has_left(stacks, below(stacks, n), 1),
         Instr::Copy(k) => has_left(stacks, n, k as u128)
             && has_left(stacks, below(stacks, n), k as u128),
-        Instr::Pack(k) => has_left(stacks, n, k as u128),
-        Instr::ReadInt => has_left(stacks, n, 1),
-        Instr::ReadChar => has_left(stacks, n, 1),
-        Instr::Open => has_left(stacks, n, 1),
         _ => true,
     }
 }

@@ -5,11 +5,8 @@ ghost use Rattle.sp_verify_areas.specs.Blocks.{IsNumbered};
 ghost use Rattle.sp_verify_areas.specs.Homes.{AreHomes, found_of};
 ghost use Rattle.sp_verify_areas.specs.Only.{LiesOnlyIn};
 ghost use Rattle.sp_verify_rules.specs.Areas.{Area};
-ghost use Rattle.sp_verify_shapes.specs.Plans.{address_plan, layout_call_plan, compare_plan, fill_plan, last_plan};
-ghost use Rattle.sp_verify_shapes.specs.Plans.{plan_of_parts, one_gone, one_to_one};
-ghost use Rattle.sp_verify_shapes.specs.Plans.{pair_gone, plain_plan, plan_at, push_plan, read_plan, straight_plan};
-ghost use Rattle.sp_verify_shapes.specs.Plans.{two_gone};
-ghost use Rattle.sp_verify_shapes.specs.Plans.{two_to_one};
+ghost use Rattle.sp_verify_shapes.specs.Plans.{address_plan, layout_call_plan, plain_plan, plan_at, plan_of_parts};
+ghost use Rattle.sp_verify_shapes.specs.declared.plans.Successor.TheVariants as goes;
 
 use crate::stacks::Shape;
 use sp_code::{Code, Instr, Layout};
@@ -76,123 +73,14 @@ pub struct Plan {
     pub goes: Successor,
 }
 
-fn straight() -> Plan
-    ensures { result ≡ straight_plan }
+// Takes and leaves this, and goes on to the next instruction.
+fn onward(takes: Takes, leaves: Leaves) -> Plan
+    ensures { result ≡ plan_of_parts takes leaves goes.FallThrough }
 {
     Plan {
-        takes: Takes::Nothing,
-        leaves: Leaves::Nothing,
+        takes,
+        leaves,
         goes: Successor::FallThrough,
-    }
-}
-
-fn pushed(shape: Shape) -> Plan
-    ensures { result ≡ push_plan shape }
-{
-    Plan {
-        takes: Takes::Nothing,
-        leaves: Leaves::One(shape),
-        goes: Successor::FallThrough,
-    }
-}
-
-fn two_to_one() -> Plan
-    ensures { result ≡ two_to_one }
-{
-    Plan {
-        takes: Takes::Two(OperandKind::Ordinal, OperandKind::Ordinal),
-        leaves: Leaves::One(Shape::Ordinal),
-        goes: Successor::FallThrough,
-    }
-}
-
-fn one_to_one() -> Plan
-    ensures { result ≡ one_to_one }
-{
-    Plan {
-        takes: Takes::One(OperandKind::Ordinal),
-        leaves: Leaves::One(Shape::Ordinal),
-        goes: Successor::FallThrough,
-    }
-}
-
-fn one_gone() -> Plan
-    ensures { result ≡ one_gone }
-{
-    Plan {
-        takes: Takes::One(OperandKind::Ordinal),
-        leaves: Leaves::Nothing,
-        goes: Successor::FallThrough,
-    }
-}
-
-fn two_gone() -> Plan
-    ensures { result ≡ two_gone }
-{
-    Plan {
-        takes: Takes::Two(OperandKind::Ordinal, OperandKind::Ordinal),
-        leaves: Leaves::Nothing,
-        goes: Successor::FallThrough,
-    }
-}
-
-fn read(shape: Shape) -> Plan
-    ensures { result ≡ read_plan shape }
-{
-    Plan {
-        takes: Takes::One(OperandKind::Address),
-        leaves: Leaves::One(shape),
-        goes: Successor::FallThrough,
-    }
-}
-
-fn filled() -> Plan
-    ensures { result ≡ fill_plan }
-{
-    Plan {
-        takes: Takes::One(OperandKind::Address),
-        leaves: Leaves::Nothing,
-        goes: Successor::FallThrough,
-    }
-}
-
-fn pair_gone(upper: OperandKind, lower: OperandKind) -> Plan
-    ensures { result ≡ pair_gone upper lower }
-{
-    Plan {
-        takes: Takes::Two(upper, lower),
-        leaves: Leaves::Nothing,
-        goes: Successor::FallThrough,
-    }
-}
-
-fn compared() -> Plan
-    ensures { result ≡ compare_plan }
-{
-    Plan {
-        takes: Takes::Same,
-        leaves: Leaves::One(Shape::Ordinal),
-        goes: Successor::FallThrough,
-    }
-}
-
-fn last() -> Plan
-    ensures { result ≡ last_plan }
-{
-    Plan {
-        takes: Takes::Last,
-        leaves: Leaves::Nothing,
-        goes: Successor::Nowhere,
-    }
-}
-
-fn led(takes: Takes, leaves: Leaves, goes: Successor) -> Plan
-    ensures { result ≡ plan_of_parts takes leaves goes }
-{
-    Plan {
-        takes: takes,
-        leaves: leaves,
-        goes: goes,
     }
 }
 
@@ -201,103 +89,118 @@ fn plain(instr: Instr) -> Plan
     ensures { result ≡ plain_plan instr }
 {
     match instr {
-        Instr::Const(_) => pushed(Shape::Ordinal),
+        Instr::Const(_) | Instr::Eof | Instr::Eoln => onward(
+            Takes::Nothing,
+            Leaves::One(Shape::Ordinal),
+        ),
         Instr::Index {
             low: _,
             high: _,
             size,
-        } => led(
+        } => onward(
             Takes::Two(OperandKind::Ordinal, OperandKind::Address),
             Leaves::Inside(size),
-            Successor::FallThrough,
         ),
-        Instr::Field(k) => led(
+        Instr::Field(k) => onward(Takes::One(OperandKind::Address), Leaves::Further(k)),
+        Instr::Load => onward(
             Takes::One(OperandKind::Address),
-            Leaves::Further(k),
-            Successor::FallThrough,
+            Leaves::One(Shape::Ordinal),
         ),
-        Instr::Load => read(Shape::Ordinal),
-        Instr::Loadc => read(Shape::Channel),
-        Instr::Store => pair_gone(OperandKind::Value, OperandKind::Address),
-        Instr::Copy(_) => pair_gone(OperandKind::Address, OperandKind::Address),
-        Instr::Add => two_to_one(),
-        Instr::Sub => two_to_one(),
-        Instr::Mul => two_to_one(),
-        Instr::Div => two_to_one(),
-        Instr::Mod => two_to_one(),
-        Instr::Neg => one_to_one(),
-        Instr::Abs => one_to_one(),
-        Instr::Sqr => one_to_one(),
-        Instr::Odd => one_to_one(),
-        Instr::And => two_to_one(),
-        Instr::Or => two_to_one(),
-        Instr::Not => one_to_one(),
-        Instr::Eq => compared(),
-        Instr::Ne => compared(),
-        Instr::Lt => two_to_one(),
-        Instr::Le => two_to_one(),
-        Instr::Gt => two_to_one(),
-        Instr::Ge => two_to_one(),
-        Instr::Range { low: _, high: _ } => one_to_one(),
-        Instr::Succ(_) => one_to_one(),
-        Instr::Pred(_) => one_to_one(),
-        Instr::Jump(to) => led(Takes::Nothing, Leaves::Nothing, Successor::There(to)),
-        Instr::Jumpf(to) => led(
-            Takes::One(OperandKind::Ordinal),
+        Instr::Loadc => onward(
+            Takes::One(OperandKind::Address),
+            Leaves::One(Shape::Channel),
+        ),
+        Instr::Pack(k) => onward(
+            Takes::One(OperandKind::Address),
+            Leaves::One(Shape::Cells(k)),
+        ),
+        Instr::ReadInt | Instr::ReadChar | Instr::Open => onward(
+            Takes::One(OperandKind::Address),
             Leaves::Nothing,
-            Successor::Either(to),
         ),
-        Instr::Casej { value: _, to } => led(
-            Takes::One(OperandKind::Ordinal),
-            Leaves::One(Shape::Ordinal),
-            Successor::Past(to),
+        Instr::Store => onward(
+            Takes::Two(OperandKind::Value, OperandKind::Address),
+            Leaves::Nothing,
         ),
-        Instr::Nocase => one_gone(),
-        Instr::Tick => straight(),
-        Instr::Assume => one_gone(),
-        Instr::Forup { var: _, to } => led(
+        Instr::Copy(_) => onward(
+            Takes::Two(OperandKind::Address, OperandKind::Address),
+            Leaves::Nothing,
+        ),
+        Instr::Send(_) => onward(
+            Takes::Two(OperandKind::Message, OperandKind::Channel),
+            Leaves::Nothing,
+        ),
+        Instr::Receive(_) => onward(
+            Takes::Two(OperandKind::Address, OperandKind::Channel),
+            Leaves::Nothing,
+        ),
+        Instr::Add
+        | Instr::Sub
+        | Instr::Mul
+        | Instr::Div
+        | Instr::Mod
+        | Instr::And
+        | Instr::Or
+        | Instr::Lt
+        | Instr::Le
+        | Instr::Gt
+        | Instr::Ge => onward(
             Takes::Two(OperandKind::Ordinal, OperandKind::Ordinal),
             Leaves::One(Shape::Ordinal),
-            Successor::Past(to),
         ),
-        Instr::Fordown { var: _, to } => led(
+        Instr::Neg
+        | Instr::Abs
+        | Instr::Sqr
+        | Instr::Odd
+        | Instr::Not
+        | Instr::Range { low: _, high: _ }
+        | Instr::Succ(_)
+        | Instr::Pred(_) => onward(
+            Takes::One(OperandKind::Ordinal),
+            Leaves::One(Shape::Ordinal),
+        ),
+        Instr::Eq | Instr::Ne => onward(Takes::Same, Leaves::One(Shape::Ordinal)),
+        Instr::Nocase
+        | Instr::Assume
+        | Instr::WriteInt
+        | Instr::WriteChar
+        | Instr::WriteBool
+        | Instr::WritewText(_) => onward(Takes::One(OperandKind::Ordinal), Leaves::Nothing),
+        Instr::WritewInt | Instr::WritewChar | Instr::WritewBool | Instr::Forall(_) => onward(
             Takes::Two(OperandKind::Ordinal, OperandKind::Ordinal),
-            Leaves::One(Shape::Ordinal),
-            Successor::Past(to),
+            Leaves::Nothing,
         ),
-        Instr::Nextup { var: _, to } => led(
-            Takes::One(OperandKind::Ordinal),
-            Leaves::One(Shape::Ordinal),
-            Successor::Back(to),
-        ),
-        Instr::Nextdown { var: _, to } => led(
-            Takes::One(OperandKind::Ordinal),
-            Leaves::One(Shape::Ordinal),
-            Successor::Back(to),
-        ),
-        Instr::Return => last(),
-        Instr::ReadInt => filled(),
-        Instr::ReadChar => filled(),
-        Instr::Readln => straight(),
-        Instr::Eof => pushed(Shape::Ordinal),
-        Instr::Eoln => pushed(Shape::Ordinal),
-        Instr::WriteInt => one_gone(),
-        Instr::WriteChar => one_gone(),
-        Instr::WriteBool => one_gone(),
-        Instr::WriteText(_) => straight(),
-        Instr::WritewInt => two_gone(),
-        Instr::WritewChar => two_gone(),
-        Instr::WritewBool => two_gone(),
-        Instr::WritewText(_) => one_gone(),
-        Instr::Writeln => straight(),
-        Instr::Pack(k) => read(Shape::Cells(k)),
-        Instr::Open => filled(),
-        Instr::Send(_) => pair_gone(OperandKind::Message, OperandKind::Channel),
-        Instr::Receive(_) => pair_gone(OperandKind::Address, OperandKind::Channel),
-        Instr::Fork(_) => straight(),
-        Instr::Forall(_) => two_gone(),
-        Instr::End => last(),
-        _ => straight(),
+        Instr::Jump(to) => Plan {
+            takes: Takes::Nothing,
+            leaves: Leaves::Nothing,
+            goes: Successor::There(to),
+        },
+        Instr::Jumpf(to) => Plan {
+            takes: Takes::One(OperandKind::Ordinal),
+            leaves: Leaves::Nothing,
+            goes: Successor::Either(to),
+        },
+        Instr::Casej { value: _, to } => Plan {
+            takes: Takes::One(OperandKind::Ordinal),
+            leaves: Leaves::One(Shape::Ordinal),
+            goes: Successor::Past(to),
+        },
+        Instr::Forup { var: _, to } | Instr::Fordown { var: _, to } => Plan {
+            takes: Takes::Two(OperandKind::Ordinal, OperandKind::Ordinal),
+            leaves: Leaves::One(Shape::Ordinal),
+            goes: Successor::Past(to),
+        },
+        Instr::Nextup { var: _, to } | Instr::Nextdown { var: _, to } => Plan {
+            takes: Takes::One(OperandKind::Ordinal),
+            leaves: Leaves::One(Shape::Ordinal),
+            goes: Successor::Back(to),
+        },
+        Instr::Return | Instr::End => Plan {
+            takes: Takes::Last,
+            leaves: Leaves::Nothing,
+            goes: Successor::Nowhere,
+        },
+        _ => onward(Takes::Nothing, Leaves::Nothing),
     }
 }
 
@@ -307,10 +210,13 @@ fn addressed(found: Option<Found>) -> Option<Plan>
 {
     match found {
         None => None,
-        Some(f) => Some(pushed(Shape::Address {
-            variable: f.number,
-            left: f.cells,
-        })),
+        Some(f) => Some(onward(
+            Takes::Nothing,
+            Leaves::One(Shape::Address {
+                variable: f.number,
+                left: f.cells,
+            }),
+        )),
     }
 }
 
@@ -323,7 +229,7 @@ fn calling(l: &Layout) -> Plan
     } else {
         Leaves::Nothing
     };
-    led(Takes::Many(l.formals.len()), leaves, Successor::FallThrough)
+    onward(Takes::Many(l.formals.len()), leaves)
 }
 
 /// What an instruction does that stands at p in one area alone; None where what it names is not there.

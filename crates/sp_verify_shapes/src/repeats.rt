@@ -66,50 +66,35 @@ fn is_repeat(code: &Code, owners: &List<Owner>, shapes: &Shapes, p: u32, q: u32)
     have_one_owner(owners, p, q)
 }
 
+// No child has this number.
+const NO_CHILD: usize = 4_294_967_295;
+
 // What calls are known by: the block, the list and the owner.
-fn key_of(block: u32, list: u32, owner: Owner) -> (u32, u32, u32, usize) {
-    match owner {
-        Owner::Child { at, child } => (block, list, at, child),
-        Owner::Block(b) => (block, list, b, 4_294_967_295),
-        _ => (block, list, 0, 4_294_967_295),
-    }
-}
+type Key = (u32, u32, u32, usize);
 
-// The call that is known by a key; if there is none, p is from now on.
-fn remember(
-    known: &mut BTreeMap<(u32, u32, u32, usize), u32>,
-    key: (u32, u32, u32, usize),
-    p: u32,
-) -> Result<Option<u32>, Memory> {
-    match known.get(&key).copied() {
-        Some(q) => Ok(Some(q)),
-        None => {
-            have!(known.insert(key, p));
-            Ok(None)
-        }
-    }
-}
-
-// An earlier call that the one at p may repeat. It has no contract: whether p does repeat it is seen afterwards.
+// An earlier call that the one at p may repeat. If there is none, p is known from now on. It has no contract: whether p
+// does repeat it is seen afterwards.
 fn earlier_call(
     code: &Code,
     owners: &List<Owner>,
     shapes: &Shapes,
-    known: &mut BTreeMap<(u32, u32, u32, usize), u32>,
+    known: &mut BTreeMap<Key, u32>,
     p: u32,
 ) -> Result<Option<u32>, Memory> {
-    let block = match called_block(code, p) {
-        None => return Ok(None),
-        Some(block) => block,
+    let (Some(block), Some(list)) = (called_block(code, p), reached(shapes, p)) else {
+        return Ok(None);
     };
-    let list = match reached(shapes, p) {
+    let key = match owners.get(p as usize) {
         None => return Ok(None),
-        Some(list) => list,
+        Some(Owner::Child { at, child }) => (block, list, *at, *child),
+        Some(Owner::Block(b)) => (block, list, *b, NO_CHILD),
+        Some(_) => (block, list, 0, NO_CHILD),
     };
-    match owners.get(p as usize) {
-        None => Ok(None),
-        Some(owner) => remember(known, key_of(block, list, *owner), p),
+    let earlier = known.get(&key).copied();
+    if earlier.is_none() {
+        have!(known.insert(key, p));
     }
+    Ok(earlier)
 }
 
 // Whether the instruction at p is a call that repeats an earlier one.
@@ -117,7 +102,7 @@ fn repeats(
     code: &Code,
     owners: &List<Owner>,
     shapes: &Shapes,
-    known: &mut BTreeMap<(u32, u32, u32, usize), u32>,
+    known: &mut BTreeMap<Key, u32>,
     p: u32,
 ) -> Result<bool, Memory>
     ensures { IfOk result (λ b. b ≡ true → (q : ℕ) × Repeats code.now owners.now shapes.now p q) }

@@ -1,11 +1,11 @@
 //! Following all ways level by level, the shorter ones first.
 
-ghost use Rattle.std.specs.Prelude.{◌≡◌, ◌<◌, IfOk, OnOk, [], length, slice_get, slice_set, true};
+ghost use Rattle.std.specs.Prelude.{◌≡◌, OnOk, [], slice_get, slice_set, true};
 ghost use Rattle.sp_verify_areas.specs.Blocks.{IsNumbered};
 ghost use Rattle.sp_verify_areas.specs.Homes.{AreHomes};
-ghost use Rattle.sp_verify_shapes.specs.Search.{AreCompared, AreStepped, ComparesAll, ComparesOne, IsDoneSearch};
+ghost use Rattle.sp_verify_shapes.specs.Search.{AreCompared, AreStepped, ComparesAll, IsDoneSearch};
 ghost use Rattle.sp_verify_shapes.specs.Search.{IsSane};
-ghost use Rattle.sp_verify_shapes.specs.Search.{KeepsV1, Places, WalkOutcome, WalksAll, WalksOne, is_set, with_arrival};
+ghost use Rattle.sp_verify_shapes.specs.Search.{KeepsV1, Places, WalkOutcome, WalksAll, is_set, with_arrival};
 
 use crate::have;
 use crate::stacks::Stacks;
@@ -77,29 +77,14 @@ fn place(search: &mut Search, x: Arrival) -> Result<(), Memory>
     }
 }
 
-// Compares one list that was brought, if there is one.
-fn compare_one(search: &mut Search) -> Result<bool, Memory>
-    ensures { IfOk result (λ more. ComparesOne search.old search.new more) }
-{
-    match search.arrivals.pop() {
-        None => Ok(false),
-        Some(x) => {
-            have!(place(search, x));
-            Ok(true)
-        }
-    }
-}
-
-// Compares all.
+// Compares all lists that were brought.
 fn compare_all(search: &mut Search) -> Result<(), Memory>
     ensures { OnOk result (ComparesAll search.old search.new) }
 {
-    'arrivals: loop {
-        let more = have!(compare_one(search));
-        if !more {
-            return Ok(());
-        }
+    'arrivals: while let Some(x) = search.arrivals.pop() {
+        have!(place(search, x));
     }
+    Ok(())
 }
 
 // Has a list wait to be compared.
@@ -126,8 +111,6 @@ fn walk(
     requires blocks { IsNumbered blocks.now.first code.now.layouts }
     requires homes { AreHomes code.now homes.now }
     requires sane { IsSane code.now search.old }
-    requires there { p < length code.now.instrs }
-    requires small { p < 1048576 }
     ensures { OnOk result (WalkOutcome code.now search.old search.new p) }
 {
     if is_marked(&search.broken, p) {
@@ -138,6 +121,8 @@ fn walk(
         Some(None) => return Ok(()),
         Some(Some(k)) => k,
     };
+    // (an instruction that has a list is there, and code is small enough)
+    let _parts = code.parts();
     match have!(step_from(code, blocks, homes, &mut search.stacks, p, k)) {
         Step::Wrong => {
             mark(&mut search.broken, p);
@@ -150,32 +135,7 @@ fn walk(
     }
 }
 
-// Steps from one instruction that waits, if one does.
-fn walk_one(
-    code: &Code,
-    blocks: &Blocks,
-    homes: &Homes,
-    search: &mut Search,
-) -> Result<bool, Memory>
-    requires kept { KeepsV1 code.now }
-    requires blocks { IsNumbered blocks.now.first code.now.layouts }
-    requires homes { AreHomes code.now homes.now }
-    requires stepped { AreStepped code.now search.old }
-    ensures { IfOk result (λ more. WalksOne code.now search.old search.new more) }
-{
-    let count = code.parts().instrs.len();
-    match search.frontier.pop() {
-        None => Ok(false),
-        Some(p) => {
-            if (p as usize) < count {
-                have!(walk(code, blocks, homes, search, p));
-            }
-            Ok(true)
-        }
-    }
-}
-
-// Steps from all.
+// Steps from all instructions that wait.
 fn walk_all(code: &Code, blocks: &Blocks, homes: &Homes, search: &mut Search) -> Result<(), Memory>
     requires kept { KeepsV1 code.now }
     requires blocks { IsNumbered blocks.now.first code.now.layouts }
@@ -183,12 +143,10 @@ fn walk_all(code: &Code, blocks: &Blocks, homes: &Homes, search: &mut Search) ->
     requires stepped { AreStepped code.now search.old }
     ensures { OnOk result (WalksAll code.now search.old search.new) }
 {
-    'frontier: loop {
-        let more = have!(walk_one(code, blocks, homes, search));
-        if !more {
-            return Ok(());
-        }
+    'frontier: while let Some(p) = search.frontier.pop() {
+        have!(walk(code, blocks, homes, search, p));
     }
+    Ok(())
 }
 
 /// Goes on until nothing is left to be done.

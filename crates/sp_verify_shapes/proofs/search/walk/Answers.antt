@@ -1,8 +1,24 @@
-use Rattle.std.proofs.Common.{◌≡◌, sym, ap, Some}
+use Rattle.std.proofs.Common.{◌≡◌, length, sym, ap, Some, arith}
+use Rattle.std.proofs.lemmas.Option.{slice_get_within}
 use Rattle.sp_base.proofs.Facts.{on_map}
+use Rattle.sp_code.specs.declared.code.Parts.{Parts}
 use Rattle.sp_verify_shapes.specs.Search.{WalkOutcome, with_arrival}
 use Rattle.sp_verify_shapes.proofs.SearchSteps.{lacks_operands, brings_lists}
 use Rattle.sp_verify_shapes.proofs.search.walk.Goals as goal
+
+pub step_from-requires-clause-there : goal.step_from-requires-clause-there
+step_from-requires-clause-there c =
+    let l = slice_get_within c.args.search.now.at c.args.p c.in-Some-Some.field-0 (sym c.in-Some-Some.ensures) in
+    let s = c.requires.sane.size in
+    omega (arith, l, s)
+
+pub step_from-requires-clause-small : goal.step_from-requires-clause-small
+step_from-requires-clause-small c =
+    let l = slice_get_within c.args.search.now.at c.args.p c.in-Some-Some.field-0 (sym c.in-Some-Some.ensures) in
+    let s = c.requires.sane.size in
+    let k = c.parts-parts.ensures.sizes.instrs in
+    let e = ap (λ (z : Parts). length z.instrs) c.parts-parts.ensures.same in
+    omega (arith, l, s, k, e)
 
 pub returns-in-Wrong : goal.returns-in-Wrong
 returns-in-Wrong c =
