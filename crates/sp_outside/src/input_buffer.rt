@@ -3,7 +3,7 @@
 ghost use Rattle.std.specs.Prelude.{◌≡◌, ◌≤◌, ◌++◌, take, drop, length, min, vec_len};
 
 /// The bytes, and how many of them were given.
-#[derive(Debug, Drop)]
+#[derive(Drop)]
 pub struct InputBuffer {
     bytes: Vec<u8>,
     given: usize,

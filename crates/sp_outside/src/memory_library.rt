@@ -15,7 +15,7 @@ use std::alloc::Global;
 
 /// Files in memory, of which the first one under a name counts. It tells its bytes. The calls whose numbers, from 0,
 /// are in `failing` fail, and so does each call with a name that is not there. No other call does.
-#[derive(Debug, Drop)]
+#[derive(Drop)]
 pub struct MemoryLibrary {
     files: List<(Text, Text)>,
     plan: Plan,
@@ -52,10 +52,7 @@ impl Library for MemoryLibrary {
         ensures plan { self.new.plan ≡
             plan_after_call (fails_next self.old.plan || is_none (bytes_under self.old.files name.now)) self.old.plan }
     {
-        let fails = self.plan.fails();
-        self.plan.call();
-        if fails {
-            self.plan.fault();
+        if self.plan.call() {
             return Err(LoadError::Failed);
         }
         let Some(text) = find(self.files.items(), name) else {
@@ -67,7 +64,7 @@ impl Library for MemoryLibrary {
 }
 
 /// As a `MemoryLibrary` of which no call fails: under a name that is not in its files it holds the empty text.
-#[derive(Debug, Drop)]
+#[derive(Drop)]
 pub struct SureLibrary {
     files: List<(Text, Text)>,
 }

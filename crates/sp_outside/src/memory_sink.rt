@@ -14,7 +14,7 @@ use sp_base::List;
 /// Takes at most `most` bytes a call and copies them into the vector that it was given, whose length is its room.
 /// It tells what was put while all of it has fitted; once something does not fit, the rest is dropped and nothing is
 /// told any more. The calls whose numbers, from 0, are in `failing` fail, and no other. It takes no memory.
-#[derive(Debug, Drop)]
+#[derive(Drop)]
 pub struct MemorySink {
     buffer: OutputBuffer,
     most: usize,
@@ -72,10 +72,7 @@ impl Sink for MemorySink {
         ensures kept { IfOk result (λ n. IsPut self.old.buffer (take n piece.now) self.new.buffer) }
         ensures same { OnErr result (self.new.buffer ≡ self.old.buffer) }
     {
-        let fails = self.plan.fails();
-        self.plan.call();
-        if fails {
-            self.plan.fault();
+        if self.plan.call() {
             return Err(Failed);
         }
         let count = piece.len().min(self.most);
@@ -85,7 +82,7 @@ impl Sink for MemorySink {
 }
 
 /// Takes every piece whole, and otherwise is as a `MemorySink` of which no call fails.
-#[derive(Debug, Drop)]
+#[derive(Drop)]
 pub struct SureSink {
     buffer: OutputBuffer,
 }

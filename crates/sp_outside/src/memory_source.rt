@@ -12,7 +12,7 @@ use sp_base::List;
 
 /// Gives at most `most` bytes a call, and tells what is left. The calls whose numbers, from 0, are in `failing`
 /// fail, and no other.
-#[derive(Debug, Drop)]
+#[derive(Drop)]
 pub struct MemorySource {
     buffer: InputBuffer,
     most: usize,
@@ -63,10 +63,7 @@ impl Source for MemorySource {
         ensures count { IfOk result (λ n. n ≡ min (min (length buf.old) self.old.most)
             (length (bytes_left self.old.buffer))) }
     {
-        let fails = self.plan.fails();
-        self.plan.call();
-        if fails {
-            self.plan.fault();
+        if self.plan.call() {
             return Err(Failed);
         }
         Ok(self.buffer.give(buf, self.most))
@@ -74,7 +71,7 @@ impl Source for MemorySource {
 }
 
 /// As a `MemorySource` of which no call fails, and that gives as many bytes a call as the buffer takes.
-#[derive(Debug, Drop)]
+#[derive(Drop)]
 pub struct SureSource {
     buffer: InputBuffer,
 }

@@ -3,7 +3,7 @@
 ghost use Rattle.std.specs.Prelude.{◌≡◌, ◌≤◌, vec_len, vec_capacity};
 
 /// The bytes that have fitted, how many there may be, and whether all that was put has fitted.
-#[derive(Debug, Drop)]
+#[derive(Drop)]
 pub struct OutputBuffer {
     bytes: Vec<u8>,
     size: usize,
