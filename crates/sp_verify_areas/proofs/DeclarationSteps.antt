@@ -1,7 +1,7 @@
 -- Declarations one after the other: what is known before each one, and how noting it leads to the next.
 use Rattle.std.proofs.Common.{◌≡◌, ◌⊎◌, inl, inr, ⊎_elim, refl, ap, sym, ◌∙◌, subst, ℕ, ◌+◌, ◌<◌, ◌≤◌, [], length}
 use Rattle.std.proofs.Common.{Option, Some, None, Bool, true, false, cond, arith, eqb-true}
-use Rattle.std.specs.Prelude.{slice_get, nat_lt, Result, Ok, Err, IfOk}
+use Rattle.std.specs.Prelude.{slice_get, nat_lt}
 use Rattle.std.specs.List.{list_any}
 use Rattle.std.specs.Ordering.{nat_cmp, is_eq}
 use Rattle.std.specs.BTreeSet.{BTreeSet, contains}
@@ -32,10 +32,6 @@ added_left false b e = absurd (cc e)
 added_right : (a b : Bool) → b ≡ true → cond a true b ≡ true
 added_right true b e = refl
 added_right false b e = e
-
-pub if_ok : {T E : Type 0} (P Q : T → Type 0) (r : Result T E) → ((x : T) → P x → Q x) → IfOk r P → IfOk r Q
-if_ok P Q (Ok x) f h = f x h
-if_ok P Q (Err e) f h = tt
 
 module _ (c : Parts) where
   -- what is declared before the one is declared before the other

@@ -112,9 +112,6 @@ homes_short c h p a are l only =
 
 -- ---- unknown ones
 
-pub one_small : (ls : List Layout) (x : ℕ) (hs : List Home) → x < 2 → Decides false (OneUnknown ls x hs)
-one_small ls x hs l = record { yes = λ e. absurd (cc e); no = λ e u. (let m = u.0 in omega (arith, l, m)) }
-
 pub one_large : (ls : List Layout) (x : ℕ) (hs : List Home) (t : Bool) → 2 ≤ x → t ≡ some_has ls x hs
     → Decides (not t) (OneUnknown ls x hs)
 one_large ls x hs t l s = record {

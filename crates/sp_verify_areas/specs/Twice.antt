@@ -1,10 +1,11 @@
 -- None of this belongs to what the program promises: it is for contracts between crates.
 -- Variables that are declared a second time: what a pass knows of the declarations before the one that it looks at.
-use Rattle.std.specs.Prelude.{◌≡◌, ◌⊎◌, ℕ, ◌<◌, Option, Some, Bool, true, ◌||◌, cond, nat_lt}
+use Rattle.std.specs.Prelude.{◌≡◌, ◌⊎◌, ℕ, ◌<◌, Option, Some, Bool, true, false, ◌||◌, cond, nat_lt}
 use Rattle.std.specs.Ordering.{nat_cmp, is_eq}
 use Rattle.std.specs.BTreeSet.{BTreeSet, contains}
 use Rattle.sp_code.specs.declared.code.Parts.{Parts}
 use Rattle.sp_verify_rules.specs.NameRules.{Declared, IsBefore, declaration_at}
+use Rattle.sp_verify_areas.specs.declared.declarations.Seen.{Seen}
 use Rattle.sp_verify_areas.specs.LeastPlaces.{IsLeast, earlier_of}
 
 module _ (c : Parts) where
@@ -26,6 +27,10 @@ module _ (c : Parts) where
     pub has : (x : ℕ) → IsDeclaredBefore d x → contains nat_cmp seen x ≡ true
     pub just : (x : ℕ) → contains nat_cmp seen x ≡ true → IsDeclaredBefore d x
     pub lowest : IsLeast (IsLateBefore d) first
+
+  -- this is so of what was seen, if memory was not refused
+  abbrev pub IsSeen : Declared → Seen → Type 0
+  IsSeen d s = s.is_lost ≡ false → SeenBefore d s.variables s.first
 
 -- a variable is late
 abbrev pub is_late : BTreeSet ℕ → ℕ → Bool

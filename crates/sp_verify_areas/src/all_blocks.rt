@@ -33,18 +33,6 @@ fn fill_one(code: &Code, blocks: &Blocks, grown: &mut Grown, item: usize) -> Res
     Ok(())
 }
 
-fn fill(code: &Code, blocks: &Blocks, grown: &mut Grown) -> Result<(), Memory>
-    requires blocks { IsNumbered blocks.now.first code.now.layouts }
-    requires just { AreFilled code.now 0 grown.old }
-    ensures { OnOk result (AreFilled code.now (length code.now.layouts) grown.new) }
-{
-    let count = code.parts().layouts.len();
-    for item in 0..count {
-        have!(fill_one(code, blocks, grown, item));
-    }
-    Ok(())
-}
-
 /// Nodes for all layouts, with those that are led to the program. The only other answer is want of memory.
 #[tactic(auto, using(crate::proofs::NodesForAll::filled_led))]
 pub(crate) fn filled(code: &Code, blocks: &Blocks, led: Grown) -> Result<Grown, Memory>
@@ -53,6 +41,9 @@ pub(crate) fn filled(code: &Code, blocks: &Blocks, led: Grown) -> Result<Grown, 
     ensures { IfOk result (λ grown. AreFilled code.now (length code.now.layouts) grown) }
 {
     let mut grown = led;
-    have!(fill(code, blocks, &mut grown));
+    let count = code.parts().layouts.len();
+    for item in 0..count {
+        have!(fill_one(code, blocks, &mut grown, item));
+    }
     Ok(grown)
 }

@@ -1,6 +1,6 @@
 //! The layouts whose parents lead to block 0, as nodes of a tree.
 
-ghost use Rattle.std.specs.Prelude.{◌≡◌, List, [], None, IfOk, OnOk, length, replicate};
+ghost use Rattle.std.specs.Prelude.{◌≡◌, List, IfOk, OnOk, length};
 ghost use Rattle.sp_code.specs.declared.code.Layout.{Layout};
 ghost use Rattle.sp_verify_areas.specs.Blocks.{IsNumbered};
 ghost use Rattle.sp_verify_areas.specs.Grown.{HaveAllBlockNodes, HaveBlockNodes, EachItem, IsTried, GrowthStep};
@@ -117,23 +117,14 @@ fn parents(code: &Code, blocks: &Blocks) -> Result<List<Option<usize>>, Memory> 
     for l in code.parts().layouts.items() {
         let place = match l.parent {
             None => None,
-            Some(parent) => blocks.place(parent),
+            Some(parent) => match blocks.place(parent) {
+                None => None,
+                Some(place) => Some(place as usize),
+            },
         };
-        have!(up.push(place.map(|place| place as usize)));
+        have!(up.push(place));
     }
     Ok(up)
-}
-
-// A tree with no node, for so many items.
-fn nothing(code: &Code, count: usize) -> Result<Grown, Memory>
-    ensures { IfOk result (λ grown. (grown.nodes ≡ []) × (grown.of ≡ replicate count None)) }
-{
-    let alloc = code.parts().instrs.alloc();
-    let of = have!(no_nodes(alloc, count));
-    Ok(Grown {
-        nodes: List::new(alloc),
-        of,
-    })
 }
 
 /// Nodes for exactly the layouts whose parents lead to block 0. The only other answer is want of memory.
@@ -145,7 +136,13 @@ pub fn led(code: &Code, blocks: &Blocks) -> Result<Grown, Memory>
     let order = order(&up);
     drop(up);
     let order = have!(order);
-    let mut grown = have!(nothing(code, code.parts().layouts.len()));
+    let parts = code.parts();
+    let alloc = parts.instrs.alloc();
+    let of = have!(no_nodes(alloc, parts.layouts.len()));
+    let mut grown = Grown {
+        nodes: List::new(alloc),
+        of,
+    };
     let hurried = hurry(code, blocks, &mut grown, &order);
     drop(order);
     have!(hurried);

@@ -28,26 +28,18 @@ fn note(first: &mut BTreeMap<u32, u32>, place: u32, block: u32) -> Result<(), Me
     Ok(())
 }
 
-fn numbered(alloc: Global, layouts: &[Layout]) -> Result<BTreeMap<u32, u32>, Memory>
-    requires { length layouts.now ≤ 1048576 }
-    ensures { IfOk result (λ first. IsNumbered first layouts.now) }
-{
-    let mut first = BTreeMap::new(alloc);
-    let mut place = 0;
-    for l in layouts {
-        have!(note(&mut first, place, l.block));
-        place += 1;
-    }
-    Ok(first)
-}
-
 impl Blocks {
     /// The blocks of these layouts.
     pub fn of(alloc: Global, layouts: &[Layout]) -> Result<Blocks, Memory>
         requires { length layouts.now ≤ 1048576 }
         ensures { IfOk result (λ blocks. IsNumbered blocks.first layouts.now) }
     {
-        let first = have!(numbered(alloc, layouts));
+        let mut first = BTreeMap::new(alloc);
+        let mut place = 0;
+        for l in layouts {
+            have!(note(&mut first, place, l.block));
+            place += 1;
+        }
         Ok(Blocks { first })
     }
 

@@ -10,7 +10,6 @@ use crate::ways::free_ways;
 use sp_base::{List, Memory};
 use sp_code::{Code, MAX_CODE};
 use sp_writer::Writer;
-use std::alloc::Global;
 
 /// Whether an instruction has an owner.
 pub(crate) fn has_owner(owners: &List<Owner>, p: u32) -> bool
@@ -39,110 +38,95 @@ fn put(numbers: &mut List<u32>, p: u32, number: u32) {
     }
 }
 
-// An instruction on the way, and how many of its ways were followed.
+// An instruction on the path, the number with which it was entered, and how many of its ways were followed.
 #[derive(Clone, Copy)]
 struct Step {
     at: u32,
+    entry: u32,
     turn: u8,
 }
 
-// A search in depth. An instruction has a number from 1 on where the search entered it, the least such number that it
-// leads back to, and from 1 on its component where that is closed.
+// A search in depth that keeps one number for each instruction (D. J. Pearce, A space-efficient algorithm for finding
+// strongly connected components, 2016). It is 0 until the search enters the instruction, then the greatest with which
+// an instruction was entered that it leads back to, and in the end that of its component. Instructions are entered with
+// numbers that fall, and components have numbers that rise from 1 on, so each of these is below each of those.
 #[derive(Drop)]
 struct Search {
-    entry: List<u32>,
-    back: List<u32>,
-    component: List<u32>,
-    open: Writer<u32>,
+    numbers: List<u32>,
     path: Writer<Step>,
-    last_entry: u32,
+    open: Writer<u32>,
+    next_entry: u32,
     last_component: u32,
 }
 
 impl Search {
-    fn new(alloc: Global, count: usize) -> Result<Search, Memory> {
-        let entry = have!(vec![in alloc; 0; count]);
-        let back = have!(vec![in alloc; 0; count]);
-        let component = have!(vec![in alloc; 0; count]);
-        Ok(Search {
-            entry: List::of(entry),
-            back: List::of(back),
-            component: List::of(component),
-            open: Writer::new(alloc),
-            path: Writer::new(alloc),
-            last_entry: 0,
-            last_component: 0,
-        })
-    }
-
     fn enter(&mut self, p: u32) {
-        self.last_entry = self.last_entry.saturating_add(1);
-        put(&mut self.entry, p, self.last_entry);
-        put(&mut self.back, p, self.last_entry);
-        self.open.put(p);
-        self.path.put(Step { at: p, turn: 0 });
-    }
-
-    // It leads back to what was entered then.
-    fn lead_back(&mut self, p: u32, then: u32) {
-        if then < number_at(&self.back, p) {
-            put(&mut self.back, p, then);
-        }
-    }
-
-    fn follow(&mut self, p: u32, way: Option<u32>) {
-        let q = match way {
-            None => return,
-            Some(q) => q,
-        };
-        if self.entry.len() <= q as usize {
+        if self.numbers.len() <= p as usize {
             return;
         }
-        let then = number_at(&self.entry, q);
-        if then == 0 {
-            self.enter(q);
-        } else if number_at(&self.component, q) == 0 {
-            self.lead_back(p, then);
+        let entry = self.next_entry;
+        put(&mut self.numbers, p, entry);
+        self.path.put(Step {
+            at: p,
+            entry,
+            turn: 0,
+        });
+        self.next_entry = entry.saturating_sub(1);
+    }
+
+    // An instruction leads to one of this number.
+    fn lead(&mut self, p: u32, number: u32) {
+        if number_at(&self.numbers, p) < number {
+            put(&mut self.numbers, p, number);
         }
     }
 
-    // Closes the component that was opened with an instruction.
-    fn close(&mut self, p: u32) {
-        self.last_component = self.last_component.saturating_add(1);
-        for _member in 0..MAX_CODE {
-            match self.open.items.pop() {
-                None => return,
-                Some(q) => {
-                    put(&mut self.component, q, self.last_component);
-                    if q == p {
-                        return;
+    // Goes back from an instruction. Where it leads to none that was entered before it, its component is closed.
+    fn leave(&mut self, p: u32, entry: u32) {
+        self.open.put(p);
+        if number_at(&self.numbers, p) == entry {
+            self.last_component = self.last_component.saturating_add(1);
+            for _member in 0..MAX_CODE {
+                match self.open.items.pop() {
+                    None => break,
+                    Some(q) => {
+                        if entry < number_at(&self.numbers, q) {
+                            self.open.put(q);
+                            break;
+                        }
+                        put(&mut self.numbers, q, self.last_component);
                     }
                 }
             }
         }
-    }
-
-    fn leave(&mut self, p: u32) {
-        let then = number_at(&self.back, p);
-        if then == number_at(&self.entry, p) {
-            self.close(p);
-        }
+        let number = number_at(&self.numbers, p);
         if let Some(around) = self.path.items.last().copied() {
-            self.lead_back(around.at, then);
+            self.lead(around.at, number);
         }
     }
 
-    // Takes the step that was put last.
+    // Takes the step that was put last: follows the next way, or goes back.
     fn step(&mut self, code: &Code, last: Step) {
-        let Step { at, turn } = last;
+        let Step { at, entry, turn } = last;
         if turn >= 2 {
-            self.leave(at);
+            self.leave(at, entry);
             return;
         }
+        self.path.put(Step {
+            at,
+            entry,
+            turn: turn + 1,
+        });
         let ways = free_ways(code, at);
         let way = if turn == 0 { ways.first } else { ways.second };
-        self.path.put(Step { at, turn: turn + 1 });
-        self.follow(at, way);
+        if let Some(q) = way {
+            let number = number_at(&self.numbers, q);
+            if number == 0 {
+                self.enter(q);
+            } else {
+                self.lead(at, number);
+            }
+        }
     }
 
     // All that an instruction leads to: each of at most 1,048,576 instructions takes three steps.
@@ -161,17 +145,24 @@ impl Search {
 /// others. The only other answer is want of memory.
 pub(crate) fn components(code: &Code, owners: &List<Owner>) -> Result<List<u32>, Memory> {
     let instrs = &code.parts().instrs;
+    let alloc = instrs.alloc();
     let count = instrs.len();
-    let mut search = have!(Search::new(instrs.alloc(), count));
+    let mut search = Search {
+        numbers: List::of(have!(vec![in alloc; 0; count])),
+        path: Writer::new(alloc),
+        open: Writer::new(alloc),
+        next_entry: u32::MAX,
+        last_component: 0,
+    };
     for start in 0..count {
         let p = start as u32;
-        if has_owner(owners, p) && number_at(&search.entry, p) == 0 {
+        if has_owner(owners, p) && number_at(&search.numbers, p) == 0 {
             search.explore(code, p);
         }
     }
     if search.open.is_lost || search.path.is_lost {
         return Err(Memory);
     }
-    let Search { component, .. } = search;
-    Ok(component)
+    let Search { numbers, .. } = search;
+    Ok(numbers)
 }

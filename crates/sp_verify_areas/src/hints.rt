@@ -8,67 +8,54 @@ use sp_code::{Code, Layout};
 use sp_writer::Writer;
 use std::collections::BTreeMap;
 
-/// How many frames there are from the outermost one to that of a variable, and its place in the frame; and the hint
-/// before this one, where the variable is declared more than once.
+/// How many frames there are from the outermost one to that of a variable, and its place in the frame; and the number
+/// of the hint before this one, where the variable is declared more than once.
 #[derive(Clone, Copy)]
 pub(crate) struct Hint {
     pub depth: usize,
     pub place: usize,
-    pub before: Option<usize>,
+    pub before: u32,
 }
 
-// Variables below this number have their last hint in a list, at their place.
+// Variables below this number have the number of their last hint in a list, at their place.
 const FEW: u32 = 8_388_608;
 // There is no hint of this number.
 const NONE: u32 = 4_294_967_295;
 
-/// How deep each node of a tree lies, and where variables are declared: the last hint of each, in a list, or in a map
-/// for variables of great numbers.
+/// How deep each node of a tree lies, and where variables are declared: all hints, and the number of the last one of
+/// each variable, in a list, or in a map for variables of great numbers.
 #[derive(Drop)]
 pub(crate) struct Hints {
     pub depths: List<usize>,
-    hints: Writer<Hint>,
+    pub hints: Writer<Hint>,
     near: Writer<u32>,
-    last: BTreeMap<u32, usize>,
+    far: BTreeMap<u32, u32>,
 }
 
 impl Hints {
-    /// The last hint of a variable.
-    pub(crate) fn last(&self, x: u32) -> Option<usize> {
-        if x >= FEW {
-            return self.last.get(&x).copied();
+    /// The number of the last hint of a variable.
+    pub(crate) fn last(&self, x: u32) -> u32 {
+        let number = if x < FEW {
+            self.near.items.get(x as usize)
+        } else {
+            self.far.get(&x)
+        };
+        match number {
+            None => NONE,
+            Some(number) => *number,
         }
-        match self.near.items.get(x as usize) {
-            None => None,
-            Some(number) => {
-                if *number == NONE {
-                    None
-                } else {
-                    Some(*number as usize)
-                }
-            }
-        }
-    }
-
-    pub(crate) fn hint(&self, number: usize) -> Option<Hint> {
-        self.hints.items.get(number).copied()
     }
 
     fn note(&mut self, x: u32, depth: usize, place: usize) {
         let before = self.last(x);
-        let number = self.hints.items.len();
+        let number = self.hints.items.len().min(NONE as usize) as u32;
         self.hints.put(Hint {
             depth,
             place,
             before,
         });
-        self.keep(x, number);
-    }
-
-    // Keeps the number of the last hint of a variable.
-    fn keep(&mut self, x: u32, number: usize) {
-        if x >= FEW || number >= 4_000_000_000 {
-            if self.last.insert(x, number).is_err() {
+        if x >= FEW {
+            if self.far.insert(x, number).is_err() {
                 self.hints.is_lost = true;
             }
             return;
@@ -78,47 +65,32 @@ impl Hints {
             self.near.put(NONE);
         }
         if at < self.near.items.len() {
-            self.near.items[at] = number as u32;
+            self.near.items[at] = number;
         }
     }
 }
 
-fn depth_of(depths: &List<usize>, node: usize) -> usize {
-    match depths.get(node) {
+/// How many frames there are from the outermost one to that of a node; none, if there is no node.
+pub(crate) fn depth_of(depths: &List<usize>, node: Option<usize>) -> usize {
+    match node {
         None => 0,
-        Some(depth) => *depth,
-    }
-}
-
-fn depth_inside(depths: &List<usize>, around: Option<usize>) -> usize {
-    match around {
-        None => 1,
-        Some(node) => {
-            let depth = depth_of(depths, node);
-            if depth < 1_000_000_000 {
-                depth + 1
-            } else {
-                depth
-            }
-        }
+        Some(node) => match depths.get(node) {
+            None => 0,
+            Some(depth) => *depth,
+        },
     }
 }
 
 fn depths(nodes: &List<Node>) -> Result<List<usize>, Memory> {
     let mut depths = List::new(nodes.alloc());
     for n in nodes.items() {
-        let depth = depth_inside(&depths, n.around);
+        let depth = depth_of(&depths, n.around).saturating_add(1);
         have!(depths.push(depth));
     }
     Ok(depths)
 }
 
-fn note_layout(hints: &mut Hints, l: &Layout, depth: usize) {
-    for (place, x) in l.variables.items().iter().enumerate() {
-        hints.note(*x, depth, place);
-    }
-}
-
+// Notes the variables of a frame, if that was not seen.
 fn note_frame(
     layouts: &List<Layout>,
     seen: &mut List<bool>,
@@ -133,9 +105,10 @@ fn note_frame(
                 return;
             }
             mark(seen, place as usize);
-            match layouts.get(place as usize) {
-                None => {}
-                Some(l) => note_layout(hints, l, depth),
+            if let Some(l) = layouts.get(place as usize) {
+                for (place, x) in l.variables.items().iter().enumerate() {
+                    hints.note(*x, depth, place);
+                }
             }
         }
     }
@@ -151,10 +124,10 @@ pub(crate) fn find_hints(code: &Code, nodes: &List<Node>) -> Result<Hints, Memor
         depths,
         hints: Writer::new(alloc),
         near: Writer::new(alloc),
-        last: BTreeMap::new(alloc),
+        far: BTreeMap::new(alloc),
     };
     for (k, n) in nodes.items().iter().enumerate() {
-        let depth = depth_of(&hints.depths, k);
+        let depth = depth_of(&hints.depths, Some(k));
         note_frame(layouts, &mut seen, &mut hints, n.frame, depth);
     }
     if hints.hints.is_lost || hints.near.is_lost {

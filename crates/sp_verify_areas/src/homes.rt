@@ -8,7 +8,7 @@ ghost use Rattle.sp_verify_areas.specs.Homes.{AreHomes, found_of};
 ghost use Rattle.sp_verify_areas.specs.Only.{LiesOnlyIn};
 ghost use Rattle.sp_verify_areas.specs.Tree.{IsFrameOfHome, IsFrame, home_of};
 
-use crate::tree::{Frame, Node, node_at, outward};
+use crate::tree::{Frame, Node, outward};
 use sp_base::List;
 use sp_code::{Code, Formal, Layout};
 
@@ -121,17 +121,6 @@ impl Homes {
             Some(at) => match *at {
                 None => None,
                 Some(node) => outward(&self.nodes, node, up),
-            },
-        }
-    }
-
-    /// How deep an instruction lies, by the depths of nodes.
-    pub(crate) fn depth(&self, depths: &List<usize>, p: u32) -> usize {
-        match node_at(&self.at, p as usize) {
-            None => 0,
-            Some(node) => match depths.get(node) {
-                None => 0,
-                Some(depth) => *depth,
             },
         }
     }

@@ -16,18 +16,16 @@ fn names_there(parts: &Parts, blocks: &Blocks, instr: Instr) -> bool
 {
     let count = parts.instrs.len();
     match instr {
-        Instr::Jump(to) => (to as usize) < count,
-        Instr::Jumpf(to) => (to as usize) < count,
-        Instr::Casej { value: _, to } => (to as usize) < count,
-        Instr::Forup { var: _, to } => (to as usize) < count,
-        Instr::Fordown { var: _, to } => (to as usize) < count,
-        Instr::Nextup { var: _, to } => (to as usize) < count,
-        Instr::Nextdown { var: _, to } => (to as usize) < count,
+        Instr::Jump(to)
+        | Instr::Jumpf(to)
+        | Instr::Casej { value: _, to }
+        | Instr::Forup { var: _, to }
+        | Instr::Fordown { var: _, to }
+        | Instr::Nextup { var: _, to }
+        | Instr::Nextdown { var: _, to } => (to as usize) < count,
         Instr::Call { block, up: _ } => blocks.has(block),
-        Instr::WriteText(k) => parts.texts.get(k as usize).is_some(),
-        Instr::WritewText(k) => parts.texts.get(k as usize).is_some(),
-        Instr::Fork(t) => parts.forks.get(t as usize).is_some(),
-        Instr::Forall(t) => parts.forks.get(t as usize).is_some(),
+        Instr::WriteText(k) | Instr::WritewText(k) => parts.texts.get(k as usize).is_some(),
+        Instr::Fork(t) | Instr::Forall(t) => parts.forks.get(t as usize).is_some(),
         _ => true,
     }
 }

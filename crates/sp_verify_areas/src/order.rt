@@ -5,13 +5,6 @@ use crate::have;
 use sp_base::{List, Memory};
 use sp_writer::Writer;
 
-fn next(up: &List<Option<usize>>, item: usize) -> Option<usize> {
-    match up.get(item) {
-        None => None,
-        Some(next) => *next,
-    }
-}
-
 // Goes from an item to the one that it stands on, and so on, as far as those that were not seen.
 fn climb(up: &List<Option<usize>>, seen: &mut List<bool>, way: &mut Writer<usize>, item: usize) {
     let mut at = item;
@@ -21,19 +14,9 @@ fn climb(up: &List<Option<usize>>, seen: &mut List<bool>, way: &mut Writer<usize
         }
         mark(seen, at);
         way.put(at);
-        match next(up, at) {
-            None => return,
-            Some(to) => at = to,
-        }
-    }
-}
-
-// The way back.
-fn come_back(way: &mut Writer<usize>, order: &mut Writer<usize>) {
-    for _step in 0..way.items.len() {
-        match way.items.pop() {
-            None => return,
-            Some(item) => order.put(item),
+        match up.get(at) {
+            Some(Some(to)) => at = *to,
+            _ => return,
         }
     }
 }
@@ -47,10 +30,14 @@ pub(crate) fn order(up: &List<Option<usize>>) -> Result<List<usize>, Memory> {
     let mut order = Writer::new(alloc);
     for item in 0..count {
         climb(up, &mut seen, &mut way, item);
-        come_back(&mut way, &mut order);
+        for _step in 0..way.items.len() {
+            if let Some(last) = way.items.pop() {
+                order.put(last);
+            }
+        }
     }
     if way.is_lost {
-        return Err(Memory);
+        order.lose();
     }
     Ok(List::of(have!(order.finish())))
 }

@@ -21,7 +21,7 @@ use sp_code::{ChildTable, Code, Instr};
 use sp_writer::Writer;
 
 /// Whose code an instruction is: the area in whose code it lies, by the area's last step.
-#[derive(Clone, Copy, Debug, PartialEq, Eq)]
+#[derive(Clone, Copy)]
 pub enum Owner {
     /// It lies in the code of no area.
     Nobody,

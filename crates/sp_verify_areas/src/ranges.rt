@@ -25,8 +25,7 @@ fn is_plain(found: Option<Found>) -> bool
         None => false,
         Some(f) => match f.naming {
             Naming::Plainly => true,
-            Naming::Never => false,
-            Naming::ByReference => false,
+            Naming::Never | Naming::ByReference => false,
         },
     }
 }
@@ -37,8 +36,7 @@ fn is_reference(found: Option<Found>) -> bool
     match found {
         None => false,
         Some(f) => match f.naming {
-            Naming::Plainly => false,
-            Naming::Never => false,
+            Naming::Plainly | Naming::Never => false,
             Naming::ByReference => true,
         },
     }
@@ -51,8 +49,7 @@ fn is_loop_variable(found: Option<Found>) -> bool
         None => false,
         Some(f) => match f.naming {
             Naming::Plainly => f.cells == 1,
-            Naming::Never => false,
-            Naming::ByReference => false,
+            Naming::Never | Naming::ByReference => false,
         },
     }
 }
@@ -85,10 +82,10 @@ fn fits(code: &Code, blocks: &Blocks, homes: &Homes, p: u32, instr: Instr) -> bo
         Instr::Call { block, up } => level_fits(code, blocks, homes, p, block, up),
         Instr::Addr { up, var } => is_plain(homes.variable(code, p, up, var)),
         Instr::Deref { up, var } => is_reference(homes.variable(code, p, up, var)),
-        Instr::Forup { var, to: _ } => is_loop_variable(homes.variable(code, p, 0, var)),
-        Instr::Fordown { var, to: _ } => is_loop_variable(homes.variable(code, p, 0, var)),
-        Instr::Nextup { var, to: _ } => is_loop_variable(homes.variable(code, p, 0, var)),
-        Instr::Nextdown { var, to: _ } => is_loop_variable(homes.variable(code, p, 0, var)),
+        Instr::Forup { var, to: _ }
+        | Instr::Fordown { var, to: _ }
+        | Instr::Nextup { var, to: _ }
+        | Instr::Nextdown { var, to: _ } => is_loop_variable(homes.variable(code, p, 0, var)),
         _ => true,
     }
 }

@@ -13,11 +13,11 @@ ghost use Rattle.sp_verify_areas.specs.Unknown.{ChildUnknown, HasUnknown, IsBelo
 ghost use Rattle.sp_verify_areas.specs.Unknown.{UnknownOnly};
 
 use crate::have;
-use crate::hints::{Hint, Hints, find_hints};
+use crate::hints::{Hint, Hints, depth_of, find_hints};
 use crate::homes::Homes;
 use crate::owners::{Owner, table_number};
 use crate::placement::owner_at;
-use crate::tree::Frame;
+use crate::tree::{Frame, node_at};
 use sp_base::{List, Memory};
 use sp_code::{ChildTable, Code, Layout};
 
@@ -84,16 +84,12 @@ fn is_near(code: &Code, homes: &Homes, hints: &Hints, q: u32, x: u32) -> bool
     ensures { (a : Area) → LiesOnlyIn code.now q a → result ≡ true
         → some_has code.now.layouts x (homes_of code.now a) ≡ true }
 {
-    let depth = homes.depth(&hints.depths, q);
+    let depth = depth_of(&hints.depths, node_at(&homes.at, q as usize));
     let mut next = hints.last(x);
     for _try in 0..16 {
-        let number = match next {
+        let hint = match hints.hints.items.get(next as usize) {
             None => return false,
-            Some(number) => number,
-        };
-        let hint = match hints.hint(number) {
-            None => return false,
-            Some(hint) => hint,
+            Some(hint) => *hint,
         };
         if is_there(code, homes, hint, depth, q, x) {
             return true;
@@ -123,29 +119,18 @@ fn is_around(code: &Code, homes: &Homes, q: u32, x: u32) -> bool
     false
 }
 
-// Whether one of them has it: looks first where it is likely to be.
-fn is_known(code: &Code, homes: &Homes, hints: &Hints, q: u32, x: u32) -> bool
-    requires homes { AreHomes code.now homes.now }
-    requires there { q < length code.now.instrs }
-    ensures { (a : Area) → LiesOnlyIn code.now q a → result ≡ some_has code.now.layouts x (homes_of code.now a) }
-{
-    if is_near(code, homes, hints, q, x) {
-        return true;
-    }
-    is_around(code, homes, q, x)
-}
-
-// Whether a variable other than the input and the output is unknown around an instruction.
+// Whether a variable other than the input and the output is unknown around an instruction: looks first where it is
+// likely to be.
 fn is_unknown(code: &Code, homes: &Homes, hints: &Hints, q: u32, x: u32) -> bool
     requires homes { AreHomes code.now homes.now }
     requires there { q < length code.now.instrs }
     ensures { (a : Area) → LiesOnlyIn code.now q a
         → Decides result (OneUnknown code.now.layouts x (homes_of code.now a)) }
 {
-    if x < 2 {
+    if x < 2 || is_near(code, homes, hints, q, x) {
         return false;
     }
-    !is_known(code, homes, hints, q, x)
+    !is_around(code, homes, q, x)
 }
 
 // Whether one of these variables, other than the input and the output, is unknown around an instruction.

@@ -22,8 +22,12 @@ loop-x-preserved c =
     c.requires.there) c.index-items-place.is) in
     let at : slice_get l.variables k ≡ Some x = subst (λ (zs : List ℕ). slice_get zs k ≡ Some x) c.items-x-items.ensures
     (slice_get-get_or xs k 0 c.loop-x-test.true) in
-    noted code (InLayout j k) (InLayout j (k + 1)) (next_layout code j k) c.loop-x.seen c.note.new.seen c.loop-x.first
-    c.in-Ok.value x l.entry (variable_of code j k x l there at) c.loop-x.invariant c.in-Ok.ensures
+    λ kept.
+    let (was, notes) = c.note.ensures kept in
+    let old = c.loop-x.seen in
+    let new = c.note.new.seen in
+    noted code (InLayout j k) (InLayout j (k + 1)) (next_layout code j k) old.variables new.variables old.first
+    new.first x l.entry (variable_of code j k x l there at) (c.loop-x.invariant was) notes
 
 pub returns : goal.returns
 returns c =
@@ -37,4 +41,5 @@ returns c =
     c.requires.there) c.index-items-place.is) in
     let end : length l.variables ≤ c.loop-x.x-index = subst (λ (zs : List ℕ). length zs ≤ c.loop-x.x-index)
     c.items-x-items.ensures c.loop-x-test.false in
-    layout_ends code j c.loop-x.x-index l c.loop-x.seen c.loop-x.first there end c.loop-x.invariant
+    λ kept. layout_ends code j c.loop-x.x-index l c.loop-x.seen.variables c.loop-x.seen.first there end
+    (c.loop-x.invariant kept)

@@ -21,4 +21,5 @@ returns c =
     (sym c.index-items-table.is) in
     let end : length tb.children ≤ c.loop-k.k = subst (λ (zs : List ChildTable). length zs ≤ c.loop-k.k) is
     c.loop-k-test.false in
-    table_ends code t c.loop-k.k tb c.loop-k.seen c.loop-k.first there end c.loop-k.invariant
+    λ kept. table_ends code t c.loop-k.k tb c.loop-k.seen.variables c.loop-k.seen.first there end
+    (c.loop-k.invariant kept)

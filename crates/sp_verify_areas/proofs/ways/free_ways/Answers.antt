@@ -4,10 +4,10 @@ use Rattle.std.specs.Option.{option_copied}
 use Rattle.sp_code.specs.declared.code.Parts.{Parts}
 use Rattle.sp_verify_areas.proofs.ways.free_ways.Goals as goal
 
-pub free_on-requires : goal.free_on-requires
-free_on-requires c =
-    let is = c.parts-parts.result.now.instrs in
+pub ways_on-requires : goal.ways_on-requires
+ways_on-requires c =
+    let is = c.parts.result.now.instrs in
     let l = slice_get_within is c.args.p c.in-Some.instr.now (sym c.get.ensures ∙ ap option_copied c.in-Some.is) in
-    let k = c.parts-parts.ensures.sizes.instrs in
-    let s = ap (λ (z : Parts). length z.instrs) c.parts-parts.ensures.same in
+    let k = c.parts.ensures.sizes.instrs in
+    let s = ap (λ (z : Parts). length z.instrs) c.parts.ensures.same in
     omega (arith, l, k, s)

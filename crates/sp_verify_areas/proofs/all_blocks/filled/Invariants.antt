@@ -1,5 +1,5 @@
 use Rattle.sp_verify_areas.specs.Around.{AreFilled}
-use Rattle.sp_verify_areas.proofs.all_blocks.fill.Given as goal
+use Rattle.sp_verify_areas.proofs.all_blocks.filled.Given as goal
 
 -- the layouts so far have nodes
 abbrev pub invariant-loop-item : goal.invariant-loop-item

@@ -1,7 +1,7 @@
 use Rattle.std.proofs.Common.{◌≡◌, ℕ, drop}
 use Rattle.std.specs.Option.{option_or}
 use Rattle.sp_verify_areas.specs.Blocks.{number_from, number_of}
-use Rattle.sp_verify_areas.proofs.blocks.numbered.Given as goal
+use Rattle.sp_verify_areas.proofs.blocks.Blocks.of.Given as goal
 
 -- a block that is not in the table is looked for among the layouts that are left
 abbrev pub invariant-loop-l : goal.invariant-loop-l
