@@ -1,8 +1,8 @@
 -- What a pass adds to the sets, part by part.
 use Rattle.std.proofs.Common.{◌≡◌, ◌↔◌, ◌⊎◌, ℕ, zero, suc, ◌<◌, ◌≤◌, true, false, ◌==◌, ◌||◌, List, [], ◌∷◌, map, drop}
 use Rattle.std.proofs.Common.{length, get_or, refl, sym, ap, subst, ◌∙◌, arith, inl, inr, ◌+◌, add-one, Result, Ok, Err}
-use Rattle.std.proofs.Common.{OnOk, eqb-true, eq-eqb}
-use Rattle.std.proofs.lemmas.Bool.{or_cases}
+use Rattle.std.proofs.Common.{Bool, OnOk, is_err, true≢false, eqb-true, eq-eqb}
+use Rattle.std.proofs.lemmas.Bool.{or_cases, or_parts}
 use Rattle.sp_base.proofs.Facts.{or_from_either}
 use Rattle.sp_tree.specs.declared.checked.Actual.{Actual}
 use Rattle.sp_tree.specs.declared.checked.Selector.{Selector}
@@ -49,34 +49,48 @@ turned f to from = (
 
 pub adds_then : {a b c : Uses} {H K : Use → Type 0} → AddsUses a b H → AddsUses b c K → AddsUses a c (λ u. H u ⊎ K u)
 adds_then f g = record {
-  targets = λ x. then (f.targets x) (g.targets x);
-  expressions = λ x. then (f.expressions x) (g.expressions x);
-  calls = λ x. some_of (then (f.calls x) (g.calls x));
-  stops = then f.stops g.stops;
+  kept = λ k. f.kept (g.kept k);
+  targets = λ k x. then (f.targets (g.kept k) x) (g.targets k x);
+  expressions = λ k x. then (f.expressions (g.kept k) x) (g.expressions k x);
+  calls = λ k x. some_of (then (f.calls (g.kept k) x) (g.calls k x));
+  stops = λ k. then (f.stops (g.kept k)) (g.stops k);
 }
 
 pub adds_nothing : (a : Uses) (H : Use → Type 0) → ((u : Use) → H u → ⊥) → AddsUses a a H
 adds_nothing a H n = record {
-  targets = λ x. none_more (n (Target x));
-  expressions = λ x. none_more (n (Seen x));
-  calls = λ x. none_more (λ h. n (CallOf x h.0) h.1);
-  stops = none_more (n Stop);
+  kept = λ k. k;
+  targets = λ k x. none_more (n (Target x));
+  expressions = λ k x. none_more (n (Seen x));
+  calls = λ k x. none_more (λ h. n (CallOf x h.0) h.1);
+  stops = λ k. none_more (n Stop);
+}
+
+-- what was added is still there where the uses may be lost later
+pub adds_unless : {a b : Uses} {H : Use → Type 0} (failed : Bool) → AddsUses a b H
+    → AddsUses a (record {
+      targets = b.targets;
+      expressions = b.expressions;
+      calls = b.calls;
+      stops = b.stops;
+      is_lost = b.is_lost || failed;
+    }) H
+adds_unless {a} {b} failed f = record {
+  kept = λ k. f.kept (or_parts b.is_lost failed k).0;
+  targets = λ k. f.targets (or_parts b.is_lost failed k).0;
+  expressions = λ k. f.expressions (or_parts b.is_lost failed k).0;
+  calls = λ k. f.calls (or_parts b.is_lost failed k).0;
+  stops = λ k. f.stops (or_parts b.is_lost failed k).0;
 }
 
 pub adds_as : (a b : Uses) (H K : Use → Type 0) → AddsUses a b H → ((u : Use) → H u → K u) → ((u : Use) → K u → H u)
     → AddsUses a b K
 adds_as a b H K f to from = record {
-  targets = λ x. turned (f.targets x) (to (Target x)) (from (Target x));
-  expressions = λ x. turned (f.expressions x) (to (Seen x)) (from (Seen x));
-  calls = λ x. turned (f.calls x) (λ h. (h.0, to (CallOf x h.0) h.1)) (λ k. (k.0, from (CallOf x k.0) k.1));
-  stops = turned f.stops (to Stop) (from Stop);
+  kept = f.kept;
+  targets = λ k x. turned (f.targets k x) (to (Target x)) (from (Target x));
+  expressions = λ k x. turned (f.expressions k x) (to (Seen x)) (from (Seen x));
+  calls = λ k x. turned (f.calls k x) (λ h. (h.0, to (CallOf x h.0) h.1)) (λ h. (h.0, from (CallOf x h.0) h.1));
+  stops = λ k. turned (f.stops k) (to Stop) (from Stop);
 }
-
-pub ok_then : {T E : Type 0} (r : Result T E) (a b c : Uses) (H K : Use → Type 0) → AddsUses a b H
-    → OnOk r (AddsUses b c K)
-    → OnOk r (AddsUses a c (λ u. H u ⊎ K u))
-ok_then (Ok v) a b c H K f g = adds_then f g
-ok_then (Err e) a b c H K f g = g
 
 -- one member more
 pub put_in : (old new : VarSet) (v : ℕ) → ((x : ℕ) → has new x ≡ (v == x) || has old x) → (x : ℕ) → (has new x ≡ true)
@@ -90,56 +104,81 @@ put_in old new v e x = (
   ],
 )
 
-pub target_added : (old new : Uses) (v : ℕ) → ((x : ℕ) → has new.targets x ≡ (v == x) || has old.targets x)
-    → new.expressions ≡ old.expressions → new.calls ≡ old.calls → new.stops ≡ old.stops
-    → AddsUses old new (λ u. u ≡ Target v)
-target_added old new v e s r t = record {
-  targets = λ x. turned (put_in old.targets new.targets v e x) (λ i. ap (λ y. Target y) i) (λ i. cc);
-  expressions = λ x. subst (λ z. (has z x ≡ true) ↔ ((has old.expressions x ≡ true) ⊎ (Seen x ≡ Target v))) (sym s)
-      (none_more (λ i. cc));
-  calls = λ x. subst (λ z. (has z x ≡ true) ↔ ((has old.calls x ≡ true)
-      ⊎ ((args : Actuals) × (CallOf x args ≡ Target v)))) (sym r) (none_more (λ i. let e = i.1 in cc));
-  stops = subst (λ z. (has z 0 ≡ true) ↔ ((has old.stops 0 ≡ true) ⊎ (Stop ≡ Target v))) (sym t) (none_more (λ i. cc));
-}
+-- what a call did that did not fail
+pub went_well : {E P : Type 0} (r : Result (Unit {0}) E) (failed : Bool) → OnOk r P → failed ≡ is_err r → failed ≡ false
+    → P
+went_well (Ok v) failed h e k = h
+went_well (Err x) failed h e k = absurd (true≢false (sym e ∙ k))
 
-pub seen_added : (old new : Uses) (v : ℕ) → ((x : ℕ) → has new.expressions x ≡ (v == x) || has old.expressions x)
-    → new.targets ≡ old.targets → new.calls ≡ old.calls → new.stops ≡ old.stops
-    → AddsUses old new (λ u. u ≡ Seen v)
-seen_added old new v e s r t = record {
-  targets = λ x. subst (λ z. (has z x ≡ true) ↔ ((has old.targets x ≡ true) ⊎ (Target x ≡ Seen v))) (sym s)
-      (none_more (λ i. cc));
-  expressions = λ x. turned (put_in old.expressions new.expressions v e x) (λ i. ap (λ y. Seen y) i) (λ i. cc);
-  calls = λ x. subst (λ z. (has z x ≡ true) ↔ ((has old.calls x ≡ true)
-      ⊎ ((args : Actuals) × (CallOf x args ≡ Seen v))))
-      (sym r) (none_more (λ i. let e = i.1 in cc));
-  stops = subst (λ z. (has z 0 ≡ true) ↔ ((has old.stops 0 ≡ true) ⊎ (Stop ≡ Seen v))) (sym t) (none_more (λ i. cc));
-}
+-- a member was put into one set of the uses, unless that failed
+module _ (old : Uses) (set : VarSet) (failed : Bool) where
+  held : (old.is_lost || failed) ≡ false → (old.is_lost ≡ false) × (failed ≡ false)
+  held k = or_parts old.is_lost failed k
 
-pub call_added : (old new : Uses) (v : ℕ) (args : Actuals) → ((x : ℕ) → has new.calls x ≡ (v == x) || has old.calls x)
-    → new.targets ≡ old.targets → new.expressions ≡ old.expressions → new.stops ≡ old.stops
-    → AddsUses old new (λ u. u ≡ CallOf v args)
-call_added old new v args e s r t = record {
-  targets = λ x. subst (λ z. (has z x ≡ true) ↔ ((has old.targets x ≡ true) ⊎ (Target x ≡ CallOf v args))) (sym s)
-      (none_more (λ i. cc));
-  expressions = λ x. subst (λ z. (has z x ≡ true) ↔ ((has old.expressions x ≡ true) ⊎ (Seen x ≡ CallOf v args))) (sym r)
-      (none_more (λ i. cc));
-  calls = λ x. turned (put_in old.calls new.calls v e x) (λ i. (args, ap (λ y. CallOf y args) i))
-      (λ i. let e = i.1 in cc);
-  stops = subst (λ z. (has z 0 ≡ true) ↔ ((has old.stops 0 ≡ true) ⊎ (Stop ≡ CallOf v args))) (sym t)
-      (none_more (λ i. cc));
-}
+  pub target_added : (v : ℕ) → (failed ≡ false → (x : ℕ) → has set x ≡ (v == x) || has old.targets x)
+      → AddsUses old (record {
+        targets = set;
+        expressions = old.expressions;
+        calls = old.calls;
+        stops = old.stops;
+        is_lost = old.is_lost || failed;
+      }) (λ u. u ≡ Target v)
+  target_added v e = record {
+    kept = λ k. (held k).0;
+    targets = λ k x. turned (put_in old.targets set v (e (held k).1) x) (λ i. ap (λ y. Target y) i) (λ i. cc);
+    expressions = λ k x. none_more (λ i. cc);
+    calls = λ k x. none_more (λ i. let e = i.1 in cc);
+    stops = λ k. none_more (λ i. cc);
+  }
 
-pub stopped : (old new : Uses) → ((x : ℕ) → has new.stops x ≡ (0 == x) || has old.stops x) → new.targets ≡ old.targets
-    → new.expressions ≡ old.expressions → new.calls ≡ old.calls → AddsUses old new (λ u. u ≡ Stop)
-stopped old new e s r t = record {
-  targets = λ x. subst (λ z. (has z x ≡ true) ↔ ((has old.targets x ≡ true) ⊎ (Target x ≡ Stop))) (sym s)
-      (none_more (λ i. cc));
-  expressions = λ x. subst (λ z. (has z x ≡ true) ↔ ((has old.expressions x ≡ true) ⊎ (Seen x ≡ Stop))) (sym r)
-      (none_more (λ i. cc));
-  calls = λ x. subst (λ z. (has z x ≡ true) ↔ ((has old.calls x ≡ true) ⊎ ((args : Actuals) × (CallOf x args ≡ Stop))))
-      (sym t) (none_more (λ i. let e = i.1 in cc));
-  stops = turned (put_in old.stops new.stops 0 e 0) (λ i. refl) (λ i. refl);
-}
+  pub seen_added : (v : ℕ) → (failed ≡ false → (x : ℕ) → has set x ≡ (v == x) || has old.expressions x)
+      → AddsUses old (record {
+        targets = old.targets;
+        expressions = set;
+        calls = old.calls;
+        stops = old.stops;
+        is_lost = old.is_lost || failed;
+      }) (λ u. u ≡ Seen v)
+  seen_added v e = record {
+    kept = λ k. (held k).0;
+    targets = λ k x. none_more (λ i. cc);
+    expressions = λ k x. turned (put_in old.expressions set v (e (held k).1) x) (λ i. ap (λ y. Seen y) i) (λ i. cc);
+    calls = λ k x. none_more (λ i. let e = i.1 in cc);
+    stops = λ k. none_more (λ i. cc);
+  }
+
+  pub call_added : (v : ℕ) (args : Actuals) → (failed ≡ false → (x : ℕ) → has set x ≡ (v == x) || has old.calls x)
+      → AddsUses old (record {
+        targets = old.targets;
+        expressions = old.expressions;
+        calls = set;
+        stops = old.stops;
+        is_lost = old.is_lost || failed;
+      }) (λ u. u ≡ CallOf v args)
+  call_added v args e = record {
+    kept = λ k. (held k).0;
+    targets = λ k x. none_more (λ i. cc);
+    expressions = λ k x. none_more (λ i. cc);
+    calls = λ k x. turned (put_in old.calls set v (e (held k).1) x) (λ i. (args, ap (λ y. CallOf y args) i))
+        (λ i. let e = i.1 in cc);
+    stops = λ k. none_more (λ i. cc);
+  }
+
+  pub stopped : (failed ≡ false → (x : ℕ) → has set x ≡ (0 == x) || has old.stops x)
+      → AddsUses old (record {
+        targets = old.targets;
+        expressions = old.expressions;
+        calls = old.calls;
+        stops = set;
+        is_lost = old.is_lost || failed;
+      }) (λ u. u ≡ Stop)
+  stopped e = record {
+    kept = λ k. (held k).0;
+    targets = λ k x. none_more (λ i. cc);
+    expressions = λ k x. none_more (λ i. cc);
+    calls = λ k x. none_more (λ i. let e = i.1 in cc);
+    stops = λ k. turned (put_in old.stops set 0 (e (held k).1) 0) (λ i. refl) (λ i. refl);
+  }
 
 -- a set and all of another
 pub union_is : (old other new : VarSet) → ((x : ℕ) → has new x ≡ has old x || has other x) → IsUnion old other new
@@ -147,6 +186,35 @@ union_is old other new e x = (
   λ h. or_cases (has old x) (has other x) (sym (e x) ∙ h),
   λ s. e x ∙ or_from_either (has old x) (has other x) s,
 )
+
+-- of what makes uses or bodies lost, none is there
+pub unless_lost : (l m f1 f2 f3 f4 : Bool) → (((((l || m) || f1) || f2) || f3) || f4) ≡ false
+    → ((l ≡ false) × (m ≡ false)) × (f1 ≡ false) × (f2 ≡ false) × (f3 ≡ false) × (f4 ≡ false)
+unless_lost l m f1 f2 f3 f4 k =
+    let (k3, e4) = or_parts ((((l || m) || f1) || f2) || f3) f4 k in
+    let (k2, e3) = or_parts (((l || m) || f1) || f2) f3 k3 in
+    let (k1, e2) = or_parts ((l || m) || f1) f2 k2 in
+    let (k0, e1) = or_parts (l || m) f1 k1 in
+    (or_parts l m k0, e1, e2, e3, e4)
+
+pub unions : (a b : Uses) (targets expressions calls stops : VarSet) (f1 f2 f3 f4 : Bool)
+    → (f1 ≡ false → IsUnion a.targets b.targets targets)
+    → (f2 ≡ false → IsUnion a.expressions b.expressions expressions)
+    → (f3 ≡ false → IsUnion a.calls b.calls calls) → (f4 ≡ false → IsUnion a.stops b.stops stops)
+    → AreUnions a b (record {
+      targets = targets;
+      expressions = expressions;
+      calls = calls;
+      stops = stops;
+      is_lost = ((((a.is_lost || b.is_lost) || f1) || f2) || f3) || f4;
+    })
+unions a b targets expressions calls stops f1 f2 f3 f4 u1 u2 u3 u4 = record {
+  kept = λ k. let (both, _, _, _, _) = unless_lost a.is_lost b.is_lost f1 f2 f3 f4 k in both;
+  targets = λ k. let (_, e, _, _, _) = unless_lost a.is_lost b.is_lost f1 f2 f3 f4 k in u1 e;
+  expressions = λ k. let (_, _, e, _, _) = unless_lost a.is_lost b.is_lost f1 f2 f3 f4 k in u2 e;
+  calls = λ k. let (_, _, _, e, _) = unless_lost a.is_lost b.is_lost f1 f2 f3 f4 k in u3 e;
+  stops = λ k. let (_, _, _, _, e) = unless_lost a.is_lost b.is_lost f1 f2 f3 f4 k in u4 e;
+}
 
 -- lists, item by item
 selectors_step : (ss : List Selector) (i : ℕ) (s : Selector) → i < length ss → s ≡ get_or ss i s
@@ -208,12 +276,12 @@ pub record HasUses (m : Uses) (Here : Use → Type 0) : Type 0 where
   pub calls : (f : ℕ) → (has m.calls f ≡ true) ↔ ((args : Actuals) × Here (CallOf f args))
   pub stops : (has m.stops 0 ≡ true) ↔ Here Stop
 
-pub from_empty : {e m : Uses} {H : Use → Type 0} → AreEmpty e → AddsUses e m H → HasUses m H
-from_empty n f = record {
-  targets = λ x. gathered _ _ x _ (n.targets x) (f.targets x);
-  expressions = λ x. gathered _ _ x _ (n.expressions x) (f.expressions x);
-  calls = λ x. gathered _ _ x _ (n.calls x) (f.calls x);
-  stops = gathered _ _ 0 _ (n.stops 0) f.stops;
+pub from_empty : {e m : Uses} {H : Use → Type 0} → AreEmpty e → AddsUses e m H → m.is_lost ≡ false → HasUses m H
+from_empty n f k = record {
+  targets = λ x. gathered _ _ x _ (n.targets x) (f.targets k x);
+  expressions = λ x. gathered _ _ x _ (n.expressions x) (f.expressions k x);
+  calls = λ x. gathered _ _ x _ (n.calls x) (f.calls k x);
+  stops = gathered _ _ 0 _ (n.stops 0) (f.stops k);
 }
 
 joins : {A B C H : Type 0} → C ↔ (A ⊎ B) → B ↔ H → C ↔ (A ⊎ H)
@@ -222,12 +290,13 @@ joins f g = (
   λ s. elim s [ inl a ↦ f.1 (inl a) | inr h ↦ f.1 (inr (g.1 h)) ],
 )
 
-pub merged : {a m b : Uses} {H : Use → Type 0} → HasUses m H → AreUnions a m b → AddsUses a b H
+pub merged : {a m b : Uses} {H : Use → Type 0} → (m.is_lost ≡ false → HasUses m H) → AreUnions a m b → AddsUses a b H
 merged f u = record {
-  targets = λ x. joins (u.targets x) (f.targets x);
-  expressions = λ x. joins (u.expressions x) (f.expressions x);
-  calls = λ x. joins (u.calls x) (f.calls x);
-  stops = joins (u.stops 0) f.stops;
+  kept = λ k. (u.kept k).0;
+  targets = λ k x. joins (u.targets k x) ((f (u.kept k).1).targets x);
+  expressions = λ k x. joins (u.expressions k x) ((f (u.kept k).1).expressions x);
+  calls = λ k x. joins (u.calls k x) ((f (u.kept k).1).calls x);
+  stops = λ k. joins (u.stops k 0) (f (u.kept k).1).stops;
 }
 
 pub without : {m k : Uses} {H : Use → Type 0} (y : ℕ) → HasUses m H → IsWithout m.targets k.targets y
@@ -252,16 +321,18 @@ without {m} {k} {H} y f a s r t = record {
 -- a fork is no use of a variable
 pub splits_add : (a : Uses) (ss : Stmts) → AddsUses a a (λ u. u ≡ ParallelOf ss)
 splits_add a ss = record {
-  targets = λ x. none_more (λ i. cc);
-  expressions = λ x. none_more (λ i. cc);
-  calls = λ x. none_more (λ i. let e = i.1 in cc);
-  stops = none_more (λ i. cc);
+  kept = λ k. k;
+  targets = λ k x. none_more (λ i. cc);
+  expressions = λ k x. none_more (λ i. cc);
+  calls = λ k x. none_more (λ i. let e = i.1 in cc);
+  stops = λ k. none_more (λ i. cc);
 }
 
 pub spreads_add : (a : Uses) (y : ℕ) (s : Stmt) → AddsUses a a (λ u. u ≡ ForallOf y s)
 spreads_add a y s = record {
-  targets = λ x. none_more (λ i. cc);
-  expressions = λ x. none_more (λ i. cc);
-  calls = λ x. none_more (λ i. let e = i.1 in cc);
-  stops = none_more (λ i. cc);
+  kept = λ k. k;
+  targets = λ k x. none_more (λ i. cc);
+  expressions = λ k x. none_more (λ i. cc);
+  calls = λ k x. none_more (λ i. let e = i.1 in cc);
+  stops = λ k. none_more (λ i. cc);
 }

@@ -1,7 +1,7 @@
 -- Bodies, declarations and rows of blocks, gathered one block after another.
 use Rattle.std.proofs.Common.{◌≡◌, ◌↔◌, ◌⊎◌, ℕ, zero, suc, ◌+◌, ◌<◌, ◌≤◌, true, ◌==◌, ◌||◌, ◌&&◌, List, []}
 use Rattle.std.proofs.Common.{◌∷◌, ◌++◌, map, drop, length, get_or, slice_get, refl, sym, ap, subst, ◌∙◌, arith, inl}
-use Rattle.std.proofs.Common.{inr, add-one, eqb-true, eq-eqb, Some, None}
+use Rattle.std.proofs.Common.{inr, add-one, eqb-true, eq-eqb, Some, None, Bool, false}
 use Rattle.std.proofs.lemmas.Bool.{cases_eq, and_from, and_parts, or_cases}
 use Rattle.std.proofs.lemmas.List.{length-append}
 use Rattle.std.proofs.lemmas.Option.{slice_get_within}
@@ -18,8 +18,8 @@ use Rattle.sp_varsets.specs.declared.uses.Uses.{Uses}
 use Rattle.sp_varsets.specs.declared.var_set.VarSet.{VarSet}
 use Rattle.sp_varsets.specs.Members.{has}
 use Rattle.sp_varsets.specs.Paths.{member}
-use Rattle.sp_varsets.specs.Bodies.{IsInBlocks, BodyAt, AreBodies, Declares, AreDeclared}
-use Rattle.sp_varsets.proofs.AddedSets.{HasUses}
+use Rattle.sp_varsets.specs.Bodies.{IsInBlocks, BodyAt, AreBodies, AppendsRows, Declares, AreDeclared}
+use Rattle.sp_varsets.proofs.AddedSets.{HasUses, unless_lost}
 
 -- a row put last
 pub member_before : (rows : List VarSet) (s : VarSet) (b x : ℕ) → b < length rows
@@ -49,6 +49,26 @@ rows_last : (old : List VarSet) (s : VarSet) (n b x : ℕ) (H : Type 0) → leng
 rows_last old s n b x H l h f =
     let e = member_last old s b x (omega arith) in
     (λ m. f.0 (sym e ∙ m), λ k. e ∙ f.1 k)
+
+-- the sets of one more block, unless one could not be put last
+pub rows_put : (old : Bodies) (uses : Uses) (targets expressions calls stops : List VarSet) (f1 f2 f3 f4 : Bool)
+    → (f1 ≡ false → targets ≡ old.targets ++ uses.targets ∷ [])
+    → (f2 ≡ false → expressions ≡ old.expressions ++ uses.expressions ∷ [])
+    → (f3 ≡ false → calls ≡ old.calls ++ uses.calls ∷ []) → (f4 ≡ false → stops ≡ old.stops ++ uses.stops ∷ [])
+    → AppendsRows old (record {
+      targets = targets;
+      expressions = expressions;
+      calls = calls;
+      stops = stops;
+      is_lost = ((((old.is_lost || uses.is_lost) || f1) || f2) || f3) || f4;
+    }) uses
+rows_put old uses targets expressions calls stops f1 f2 f3 f4 r1 r2 r3 r4 = record {
+  kept = λ k. let (both, _, _, _, _) = unless_lost old.is_lost uses.is_lost f1 f2 f3 f4 k in both;
+  targets = λ k. let (_, e, _, _, _) = unless_lost old.is_lost uses.is_lost f1 f2 f3 f4 k in r1 e;
+  expressions = λ k. let (_, _, e, _, _) = unless_lost old.is_lost uses.is_lost f1 f2 f3 f4 k in r2 e;
+  calls = λ k. let (_, _, _, e, _) = unless_lost old.is_lost uses.is_lost f1 f2 f3 f4 k in r3 e;
+  stops = λ k. let (_, _, _, _, e) = unless_lost old.is_lost uses.is_lost f1 f2 f3 f4 k in r4 e;
+}
 
 pub bodies_more : (blocks : List p.Block) (old new : Bodies) (uses : Uses) (k : p.Block) (n : ℕ)
     → AreBodies blocks old n → slice_get blocks n ≡ Some k

@@ -1,8 +1,8 @@
 -- What is recorded of statements, one after another.
 use Rattle.std.proofs.Common.{◌≡◌, ◌≢◌, ◌↔◌, ◌⊎◌, ℕ, zero, suc, ◌+◌, ◌<◌, ◌≤◌, true, List, [], ◌∷◌, map, drop}
 use Rattle.std.proofs.Common.{length, get_or, set, refl, sym, ap, subst, ◌∙◌, arith, rules, inl, inr, add-one, Option}
-use Rattle.std.proofs.Common.{Some}
-use Rattle.std.proofs.lemmas.Bool.{cases_eq}
+use Rattle.std.proofs.Common.{Some, Bool, ◌||◌, Result, OnOk, is_err}
+use Rattle.std.proofs.lemmas.Bool.{cases_eq, or_parts}
 use Rattle.std.proofs.lemmas.Option.{same_Some}
 use Rattle.sp_base.specs.declared.place.Place.{Place}
 use Rattle.sp_tree.specs.declared.checked.Stmt.{Stmt, out-Stmt, fold_out-Stmt}
@@ -23,7 +23,8 @@ use Rattle.sp_varsets.specs.AddedUses.{AddsUses, AreEmpty, AreUnions, IsWithout}
 use Rattle.sp_varsets.specs.Parts.{number_of, IsPart, IsInForm}
 use Rattle.sp_varsets.specs.Records.{Extends, IsSetOfIndex, Records, slot_at, RecordsStatements, RecordsSets}
 use Rattle.sp_varsets.specs.Walks.{AddsAndRecords}
-use Rattle.sp_varsets.proofs.AddedSets.{HasUses, adds_then, adds_nothing, from_empty, merged, without}
+use Rattle.sp_varsets.proofs.AddedSets.{HasUses, adds_then, adds_nothing, adds_unless, went_well}
+use Rattle.sp_varsets.proofs.AddedSets.{from_empty, merged, without}
 
 pub extends_self : (pool : List VarSet) → Extends pool pool
 extends_self pool = record { longer = omega arith; unchanged = λ i x h. refl }
@@ -121,7 +122,7 @@ kept_writes {w} {v} {uses} t h k = record {
     }
 
 pub walked_none : {w : Walk} {a b : Uses} {H : Use → Type 0} → AddsUses a b H → AddsAndRecords w w a b H (λ t. ⊥)
-walked_none {w} f = record { adds = f; writes = writes_none w (λ t. ⊥) (λ t h. h) }
+walked_none {w} f = record { adds = f; writes = λ k. writes_none w (λ t. ⊥) (λ t h. h) }
 
 pub walked_first : {w v : Walk} {a b c : Uses} {H K : Use → Type 0} {S : p.Statement → Type 0} → AddsUses a b H
     → AddsAndRecords w v b c K S → AddsAndRecords w v a c (λ u. H u ⊎ K u) S
@@ -130,19 +131,22 @@ walked_first f g = record { adds = adds_then f g.adds; writes = g.writes }
 pub walked_last : {w v : Walk} {a b c : Uses} {H K : Use → Type 0} {S : p.Statement → Type 0}
     → AddsAndRecords w v a b H S
     → AddsUses b c K → AddsAndRecords w v a c (λ u. H u ⊎ K u) S
-walked_last f g = record { adds = adds_then f.adds g; writes = f.writes }
+walked_last f g = record { adds = adds_then f.adds g; writes = λ k. f.writes (g.kept k) }
 
 pub walked_both : {w v x : Walk} {a b c : Uses} {H K : Use → Type 0} {S R : p.Statement → Type 0}
     → AddsAndRecords w v a b H S
     → AddsAndRecords v x b c K R → AddsAndRecords w x a c (λ u. H u ⊎ K u) (λ t. S t ⊎ R t)
-walked_both f g = record { adds = adds_then f.adds g.adds; writes = writes_then f.writes g.writes }
+walked_both f g = record {
+  adds = adds_then f.adds g.adds;
+  writes = λ k. writes_then (f.writes (g.adds.kept k)) (g.writes k);
+}
 
 pub walked_else_none : {w v : Walk} {a b : Uses} {H : Use → Type 0} {S : p.Statement → Type 0}
     → AddsAndRecords w v a b H S
     → AddsAndRecords w v a b H (λ t. S t ⊎ ⊥)
 walked_else_none f = record {
   adds = f.adds;
-  writes = writes_as f.writes (λ t s. inl s) (λ t s. elim s [ inl h ↦ h | inr h ↦ absurd h ]);
+  writes = λ k. writes_as (f.writes k) (λ t s. inl s) (λ t s. elim s [ inl h ↦ h | inr h ↦ absurd h ]);
 }
 
 pub walked_no_statements : (w : Walk) (a : Uses) → AddsAndRecords w w a a (λ u. ⊥) (λ t. ⊥)
@@ -275,27 +279,38 @@ arms_end [] (suc i) h = refl
 arms_end (c ∷ bs) zero h = absurd (omega arith)
 arms_end (c ∷ bs) (suc i) h = arms_end bs i (omega arith)
 
-pub statement_walked : {w v x : Walk} {a b e m : Uses} (n : ℕ) (at : Place) (f : p.Form) → AreEmpty e
+pub statement_walked : {w v x : Walk} {a b e m : Uses} {E : Type 0} (n : ℕ) (at : Place) (f : p.Form)
+    (r : Result (Unit {0}) E) (failed : Bool) → AreEmpty e
     → AddsAndRecords w v e m (In_stmt (bare_statement_form f)) (λ t. IsInForm t f) → AreUnions a m b
-    → RecordsSets v x n m
-    → AddsAndRecords w x a b (In_stmt (bare_statement (p.Does n at f))) (λ t. IsPart t (p.Does n at f))
-statement_walked n at f empty walked union kept =
-    let h = from_empty empty walked.adds in record {
-      adds = merged h union;
-      writes = writes_as (writes_then walked.writes (kept_writes (p.Does n at f) h kept))
-          (λ t s. elim s [ inl i ↦ inr i | inr e ↦ inl e ])
-          (λ t s. elim s [ inl e ↦ inr e | inr i ↦ inl i ]);
-    }
+    → OnOk r (RecordsSets v x n m) → failed ≡ is_err r
+    → AddsAndRecords w x a (record {
+      targets = b.targets;
+      expressions = b.expressions;
+      calls = b.calls;
+      stops = b.stops;
+      is_lost = b.is_lost || failed;
+    }) (In_stmt (bare_statement (p.Does n at f)))
+    (λ t. IsPart t (p.Does n at f))
+statement_walked {w} {v} {x} {a} {b} {e} {m} {E} n at f r failed empty walked union recorded is = record {
+  adds = adds_unless failed (merged (λ l. from_empty empty walked.adds l) union);
+  writes = λ k.
+      let (held, well) = or_parts b.is_lost failed k in
+      let l = (union.kept held).1 in
+      writes_as (writes_then (walked.writes l) (kept_writes (p.Does n at f) (from_empty empty walked.adds l)
+      (went_well r failed recorded is well)))
+      (λ t s. elim s [ inl i ↦ inr i | inr e ↦ inl e ])
+      (λ t s. elim s [ inl e ↦ inr e | inr i ↦ inl i ]);
+}
 
 pub element_walked : {w v : Walk} {a b e m k : Uses} (y : ℕ) (s : p.Statement) → AreEmpty e
     → AddsAndRecords w v e m (In_stmt (bare_statement s)) (λ t. IsPart t s)
     → IsWithout m.targets k.targets y → IsWithout m.expressions k.expressions y → k.calls ≡ m.calls → k.stops ≡ m.stops
-    → AreUnions a k b
+    → k.is_lost ≡ m.is_lost → AreUnions a k b
     → AddsAndRecords w v a b (λ u. In_stmt (bare_statement s) u × IsOther y u) (λ t. IsPart t s)
-element_walked y s empty walked targets expressions calls stops union =
+element_walked y s empty walked targets seen calls stops lost union =
     record {
-      adds = merged (without y (from_empty empty walked.adds) targets expressions calls stops) union;
-      writes = walked.writes;
+      adds = merged (λ l. without y (from_empty empty walked.adds (sym lost ∙ l)) targets seen calls stops) union;
+      writes = λ l. walked.writes (sym lost ∙ (union.kept l).1);
     }
 
 pub keeps_is : (old new : Walk) (p1 p2 p3 : List VarSet) (slots : List (Option StatementSets)) (n i j k : ℕ)

@@ -1,7 +1,8 @@
 -- None of this belongs to what the program promises: it is for contracts between crates.
 -- What stands in the statement parts of blocks, and what blocks declare: the rows from which the closure over calls
 -- starts. The contracts of `bodies` promise it.
-use Rattle.std.specs.Prelude.{◌≡◌, ◌↔◌, ◌⊎◌, ℕ, ◌<◌, true, List, [], ◌∷◌, ◌++◌, length, Some, slice_get}
+use Rattle.std.specs.Prelude.{◌≡◌, ◌↔◌, ◌⊎◌, ℕ, ◌<◌, true, false, List, [], ◌∷◌, ◌++◌, length, Some}
+use Rattle.std.specs.Prelude.{slice_get}
 use Rattle.sp_tree.specs.PlainChecked as p
 use Rattle.sp_tree.specs.Bare.{bare_statement}
 use Rattle.sp_tree.specs.Plain.{Actuals, Program, Variable}
@@ -37,12 +38,13 @@ pub record AreBodies (blocks : List p.Block) (bodies : Bodies) (n : ℕ) : Type 
   pub each : (b : ℕ) (k : p.Block) → b < n → slice_get blocks b ≡ Some k
       → BodyAt bodies b (In_stmt (bare_statement k.body))
 
--- these sets are the last rows
+-- if the new bodies are not lost, neither were the old ones and these sets, and the sets are the last rows
 pub record AppendsRows (old new : Bodies) (uses : Uses) : Type 0 where
-  pub targets : new.targets ≡ old.targets ++ uses.targets ∷ []
-  pub expressions : new.expressions ≡ old.expressions ++ uses.expressions ∷ []
-  pub calls : new.calls ≡ old.calls ++ uses.calls ∷ []
-  pub stops : new.stops ≡ old.stops ++ uses.stops ∷ []
+  pub kept : new.is_lost ≡ false → (old.is_lost ≡ false) × (uses.is_lost ≡ false)
+  pub targets : new.is_lost ≡ false → new.targets ≡ old.targets ++ uses.targets ∷ []
+  pub expressions : new.is_lost ≡ false → new.expressions ≡ old.expressions ++ uses.expressions ∷ []
+  pub calls : new.is_lost ≡ false → new.calls ≡ old.calls ++ uses.calls ∷ []
+  pub stops : new.is_lost ≡ false → new.stops ≡ old.stops ++ uses.stops ∷ []
 
 -- what stands in this block's statement part is in the last rows, and was recorded
 abbrev pub AppendsBody : (old new : Bodies) → (before after : Walk) → p.Block → Type 0

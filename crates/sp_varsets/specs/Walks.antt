@@ -1,7 +1,7 @@
 -- None of this belongs to what the program promises: it is for contracts between crates.
 -- What a pass over statements does: it adds what stands in them, and records each one. The contracts of `walk` are
 -- these, one for each part of a tree.
-use Rattle.std.specs.Prelude.{ℕ}
+use Rattle.std.specs.Prelude.{◌≡◌, ℕ, false}
 use Rattle.sp_tree.specs.PlainChecked as p
 use Rattle.sp_tree.specs.Bare.{bare_statement, bare_statement_form, bare_statements, bare_arms}
 use Rattle.sp_tree.specs.Uses.{Use, IsOther, In_stmt, In_stmts, In_arms}
@@ -11,11 +11,11 @@ use Rattle.sp_varsets.specs.AddedUses.{AddsUses}
 use Rattle.sp_varsets.specs.Parts.{IsPart, IsInForm, IsInStatements, IsInArms}
 use Rattle.sp_varsets.specs.Records.{RecordsStatements}
 
--- the uses that stand here were added, and these statements recorded
+-- if the new uses are not lost, the uses that stand here were added, and these statements recorded
 pub record AddsAndRecords (old new : Walk) (before after : Uses) (Here : Use → Type 0) (S : p.Statement
     → Type 0) : Type 0 where
   pub adds : AddsUses before after Here
-  pub writes : RecordsStatements old new S
+  pub writes : after.is_lost ≡ false → RecordsStatements old new S
 
 abbrev pub WalksStatement : Walk → Walk → Uses → Uses → p.Statement → Type 0
 WalksStatement old new a b s = AddsAndRecords old new a b (In_stmt (bare_statement s)) (λ t. IsPart t s)

@@ -4,7 +4,6 @@ ghost use Rattle.std.specs.Prelude.{◌≡◌, ℕ, ◌<◌, ◌≤◌, ◌^◌,
 ghost use Rattle.std.specs.Prelude.{map, length};
 ghost use Rattle.sp_tree.specs.Bare.{without_places};
 ghost use Rattle.sp_tree.specs.CheckedOf.{block_of, program_of};
-ghost use Rattle.sp_varsets.specs.AddedUses.{AreEmpty};
 ghost use Rattle.sp_varsets.specs.AreSets.{HaveEarlierParents};
 ghost use Rattle.sp_varsets.specs.Bodies.{IsInBlocks, AreBodies, AppendsRows, AppendsBody, Declares, AreDeclared};
 ghost use Rattle.sp_varsets.specs.Paths.{member};
@@ -18,13 +17,15 @@ use sp_base::{List, Memory};
 use sp_tree::{Block, Checked};
 use std::alloc::Global;
 
-/// What stands in the statement part of each block, by its number.
+/// What stands in the statement part of each block, by its number. Bodies that were refused memory are lost: what they
+/// have is no answer.
 #[derive(Drop)]
 pub(crate) struct Bodies {
     pub targets: List<VarSet>,
     pub expressions: List<VarSet>,
     pub calls: List<VarSet>,
     pub stops: List<VarSet>,
+    pub is_lost: bool,
 }
 
 /// Walks through the statement parts of all blocks.
@@ -38,40 +39,44 @@ pub(crate) fn gather(walk: &mut Walk, blocks: &[Block]) -> Result<Bodies, Memory
         expressions: List::new(alloc),
         calls: List::new(alloc),
         stops: List::new(alloc),
+        is_lost: false,
     };
     for block in blocks {
-        take!(bodies.walk_in(walk, block));
+        bodies.walk_in(walk, block);
     }
-    Ok(bodies)
+    if bodies.is_lost {
+        Err(Memory)
+    } else {
+        Ok(bodies)
+    }
 }
 
 impl Bodies {
     // Walks through the statement part of the next block.
-    fn walk_in(&mut self, walk: &mut Walk, block: &Block) -> Result<(), Memory>
-        ensures { OnOk result (AppendsBody self.old self.new walk.old walk.new (block_of block.now)) }
+    fn walk_in(&mut self, walk: &mut Walk, block: &Block)
+        ensures { AppendsBody self.old self.new walk.old walk.new (block_of block.now) }
     {
         let mut uses = Uses::new(walk.alloc);
-        self.fill(walk, &mut uses, block)
+        walk.statement(&mut uses, &block.body);
+        self.put(uses);
     }
 
-    // The same, with sets of the block's own, which are empty.
-    fn fill(&mut self, walk: &mut Walk, uses: &mut Uses, block: &Block) -> Result<(), Memory>
-        ensures { AreEmpty uses.old
-            → OnOk result (AppendsBody self.old self.new walk.old walk.new (block_of block.now)) }
+    // Puts the sets of the next block last.
+    fn put(&mut self, uses: Uses)
+        ensures { AppendsRows self.old self.new uses }
     {
-        take!(walk.statement(uses, &block.body));
-        self.put(uses)
-    }
-
-    // Puts the sets of the next block last, out of those given.
-    fn put(&mut self, uses: &mut Uses) -> Result<(), Memory>
-        ensures { OnOk result (AppendsRows self.old self.new uses.old) }
-    {
-        self.targets.push(uses.targets.take())?;
-        self.expressions.push(uses.expressions.take())?;
-        self.calls.push(uses.calls.take())?;
-        self.stops.push(uses.stops.take())?;
-        Ok(())
+        let Uses {
+            targets,
+            expressions,
+            calls,
+            stops,
+            is_lost,
+        } = uses;
+        self.is_lost |= is_lost;
+        self.is_lost |= self.targets.push(targets).is_err();
+        self.is_lost |= self.expressions.push(expressions).is_err();
+        self.is_lost |= self.calls.push(calls).is_err();
+        self.is_lost |= self.stops.push(stops).is_err();
     }
 }
 

@@ -54,7 +54,7 @@ fn reached(alloc: Global, checked: &Checked, bodies: &Bodies) -> Result<Reach, M
     requires bodies { AreBodies (map block_of checked.now.blocks) bodies.now (length checked.now.blocks) }
     ensures { IfOk result (λ reach. Reaches (program_of checked.now) bodies.now reach) }
 {
-    let order_list = take!(inner_first(alloc, checked.blocks.items()));
+    let order_list = inner_first(alloc, checked.blocks.items());
     let hidden = take!(declared(checked, alloc));
     let free = take!(empty_rows(alloc, checked.blocks.len()));
     let order = order_list.items();

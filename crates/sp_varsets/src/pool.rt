@@ -18,12 +18,13 @@ pub(crate) struct Known {
     before: List<u32>,
 }
 
-// Puts zeros last until there is a place of this number.
-fn grow(places: &mut List<u32>, number: usize) -> Result<(), Memory> {
+// Puts zeros last until there is a place of this number, or memory is refused.
+fn grow(places: &mut List<u32>, number: usize) {
     'places: for _k in places.len()..=number {
-        places.push(0)?;
+        if places.push(0).is_err() {
+            return;
+        }
     }
-    Ok(())
 }
 
 impl Known {
@@ -50,10 +51,10 @@ impl Known {
         }
     }
 
-    // Notes that the set of this index has this sum.
-    fn note(&mut self, sum: usize, index: u32) -> Result<(), Memory> {
-        grow(&mut self.newest, sum)?;
-        grow(&mut self.before, index as usize)?;
+    // Notes that the set of this index has this sum. If memory is refused, no equal set is found there later.
+    fn note(&mut self, sum: usize, index: u32) {
+        grow(&mut self.newest, sum);
+        grow(&mut self.before, index as usize);
         if let Some(newest) = self.newest.get_mut(sum) {
             let before = *newest;
             *newest = index;
@@ -61,7 +62,6 @@ impl Known {
                 *place = before;
             }
         }
-        Ok(())
     }
 }
 
@@ -126,7 +126,7 @@ impl Walk {
     {
         self.pool.push(set)?;
         let index = index_of(self.pool.len())?;
-        self.known.note(sum, index)?;
+        self.known.note(sum, index);
         Ok(index)
     }
 

@@ -1,6 +1,6 @@
 //! What stands in expressions, variables and arguments: variables, and blocks that are called.
 
-ghost use Rattle.std.specs.Prelude.{◌≡◌, OnOk, map};
+ghost use Rattle.std.specs.Prelude.{◌≡◌, map};
 ghost use Rattle.sp_tree.specs.Bare.{bare_expression, bare_form, bare_variable, bare_selectors, bare_actuals};
 ghost use Rattle.sp_tree.specs.Bare.{bare_width};
 ghost use Rattle.sp_tree.specs.CheckedOf.{expression_of, expression_form_of, variable_of, selector_of, selectors};
@@ -12,7 +12,6 @@ ghost use Rattle.sp_varsets.specs.AddedUses.{AddsUses, AreEmpty, AreUnions, IsWi
 ghost use Rattle.sp_varsets.specs.Members.{has};
 
 use crate::var_set::VarSet;
-use sp_base::Memory;
 use sp_tree::{Actual, Expr, ExprForm, Selector, Var};
 use std::alloc::Global;
 
@@ -29,13 +28,15 @@ macro_rules! take {
 }
 
 /// What stands in a part of a tree: the variables of target positions and of expression positions, and the blocks
-/// that are called. `stops` has 0 where a statement stands there that a function may not have.
+/// that are called. `stops` has 0 where a statement stands there that a function may not have. Uses that were refused
+/// memory are lost: what they have is no answer. So a pass does not end at once, and has no branch for each call.
 #[derive(Drop)]
 pub(crate) struct Uses {
     pub targets: VarSet,
     pub expressions: VarSet,
     pub calls: VarSet,
     pub stops: VarSet,
+    pub is_lost: bool,
 }
 
 impl Uses {
@@ -47,44 +48,43 @@ impl Uses {
             expressions: VarSet::new(alloc),
             calls: VarSet::new(alloc),
             stops: VarSet::new(alloc),
+            is_lost: false,
         }
     }
 
-    #[tactic(auto, using(crate::proofs::AddedSets::target_added))]
-    pub(crate) fn add_target(&mut self, variable: u32) -> Result<(), Memory>
-        ensures { OnOk result (AddsUses self.old self.new (λ u. u ≡ Target variable)) }
+    pub(crate) fn add_target(&mut self, variable: u32)
+        ensures { AddsUses self.old self.new (λ u. u ≡ Target variable) }
     {
-        self.targets.insert(variable)
+        self.is_lost |= self.targets.insert(variable).is_err();
     }
 
-    #[tactic(auto, using(crate::proofs::AddedSets::seen_added))]
-    pub(crate) fn add_seen(&mut self, variable: u32) -> Result<(), Memory>
-        ensures { OnOk result (AddsUses self.old self.new (λ u. u ≡ Seen variable)) }
+    pub(crate) fn add_seen(&mut self, variable: u32)
+        ensures { AddsUses self.old self.new (λ u. u ≡ Seen variable) }
     {
-        self.expressions.insert(variable)
+        self.is_lost |= self.expressions.insert(variable).is_err();
     }
 
-    pub(crate) fn add_call(&mut self, block: u32) -> Result<(), Memory>
-        ensures { OnOk result ((args : Actuals) → AddsUses self.old self.new (λ u. u ≡ CallOf block args)) }
+    pub(crate) fn add_call(&mut self, block: u32)
+        ensures { (args : Actuals) → AddsUses self.old self.new (λ u. u ≡ CallOf block args) }
     {
-        self.calls.insert(block)
+        self.is_lost |= self.calls.insert(block).is_err();
     }
 
-    #[tactic(auto, using(crate::proofs::AddedSets::stopped))]
-    pub(crate) fn stop(&mut self) -> Result<(), Memory>
-        ensures { OnOk result (AddsUses self.old self.new (λ u. u ≡ Stop)) }
+    pub(crate) fn stop(&mut self)
+        ensures { AddsUses self.old self.new (λ u. u ≡ Stop) }
     {
-        self.stops.insert(0)
+        self.is_lost |= self.stops.insert(0).is_err();
     }
 
     /// Adds what stands elsewhere.
-    pub(crate) fn merge(&mut self, other: &Uses) -> Result<(), Memory>
-        ensures { OnOk result (AreUnions self.old other.now self.new) }
+    pub(crate) fn merge(&mut self, other: &Uses)
+        ensures { AreUnions self.old other.now self.new }
     {
-        self.targets.join(&other.targets)?;
-        self.expressions.join(&other.expressions)?;
-        self.calls.join(&other.calls)?;
-        self.stops.join(&other.stops)
+        self.is_lost |= other.is_lost;
+        self.is_lost |= self.targets.join(&other.targets).is_err();
+        self.is_lost |= self.expressions.join(&other.expressions).is_err();
+        self.is_lost |= self.calls.join(&other.calls).is_err();
+        self.is_lost |= self.stops.join(&other.stops).is_err();
     }
 
     /// Leaves out the positions of the variable.
@@ -93,32 +93,33 @@ impl Uses {
         ensures expressions { IsWithout self.old.expressions self.new.expressions variable }
         ensures calls { self.new.calls ≡ self.old.calls }
         ensures stops { self.new.stops ≡ self.old.stops }
+        ensures lost { self.new.is_lost ≡ self.old.is_lost }
     {
         self.targets.remove(variable);
         self.expressions.remove(variable);
     }
 
     #[cycle(uses)]
-    pub(crate) fn expression(&mut self, e: &Expr) -> Result<(), Memory>
-        ensures { OnOk result (AddsUses self.old self.new (In_expr (bare_expression (expression_of e.now)))) }
+    pub(crate) fn expression(&mut self, e: &Expr)
+        ensures { AddsUses self.old self.new (In_expr (bare_expression (expression_of e.now))) }
     {
         self.form(&e.form)
     }
 
     #[cycle(uses)]
-    fn form(&mut self, form: &ExprForm) -> Result<(), Memory>
-        ensures { OnOk result (AddsUses self.old self.new (In_form (bare_form (expression_form_of form.now)))) }
+    fn form(&mut self, form: &ExprForm)
+        ensures { AddsUses self.old self.new (In_form (bare_form (expression_form_of form.now))) }
     {
         match form {
-            ExprForm::Number(_) => Ok(()),
+            ExprForm::Number(_) => {}
             ExprForm::Read(v) => self.read(v),
             ExprForm::Unary(_op, a) => self.expression(a.get()),
             ExprForm::Binary(_op, a, b) => {
-                self.expression(a.get())?;
+                self.expression(a.get());
                 self.expression(b.get())
             }
             ExprForm::Call(f, _at, args) => {
-                self.add_call(*f)?;
+                self.add_call(*f);
                 self.actuals(args.items())
             }
             ExprForm::Standard(_f, args) => match args.items().split_first() {
@@ -129,56 +130,54 @@ impl Uses {
     }
 
     #[cycle(uses)]
-    fn read(&mut self, v: &Var) -> Result<(), Memory>
-        ensures { OnOk result (AddsUses self.old self.new (In_read (bare_variable (variable_of v.now)))) }
+    fn read(&mut self, v: &Var)
+        ensures { AddsUses self.old self.new (In_read (bare_variable (variable_of v.now))) }
     {
-        self.add_seen(v.variable)?;
+        self.add_seen(v.variable);
         self.selectors(v.selectors.items())
     }
 
     #[cycle(uses)]
-    pub(crate) fn target(&mut self, v: &Var) -> Result<(), Memory>
-        ensures { OnOk result (AddsUses self.old self.new (In_target (bare_variable (variable_of v.now)))) }
+    pub(crate) fn target(&mut self, v: &Var)
+        ensures { AddsUses self.old self.new (In_target (bare_variable (variable_of v.now))) }
     {
-        self.add_target(v.variable)?;
+        self.add_target(v.variable);
         self.selectors(v.selectors.items())
     }
 
     #[cycle(uses)]
-    fn selectors(&mut self, ss: &[Selector]) -> Result<(), Memory>
-        ensures { OnOk result (AddsUses self.old self.new
-            (In_selectors (bare_selectors (selectors (map selector_of ss.now))))) }
+    fn selectors(&mut self, ss: &[Selector])
+        ensures { AddsUses self.old self.new
+            (In_selectors (bare_selectors (selectors (map selector_of ss.now)))) }
     {
         for s in ss {
-            self.selector(s)?;
+            self.selector(s);
         }
-        Ok(())
     }
 
     #[cycle(uses)]
-    fn selector(&mut self, s: &Selector) -> Result<(), Memory>
-        ensures { OnOk result (AddsUses self.old self.new (In_selector (selector_of s.now))) }
+    fn selector(&mut self, s: &Selector)
+        ensures { AddsUses self.old self.new (In_selector (selector_of s.now)) }
     {
         match s {
             Selector::Index(e) => self.expression(e),
-            Selector::Field(_) => Ok(()),
+            Selector::Field(_) => {}
         }
     }
 
     #[cycle(uses)]
-    pub(crate) fn actuals(&mut self, args: &[Actual]) -> Result<(), Memory>
-        ensures { OnOk result
-            (AddsUses self.old self.new (In_actuals (bare_actuals (actuals (map actual_of args.now))))) }
+    pub(crate) fn actuals(&mut self, args: &[Actual])
+        ensures { AddsUses self.old self.new
+            (In_actuals (bare_actuals (actuals (map actual_of args.now)))) }
     {
         for a in args {
-            self.actual(a)?;
+            self.actual(a);
         }
-        Ok(())
     }
 
     #[cycle(uses)]
-    fn actual(&mut self, a: &Actual) -> Result<(), Memory>
-        ensures { OnOk result (AddsUses self.old self.new (In_actual (actual_of a.now))) }
+    fn actual(&mut self, a: &Actual)
+        ensures { AddsUses self.old self.new (In_actual (actual_of a.now)) }
     {
         match a {
             Actual::Value(e) => self.expression(e),
@@ -186,12 +185,12 @@ impl Uses {
         }
     }
 
-    pub(crate) fn width(&mut self, w: &Option<Expr>) -> Result<(), Memory>
-        ensures { OnOk result (AddsUses self.old self.new (In_width (bare_width (width_of w.now)))) }
+    pub(crate) fn width(&mut self, w: &Option<Expr>)
+        ensures { AddsUses self.old self.new (In_width (bare_width (width_of w.now))) }
     {
         match w {
             Some(e) => self.expression(e),
-            None => Ok(()),
+            None => {}
         }
     }
 }

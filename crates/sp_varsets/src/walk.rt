@@ -16,7 +16,7 @@ use crate::pool::Known;
 use crate::take;
 use crate::uses::Uses;
 use crate::var_set::VarSet;
-use sp_base::{List, Memory, Place};
+use sp_base::{List, Memory};
 use sp_tree::{Arm, Expr, Form, Stmt, Var};
 use std::alloc::Global;
 
@@ -89,50 +89,49 @@ impl Walk {
         Ok(())
     }
 
+    // The same under the number that stands so far behind a first one.
+    fn keep_behind(&mut self, first: u32, i: usize, uses: &mut Uses) -> Result<(), Memory>
+        ensures { OnOk result (RecordsSets self.old self.new (first + i) uses.old) }
+    {
+        let number = take!(number_from(first, i));
+        self.keep(number, uses)
+    }
+
     /// Adds what stands in the statement, and records it and the statements inside it.
     #[cycle(walk)]
-    pub(crate) fn statement(&mut self, into: &mut Uses, s: &Stmt) -> Result<(), Memory>
-        ensures { OnOk result (WalksStatement self.old self.new into.old into.new (statement_of s.now)) }
+    pub(crate) fn statement(&mut self, into: &mut Uses, s: &Stmt)
+        ensures { WalksStatement self.old self.new into.old into.new (statement_of s.now) }
     {
         let mut mine = Uses::new(self.alloc);
-        self.record(into, &mut mine, s)
-    }
-
-    // The same, with sets of the statement's own, which are empty.
-    #[cycle(walk)]
-    fn record(&mut self, into: &mut Uses, mine: &mut Uses, s: &Stmt) -> Result<(), Memory>
-        ensures { AreEmpty mine.old → OnOk result
-            (WalksStatement self.old self.new into.old into.new (statement_of s.now)) }
-    {
-        take!(self.form(mine, &s.form));
-        take!(into.merge(mine));
-        self.keep(s.number as usize, mine)
+        self.form(&mut mine, &s.form);
+        into.merge(&mine);
+        into.is_lost |= self.keep(s.number as usize, &mut mine).is_err();
     }
 
     #[cycle(walk)]
-    fn form(&mut self, into: &mut Uses, form: &Form) -> Result<(), Memory>
-        ensures { OnOk result (WalksForm self.old self.new into.old into.new (statement_form_of form.now)) }
+    fn form(&mut self, into: &mut Uses, form: &Form)
+        ensures { WalksForm self.old self.new into.old into.new (statement_form_of form.now) }
     {
         match form {
-            Form::Empty => Ok(()),
+            Form::Empty => {}
             Form::Assign(v, e) => into.assign(v, e),
             Form::Call(f, args) => into.call(*f, args.items()),
             Form::Sequence(ss) => self.statements(into, ss.items()),
             Form::If(e, a, None) => {
-                into.expression(e)?;
+                into.expression(e);
                 self.statement(into, a.get())
             }
             Form::If(e, a, Some(b)) => {
-                into.expression(e)?;
-                self.statement(into, a.get())?;
+                into.expression(e);
+                self.statement(into, a.get());
                 self.statement(into, b.get())
             }
             Form::While(e, s) => {
-                into.expression(e)?;
+                into.expression(e);
                 self.statement(into, s.get())
             }
             Form::Repeat(s, e) => {
-                into.expression(e)?;
+                into.expression(e);
                 self.statement(into, s.get())
             }
             Form::For {
@@ -143,17 +142,17 @@ impl Walk {
                 to,
                 body,
             } => {
-                into.add_target(*variable)?;
-                into.expression(from)?;
-                into.expression(to)?;
+                into.add_target(*variable);
+                into.expression(from);
+                into.expression(to);
                 self.statement(into, body.get())
             }
             Form::Case(e, choices) => {
-                into.expression(e)?;
+                into.expression(e);
                 self.choices(into, choices.items())
             }
             Form::Parallel(ss) => {
-                self.statements(into, ss.items())?;
+                self.statements(into, ss.items());
                 into.stop()
             }
             Form::Forall {
@@ -162,9 +161,9 @@ impl Walk {
                 to,
                 body,
             } => {
-                into.expression(from)?;
-                into.expression(to)?;
-                self.element(into, *index, body.get())?;
+                into.expression(from);
+                into.expression(to);
+                self.element(into, *index, body.get());
                 into.stop()
             }
             Form::Assume(e) => into.expression(e),
@@ -177,210 +176,96 @@ impl Walk {
             Form::Send(c, e) => into.send(c, e),
             Form::Receive(c, v) => into.receive(c, v),
             Form::SendEach {
-                at,
+                at: _at,
                 number,
                 channel,
                 values,
-            } => self.sends(into, *number, *at, channel, values.items()),
+            } => self.sends(into, *number, channel, values.items()),
             Form::ReceiveEach {
-                at,
+                at: _at,
                 number,
                 channel,
                 variables,
-            } => self.receives(into, *number, *at, channel, variables.items()),
+            } => self.receives(into, *number, channel, variables.items()),
         }
     }
 
     // The element statement of a forall, whose index is left out of the positions.
     #[cycle(walk)]
-    fn element(&mut self, into: &mut Uses, index: u32, s: &Stmt) -> Result<(), Memory>
-        ensures { OnOk result (WalksElement self.old self.new into.old into.new index (statement_of s.now)) }
+    fn element(&mut self, into: &mut Uses, index: u32, s: &Stmt)
+        ensures { WalksElement self.old self.new into.old into.new index (statement_of s.now) }
     {
         let mut inner = Uses::new(self.alloc);
-        self.inside(into, &mut inner, index, s)
-    }
-
-    // The same, with sets of the element statement's own, which are empty.
-    #[cycle(walk)]
-    fn inside(
-        &mut self,
-        into: &mut Uses,
-        inner: &mut Uses,
-        index: u32,
-        s: &Stmt,
-    ) -> Result<(), Memory>
-        ensures { AreEmpty inner.old → OnOk result
-            (WalksElement self.old self.new into.old into.new index (statement_of s.now)) }
-    {
-        take!(self.statement(inner, s));
+        self.statement(&mut inner, s);
         inner.forget(index);
-        into.merge(inner)
+        into.merge(&inner);
     }
 
     #[cycle(walk)]
-    fn statements(&mut self, into: &mut Uses, ss: &[Stmt]) -> Result<(), Memory>
-        ensures { OnOk result (WalksStatements self.old self.new into.old into.new
-            (statements (map statement_of ss.now))) }
+    fn statements(&mut self, into: &mut Uses, ss: &[Stmt])
+        ensures { WalksStatements self.old self.new into.old into.new (statements (map statement_of ss.now)) }
     {
         for s in ss {
-            self.statement(into, s)?;
+            self.statement(into, s);
         }
-        Ok(())
     }
 
     #[cycle(walk)]
-    fn choices(&mut self, into: &mut Uses, choices: &[Arm]) -> Result<(), Memory>
-        ensures { OnOk result (WalksArms self.old self.new into.old into.new (arms (map arm_of choices.now))) }
+    fn choices(&mut self, into: &mut Uses, choices: &[Arm])
+        ensures { WalksArms self.old self.new into.old into.new (arms (map arm_of choices.now)) }
     {
         for arm in choices {
-            self.statement(into, &arm.body)?;
+            self.statement(into, &arm.body);
         }
-        Ok(())
     }
 
-    // The single statements of several sends.
-    fn sends(
-        &mut self,
-        into: &mut Uses,
-        number: u32,
-        at: Place,
-        channel: &Expr,
-        values: &[Expr],
-    ) -> Result<(), Memory>
-        ensures { OnOk result (WalksStatements self.old self.new into.old into.new
-            (sends number at (expression_of channel.now) (map expression_of values.now))) }
+    // The single statements of several sends, wherever they stand. A long channel is walked through once.
+    fn sends(&mut self, into: &mut Uses, number: u32, channel: &Expr, values: &[Expr])
+        ensures { (at : APlace) → WalksStatements self.old self.new into.old into.new
+            (sends number at (expression_of channel.now) (map expression_of values.now)) }
     {
         let mut through = Uses::new(self.alloc);
-        self.sends_through(into, &mut through, number, channel, values)
-    }
-
-    // The same, with sets of the channel's own, which are empty: a long channel is walked through once.
-    fn sends_through(
-        &mut self,
-        into: &mut Uses,
-        through: &mut Uses,
-        number: u32,
-        channel: &Expr,
-        values: &[Expr],
-    ) -> Result<(), Memory>
-        ensures { (at : APlace) → AreEmpty through.old
-            → OnOk result (WalksStatements self.old self.new into.old into.new
-            (sends number at (expression_of channel.now) (map expression_of values.now))) }
-    {
-        through.expression(channel)?;
+        through.expression(channel);
         for (i, value) in values.iter().enumerate() {
-            self.send(into, number_from(number, i)?, through, value)?;
+            self.send(into, number, i, &through, value);
         }
-        Ok(())
     }
 
-    // A single send, which has this number.
-    fn send(
-        &mut self,
-        into: &mut Uses,
-        number: usize,
-        through: &Uses,
-        value: &Expr,
-    ) -> Result<(), Memory>
-        ensures { OnOk result ((at : APlace) (channel : c.Expression) (start : AUses) → AreEmpty start
+    // A single send, whose number stands so far behind a first one.
+    fn send(&mut self, into: &mut Uses, first: u32, i: usize, through: &Uses, value: &Expr)
+        ensures { (at : APlace) (channel : c.Expression) (start : AUses) → AreEmpty start
             → AddsUses start through.now (In_expr (bare_expression channel))
             → WalksStatement self.old self.new into.old into.new
-            (c.Does number at (c.Send channel (expression_of value.now)))) }
+            (c.Does (first + i) at (c.Send channel (expression_of value.now))) }
     {
         let mut mine = Uses::new(self.alloc);
-        self.sent(into, &mut mine, number, through, value)
+        mine.send_through(through, value);
+        into.merge(&mine);
+        into.is_lost |= self.keep_behind(first, i, &mut mine).is_err();
     }
 
-    // The same, with sets of the statement's own, which are empty.
-    fn sent(
-        &mut self,
-        into: &mut Uses,
-        mine: &mut Uses,
-        number: usize,
-        through: &Uses,
-        value: &Expr,
-    ) -> Result<(), Memory>
-        ensures { AreEmpty mine.old → OnOk result
-            ((at : APlace) (channel : c.Expression) (start : AUses) → AreEmpty start
-            → AddsUses start through.now (In_expr (bare_expression channel))
-            → WalksStatement self.old self.new into.old into.new
-            (c.Does number at (c.Send channel (expression_of value.now)))) }
-    {
-        take!(mine.send_through(through, value));
-        take!(into.merge(mine));
-        self.keep(number, mine)
-    }
-
-    // The single statements of several receives.
-    fn receives(
-        &mut self,
-        into: &mut Uses,
-        number: u32,
-        at: Place,
-        channel: &Expr,
-        variables: &[Var],
-    ) -> Result<(), Memory>
-        ensures { OnOk result (WalksStatements self.old self.new into.old into.new
-            (receives number at (expression_of channel.now) (map variable_of variables.now))) }
+    // The single statements of several receives, in the same way.
+    fn receives(&mut self, into: &mut Uses, number: u32, channel: &Expr, variables: &[Var])
+        ensures { (at : APlace) → WalksStatements self.old self.new into.old into.new
+            (receives number at (expression_of channel.now) (map variable_of variables.now)) }
     {
         let mut through = Uses::new(self.alloc);
-        self.receives_through(into, &mut through, number, channel, variables)
-    }
-
-    // The same, with sets of the channel's own, which are empty: a long channel is walked through once.
-    fn receives_through(
-        &mut self,
-        into: &mut Uses,
-        through: &mut Uses,
-        number: u32,
-        channel: &Expr,
-        variables: &[Var],
-    ) -> Result<(), Memory>
-        ensures { (at : APlace) → AreEmpty through.old
-            → OnOk result (WalksStatements self.old self.new into.old into.new
-            (receives number at (expression_of channel.now) (map variable_of variables.now))) }
-    {
-        through.expression(channel)?;
+        through.expression(channel);
         for (i, variable) in variables.iter().enumerate() {
-            self.receive(into, number_from(number, i)?, through, variable)?;
+            self.receive(into, number, i, &through, variable);
         }
-        Ok(())
     }
 
-    // A single receive, which has this number.
-    fn receive(
-        &mut self,
-        into: &mut Uses,
-        number: usize,
-        through: &Uses,
-        variable: &Var,
-    ) -> Result<(), Memory>
-        ensures { OnOk result ((at : APlace) (channel : c.Expression) (start : AUses) → AreEmpty start
+    // A single receive, whose number stands so far behind a first one.
+    fn receive(&mut self, into: &mut Uses, first: u32, i: usize, through: &Uses, variable: &Var)
+        ensures { (at : APlace) (channel : c.Expression) (start : AUses) → AreEmpty start
             → AddsUses start through.now (In_expr (bare_expression channel))
             → WalksStatement self.old self.new into.old into.new
-            (c.Does number at (c.Receive channel (variable_of variable.now)))) }
+            (c.Does (first + i) at (c.Receive channel (variable_of variable.now))) }
     {
         let mut mine = Uses::new(self.alloc);
-        self.received(into, &mut mine, number, through, variable)
-    }
-
-    // The same, with sets of the statement's own, which are empty.
-    fn received(
-        &mut self,
-        into: &mut Uses,
-        mine: &mut Uses,
-        number: usize,
-        through: &Uses,
-        variable: &Var,
-    ) -> Result<(), Memory>
-        ensures { AreEmpty mine.old → OnOk result
-            ((at : APlace) (channel : c.Expression) (start : AUses) → AreEmpty start
-            → AddsUses start through.now (In_expr (bare_expression channel))
-            → WalksStatement self.old self.new into.old into.new
-            (c.Does number at (c.Receive channel (variable_of variable.now)))) }
-    {
-        take!(mine.receive_through(through, variable));
-        take!(into.merge(mine));
-        self.keep(number, mine)
+        mine.receive_through(through, variable);
+        into.merge(&mine);
+        into.is_lost |= self.keep_behind(first, i, &mut mine).is_err();
     }
 }

@@ -14,9 +14,9 @@ returns c =
     let stops = rw (c.items-calls.ensures, c.items-free_rows.ensures, c.items-4.ensures) at c.in-Ok-closed-3.ensures in
     record {
       declared = (
-        c.in-Ok-declared.value,
-        subst (λ n. AreDeclared (without_places (program_of c.args.checked.now)) c.in-Ok-declared.value n)
-            (sym (length_of_map variable_of c.args.checked.now.variables)) c.in-Ok-declared.ensures,
+        c.in-Ok.value,
+        subst (λ n. AreDeclared (without_places (program_of c.args.checked.now)) c.in-Ok.value n)
+            (sym (length_of_map variable_of c.args.checked.now.variables)) c.in-Ok.ensures,
         targets,
         expressions,
       );
@@ -35,7 +35,7 @@ closed-requires c =
         b.targets,
         own,
         ap length c.items-hidden_rows.ensures,
-        c.in-Ok-declared.ensures.count,
+        c.in-Ok.ensures.count,
         length_of_map bare_block (map block_of bs),
         length_of_map block_of bs,
       );
@@ -54,7 +54,7 @@ closed-requires-2 c =
         b.expressions,
         own,
         ap length c.items-hidden_rows.ensures,
-        c.in-Ok-declared.ensures.count,
+        c.in-Ok.ensures.count,
         length_of_map bare_block (map block_of bs),
         length_of_map block_of bs,
       );

@@ -1,10 +1,11 @@
-use Rattle.std.proofs.Common.{◌∙◌, ◌++◌, ◌∷◌, [], ap}
+use Rattle.sp_varsets.proofs.AddedSets.{went_well}
+use Rattle.sp_varsets.proofs.BlockRows.{rows_put}
 use Rattle.sp_varsets.proofs.bodies.Bodies.put.Goals as goal
 
 pub returns : goal.returns
-returns c = record {
-  targets = c.in_ok-push.ensures.ok ∙ ap (λ s. c.args.self.now.targets ++ s ∷ []) c.take.ensures;
-  expressions = c.in_ok-push-2.ensures.ok ∙ ap (λ s. c.args.self.now.expressions ++ s ∷ []) c.take-2.ensures;
-  calls = c.in_ok-push-3.ensures.ok ∙ ap (λ s. c.args.self.now.calls ++ s ∷ []) c.take-3.ensures;
-  stops = c.in_ok-push-4.ensures.ok ∙ ap (λ s. c.args.self.now.stops ++ s ∷ []) c.take-4.ensures;
-}
+returns c = rows_put c.args.self.now c.args.uses c.push.new.self c.push-2.new.self c.push-3.new.self c.push-4.new.self
+    c.is_err.result c.is_err-2.result c.is_err-3.result c.is_err-4.result
+    (went_well c.push.result c.is_err.result c.push.ensures.ok c.is_err.ensures.value)
+    (went_well c.push-2.result c.is_err-2.result c.push-2.ensures.ok c.is_err-2.ensures.value)
+    (went_well c.push-3.result c.is_err-3.result c.push-3.ensures.ok c.is_err-3.ensures.value)
+    (went_well c.push-4.result c.is_err-4.result c.push-4.ensures.ok c.is_err-4.ensures.value)

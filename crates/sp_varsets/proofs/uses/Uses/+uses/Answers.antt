@@ -6,36 +6,28 @@ use Rattle.sp_tree.specs.declared.checked.Var.{out-Var, fold_out-Var}
 use Rattle.sp_tree.specs.PlainChecked.{ExpressionAt, Number, Read, Unary, Binary, Apply, Standard, Entire, Index, Field}
 use Rattle.sp_tree.specs.PlainChecked.{ByValue}
 use Rattle.sp_tree.specs.PlainChecked.{ByReference}
-use Rattle.sp_tree.specs.Bare.{bare_expression, bare_selectors, bare_actuals}
+use Rattle.sp_tree.specs.Bare.{bare_actuals}
 use Rattle.sp_tree.specs.CheckedOf.{expression_of, expression_form_of, variable_of, selector_of, selectors, actual_of}
 use Rattle.sp_tree.specs.CheckedOf.{actuals, expressions}
-use Rattle.sp_tree.specs.Plain.{Actuals}
-use Rattle.sp_tree.specs.Uses.{Target, Seen, CallOf, In_expr, In_selectors, In_actuals}
-use Rattle.sp_varsets.proofs.AddedSets.{adds_nothing, ok_then, selectors_on, selectors_end, actuals_on, actuals_end}
+use Rattle.sp_varsets.proofs.AddedSets.{adds_nothing, adds_then, selectors_on, selectors_end, actuals_on, actuals_end}
 use Rattle.sp_varsets.proofs.AddedSets.{select_adds, pass_adds}
 use Rattle.sp_varsets.proofs.uses.Uses.+uses.Goals as goal
 
-pub form-returns-in_ok-expression-in-Binary : goal.form-returns-in_ok-expression-in-Binary
-form-returns-in_ok-expression-in-Binary t c =
+pub form-returns-in-Binary : goal.form-returns-in-Binary
+form-returns-in-Binary t c =
     let i : expression_form_of c.args.form.now
     ≡ Binary c.in-Binary._op (expression_of c.in-Binary.a) (expression_of c.in-Binary.b) =
     search (rules, ast_f.the_lemmas) in
-    let e1 = rw c.get-in-Binary.ensures at c.in_ok-expression-in-Binary.ensures in
+    let e1 = rw c.get-in-Binary.ensures at c.expression-in-Binary.ensures in
     let e2 = rw c.get-in-Binary-2.ensures at c.expression-in-Binary-2.ensures in
-    rw i (ok_then c.expression-in-Binary-2.result c.args.self.now c.expression-in-Binary.new.self
-    c.expression-in-Binary-2.new.self (In_expr (bare_expression (expression_of c.in-Binary.a)))
-    (In_expr (bare_expression (expression_of c.in-Binary.b))) e1 e2)
+    rw i (adds_then e1 e2)
 
-pub form-returns-in_ok-add_call-in-Call : goal.form-returns-in_ok-add_call-in-Call
-form-returns-in_ok-add_call-in-Call t c =
+pub form-returns-in-Call : goal.form-returns-in-Call
+form-returns-in-Call t c =
     let i : expression_form_of c.args.form.now
     ≡ Apply c.in-Call.f c.in-Call._at (actuals (map actual_of c.in-Call.args)) = search (rules, ast_f.the_lemmas) in
-    let args : Actuals = bare_actuals (actuals (map actual_of c.in-Call.args)) in
-    let e1 = c.in_ok-add_call-in-Call.ensures args in
-    let e2 = rw c.items.ensures at c.actuals.ensures in
-    rw i (ok_then c.actuals.result c.args.self.now c.add_call.new.self c.actuals.new.self
-    (λ u. u ≡ CallOf c.in-Call.f args)
-    (In_actuals args) e1 e2)
+    let e = rw c.items.ensures at c.actuals.ensures in
+    rw i (adds_then (c.add_call.ensures (bare_actuals (actuals (map actual_of c.in-Call.args)))) e)
 
 pub form-returns-in-None : goal.form-returns-in-None
 form-returns-in-None t c =
@@ -52,8 +44,7 @@ read-returns t c =
     let i : variable_of c.args.v.now ≡ Entire v.variable v.at (selectors (map selector_of v.selectors)) =
     search (rules, fold_out-Var) in
     let e = rw c.items.ensures at c.selectors.ensures in
-    rw i (ok_then c.selectors.result c.args.self.now c.add_seen.new.self c.selectors.new.self (λ u. u ≡ Seen v.variable)
-    (In_selectors (bare_selectors (selectors (map selector_of v.selectors)))) c.in_ok-add_seen.ensures e)
+    rw i (adds_then c.add_seen.ensures e)
 
 pub target-returns : goal.target-returns
 target-returns t c =
@@ -61,15 +52,13 @@ target-returns t c =
     let i : variable_of c.args.v.now ≡ Entire v.variable v.at (selectors (map selector_of v.selectors)) =
     search (rules, fold_out-Var) in
     let e = rw c.items.ensures at c.selectors.ensures in
-    rw i (ok_then c.selectors.result c.args.self.now c.add_target.new.self c.selectors.new.self
-    (λ u. u ≡ Target v.variable)
-    (In_selectors (bare_selectors (selectors (map selector_of v.selectors)))) c.in_ok-add_target.ensures e)
+    rw i (adds_then c.add_target.ensures e)
 
 pub actuals-loop-a-preserved : goal.actuals-loop-a-preserved
 actuals-loop-a-preserved t c z f =
     let on = actuals_on c.args.args.now c.loop-a.a-index c.a-item.result c.loop-a-test.true c.a-item.is in
     c.loop-a.invariant z (rw on (pass_adds c.loop-a.self c.actual.new.self z (actual_of c.a-item.result)
-    (actuals (map actual_of (drop (c.loop-a.a-index + 1) c.args.args.now))) c.in_ok-actual.ensures f))
+    (actuals (map actual_of (drop (c.loop-a.a-index + 1) c.args.args.now))) c.actual.ensures f))
 
 pub actuals-returns : goal.actuals-returns
 actuals-returns t c = c.loop-a.invariant c.loop-a.self
@@ -80,7 +69,7 @@ pub selectors-loop-s-preserved : goal.selectors-loop-s-preserved
 selectors-loop-s-preserved t c z f =
     let on = selectors_on c.args.ss.now c.loop-s.s-index c.s-item.result c.loop-s-test.true c.s-item.is in
     c.loop-s.invariant z (rw on (select_adds c.loop-s.self c.selector.new.self z (selector_of c.s-item.result)
-    (selectors (map selector_of (drop (c.loop-s.s-index + 1) c.args.ss.now))) c.in_ok-selector.ensures f))
+    (selectors (map selector_of (drop (c.loop-s.s-index + 1) c.args.ss.now))) c.selector.ensures f))
 
 pub selectors-returns : goal.selectors-returns
 selectors-returns t c = c.loop-s.invariant c.loop-s.self

@@ -1,12 +1,17 @@
-use Rattle.sp_base.proofs.Facts.{on_ok}
-use Rattle.sp_varsets.proofs.AddedSets.{union_is}
+use Rattle.sp_varsets.proofs.AddedSets.{union_is, unions, went_well}
 use Rattle.sp_varsets.proofs.uses.Uses.merge.Goals as goal
 
 pub returns : goal.returns
-returns c = on_ok c.join-4.result c.join-4.ensures (λ e. record {
-  targets = union_is c.args.self.now.targets c.args.other.now.targets c.join.new.self c.in_ok-join.ensures;
-  expressions = union_is c.args.self.now.expressions c.args.other.now.expressions c.join-2.new.self
-      c.in_ok-join-2.ensures;
-  calls = union_is c.args.self.now.calls c.args.other.now.calls c.join-3.new.self c.in_ok-join-3.ensures;
-  stops = union_is c.args.self.now.stops c.args.other.now.stops c.join-4.new.self e;
-})
+returns c =
+    let a = c.args.self.now in
+    let b = c.args.other.now in
+    unions a b c.join.new.self c.join-2.new.self c.join-3.new.self c.join-4.new.self c.is_err.result c.is_err-2.result
+    c.is_err-3.result c.is_err-4.result
+    (λ w. union_is a.targets b.targets c.join.new.self
+    (went_well c.join.result c.is_err.result c.join.ensures c.is_err.ensures.value w))
+    (λ w. union_is a.expressions b.expressions c.join-2.new.self
+    (went_well c.join-2.result c.is_err-2.result c.join-2.ensures c.is_err-2.ensures.value w))
+    (λ w. union_is a.calls b.calls c.join-3.new.self
+    (went_well c.join-3.result c.is_err-3.result c.join-3.ensures c.is_err-3.ensures.value w))
+    (λ w. union_is a.stops b.stops c.join-4.new.self
+    (went_well c.join-4.result c.is_err-4.result c.join-4.ensures c.is_err-4.ensures.value w))

@@ -1,7 +1,5 @@
-use Rattle.sp_base.proofs.Facts.{on_ok}
 use Rattle.sp_varsets.proofs.AddedSets.{adds_then}
 use Rattle.sp_varsets.proofs.uses.Uses.write_text.Goals as goal
 
 pub returns : goal.returns
-returns c = on_ok c.stop.result (on_ok c.stop.result c.stop.ensures (adds_then c.in-Ok-width.ensures))
-    (λ s text. adds_then c.in-Ok.ensures s)
+returns c text = adds_then c.add_target.ensures (adds_then c.width.ensures c.stop.ensures)

@@ -1,4 +1,13 @@
+use Rattle.std.proofs.Common.{◌+◌}
+use Rattle.sp_tree.specs.PlainChecked.{Send}
+use Rattle.sp_tree.specs.CheckedOf.{expression_of}
+use Rattle.sp_tree.specs.Bare.{bare_expression}
+use Rattle.sp_varsets.proofs.StatementRecords.{statement_walked, walked_none}
 use Rattle.sp_varsets.proofs.walk.Walk.send.Goals as goal
 
 pub returns : goal.returns
-returns c = c.sent.ensures c.new-mine.ensures
+returns c at channel start e f =
+    let does = Send channel (expression_of c.args.value.now) in
+    statement_walked (c.args.first + c.args.i) at does c.keep_behind.result c.is_err.result c.new-mine.ensures
+    (walked_none (c.send_through.ensures (bare_expression channel) start e f)) c.merge.ensures c.keep_behind.ensures
+    c.is_err.ensures.value
