@@ -9,7 +9,7 @@ use std::cmp::Ordering;
 /// What has a line of its own: a process statement of a parallel statement, by its number from 0, or the element
 /// statement of a forall. `at` is the place of the parallel statement or of the forall, `statement` the number of the
 /// process statement or of the element statement.
-#[derive(Clone, Copy, Debug, PartialEq, Eq)]
+#[derive(Clone, Copy)]
 pub struct SetsLine {
     pub at: Place,
     pub part: Option<u32>,
