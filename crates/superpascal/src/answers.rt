@@ -9,10 +9,10 @@ ghost use Rattle.superpascal.specs.Causes.{accepted_answer, answer_without_outpu
 ghost use Rattle.superpascal.specs.declared.ending.Ending.TheVariants as variants;
 
 use crate::ending::{Answer, Ending};
-use crate::have;
-use sp_base::{Memory, Text, put_decimal};
+use sp_base::{Memory, Text};
 use sp_codefile::VRule;
 use sp_print::refusal_line;
+use sp_writer::Writer;
 use std::alloc::Global;
 
 // An answer without an output.
@@ -45,10 +45,11 @@ pub(crate) fn accepted(output: Vec<u8>, notes: Vec<u8>) -> Answer
 fn number_line(alloc: Global, words: &[u8], number: u64) -> Result<Vec<u8>, Memory>
     ensures { IfOk result (λ line. line.items ≡ words.now ++ decimal number ++ codes "\n") }
 {
-    let mut line = have!(Vec::from_slice(alloc, words));
-    have!(put_decimal(&mut line, number));
-    have!(line.extend_from_slice(b"\n"));
-    Ok(line)
+    let mut out = Writer::new(alloc);
+    out.extend(words);
+    out.decimal(number);
+    out.extend(b"\n");
+    out.finish()
 }
 
 // The number of a rule of code files.
@@ -72,12 +73,13 @@ fn rule_number(rule: VRule) -> u64
 fn rejection_line(alloc: Global, rule: VRule, instruction: u32) -> Result<Vec<u8>, Memory>
     ensures { IfOk result (λ line. line.items ≡ line_of (variants.Rejected rule instruction)) }
 {
-    let mut line = have!(Vec::from_slice(alloc, b"rejected V"));
-    have!(put_decimal(&mut line, rule_number(rule)));
-    have!(line.extend_from_slice(b" "));
-    have!(put_decimal(&mut line, instruction as u64));
-    have!(line.extend_from_slice(b"\n"));
-    Ok(line)
+    let mut out = Writer::new(alloc);
+    out.extend(b"rejected V");
+    out.decimal(rule_number(rule));
+    out.extend(b" ");
+    out.decimal(instruction as u64);
+    out.extend(b"\n");
+    out.finish()
 }
 
 // The line of an ending that is not the same for every text; of another, nothing.

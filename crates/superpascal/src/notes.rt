@@ -10,11 +10,12 @@ ghost use Rattle.superpascal.specs.Runs.{end_lines, ending_of, generated_output,
 
 use crate::ending::Ending;
 use crate::have;
-use sp_base::{Memory, Show, put_decimal};
+use sp_base::{Memory, Show};
 use sp_execute::{Ran, witness};
 use sp_journal::{End, print_journal};
 use sp_print::verdict_line;
 use sp_report::{Watcher, tell};
+use sp_writer::Writer;
 use std::alloc::Global;
 
 /// What the end of a run is for the call.
@@ -40,10 +41,11 @@ pub(crate) fn end_lines(alloc: Global, ran: &Ran) -> Result<Vec<u8>, Memory>
     requires { HasLines ran.now.closed.end }
     ensures { IfOk result (λ text. text.items ≡ end_lines ran.now) }
 {
-    let mut text = have!(sp_print::end_lines(alloc, ran.closed.end()));
+    let end = have!(sp_print::end_lines(alloc, ran.closed.end()));
     let verdict = have!(verdict_line(alloc, &ran.verdict));
-    have!(text.extend_from_slice(verdict.as_slice()));
-    Ok(text)
+    let mut out = Writer::behind(end);
+    out.extend(verdict.as_slice());
+    out.finish()
 }
 
 // The end, the verdict and the chosen reports.
@@ -58,10 +60,11 @@ fn told_notes(
     ensures { IfOk result (λ notes. notes.items
         ≡ end_lines ran.now ++ reports text title watchers.items show ran.now.closed.journal.entries) }
 {
-    let mut notes = have!(end_lines(alloc, ran));
+    let lines = have!(end_lines(alloc, ran));
     let reports = have!(tell(alloc, watchers, ran.closed.journal(), show));
-    have!(notes.extend_from_slice(reports.as_slice()));
-    Ok(notes)
+    let mut out = Writer::behind(lines);
+    out.extend(reports.as_slice());
+    out.finish()
 }
 
 /// The notes of `run`: the journal, or the end, the verdict and the chosen reports.
@@ -98,16 +101,17 @@ pub(crate) fn generated_output(alloc: Global, size: u32, ran: &Ran) -> Result<Ve
     requires { IsTellable ran.now }
     ensures { IfOk result (λ text. text.items ≡ generated_output size ran.now) }
 {
-    let mut text = have!(Vec::from_slice(alloc, b"size "));
-    have!(put_decimal(&mut text, size as u64));
-    have!(text.extend_from_slice(b"\noutput "));
-    have!(text.extend_from_slice(ran.closed.output().bytes()));
-    have!(text.extend_from_slice(b"\nentries "));
-    have!(put_decimal(&mut text, ran.closed.journal().entries.len() as u64));
-    have!(text.extend_from_slice(b"\n"));
     let lines = have!(end_lines(alloc, ran));
-    have!(text.extend_from_slice(lines.as_slice()));
-    Ok(text)
+    let mut out = Writer::new(alloc);
+    out.extend(b"size ");
+    out.decimal(size as u64);
+    out.extend(b"\noutput ");
+    out.extend(ran.closed.output().bytes());
+    out.extend(b"\nentries ");
+    out.decimal(ran.closed.journal().entries.len() as u64);
+    out.extend(b"\n");
+    out.extend(lines.as_slice());
+    out.finish()
 }
 
 /// What the end of a replay is for the call; where there is none the run goes on.
@@ -136,8 +140,9 @@ pub(crate) fn replay_notes(alloc: Global, end: &Option<End>) -> Result<Vec<u8>, 
     requires { HasEndLines end.now }
     ensures { IfOk result (λ text. text.items ≡ codes "replayed\n" ++ lines_of_replay end.now) }
 {
-    let mut text = have!(Vec::from_slice(alloc, b"replayed\n"));
     let lines = have!(lines_of_replay(alloc, end));
-    have!(text.extend_from_slice(lines.as_slice()));
-    Ok(text)
+    let mut out = Writer::new(alloc);
+    out.extend(b"replayed\n");
+    out.extend(lines.as_slice());
+    out.finish()
 }
