@@ -92,51 +92,47 @@ fn size_named(text: &str) -> Option<u32>
 fn gen_given(text: &str, given: &ArgMatches<'_>) -> Option<Command>
     ensures { result ≡ command_from CommandName.Gen (values_given given.now) text.now }
 {
+    let size = size_named(text)?;
     let workers = small_number(given, "workers", DEFAULT_WORKERS);
-    size_named(text).map(|size| Command::Gen { size, workers })
+    Some(Command::Gen { size, workers })
 }
 
-// The name of a file.
-fn file(alloc: Global, text: &str) -> Result<Word, AllocError>
+// A word of its own.
+fn word(alloc: Global, text: &str) -> Result<Word, AllocError>
     ensures { IfOk result (λ w. w ≡ text.now) }
 {
     Ok(Word::of(String::from_str(alloc, text)?))
 }
 
-// The command that runs the program of its FILE, and tells of the run so.
-fn run_given(
-    alloc: Global,
-    text: &str,
-    given: &ArgMatches<'_>,
-    telling: Telling,
-) -> Result<Command, AllocError>
-    ensures { IfOk result (λ c. c ≡ run_from (values_given given.now) text.now telling) }
+// The command that runs the program of this FILE, and tells of the run so.
+fn run_given(file: Word, given: &ArgMatches<'_>, telling: Telling) -> Command
+    ensures { result ≡ run_from (values_given given.now) file telling }
 {
-    Ok(Command::Run(RunRequest {
-        file: file(alloc, text)?,
+    Command::Run(RunRequest {
+        file,
         workers: small_number(given, "workers", DEFAULT_WORKERS),
         limits: limits(given),
         telling,
-    }))
+    })
 }
 
-// The command that follows a journal, with the text of its FILE. Without a JOURNAL it is refused.
+// The command that follows a journal of the program of this FILE. Without a JOURNAL it is refused.
 fn replay_given(
     alloc: Global,
-    text: &str,
+    file: Word,
     given: &ArgMatches<'_>,
     view: View,
 ) -> Result<Command, WordsError>
-    ensures ok { IfOk result (λ c. replay_from (values_given given.now) text.now view ≡ Some c) }
+    ensures ok { IfOk result (λ c. replay_from (values_given given.now) file view ≡ Some c) }
     ensures refused { IfErr result (λ e. e ≡ WordsError.Refused
-        → replay_from (values_given given.now) text.now view ≡ None) }
+        → replay_from (values_given given.now) file view ≡ None) }
 {
     let Some(journal) = given.get_str("JOURNAL") else {
         return Err(WordsError::Refused);
     };
     Ok(Command::Replay(ReplayRequest {
-        file: file(alloc, text)?,
-        journal: file(alloc, journal)?,
+        file,
+        journal: word(alloc, journal)?,
         limits: limits(given),
         view,
     }))
@@ -156,22 +152,23 @@ pub(crate) fn command_given(
     let Some(text) = given.get_str("FILE") else {
         return Err(WordsError::Refused);
     };
-    Ok(match command {
-        CommandName::Check => Command::Check(file(alloc, text)?),
-        CommandName::Run => run_given(alloc, text, given, Telling::Reports(show(given)))?,
-        CommandName::Code => Command::Code(file(alloc, text)?),
-        CommandName::Sets => Command::Sets(file(alloc, text)?),
-        CommandName::Format => Command::Format(file(alloc, text)?),
-        CommandName::Build => Command::Build(file(alloc, text)?),
-        CommandName::Gen => gen_given(text, given).ok_or(WordsError::Refused)?,
-        CommandName::Replay => replay_given(alloc, text, given, View::Output)?,
-        CommandName::Trace => replay_given(alloc, text, given, View::Entries)?,
-        CommandName::Where => replay_given(alloc, text, given, View::State)?,
-        CommandName::Witness => run_given(alloc, text, given, Telling::Witness)?,
-        CommandName::Exec => Command::Exec(ExecRequest {
-            file: file(alloc, text)?,
+    let file = word(alloc, text)?;
+    match command {
+        CommandName::Check => Ok(Command::Check(file)),
+        CommandName::Run => Ok(run_given(file, given, Telling::Reports(show(given)))),
+        CommandName::Code => Ok(Command::Code(file)),
+        CommandName::Sets => Ok(Command::Sets(file)),
+        CommandName::Format => Ok(Command::Format(file)),
+        CommandName::Build => Ok(Command::Build(file)),
+        CommandName::Gen => gen_given(text, given).ok_or(WordsError::Refused),
+        CommandName::Replay => replay_given(alloc, file, given, View::Output),
+        CommandName::Trace => replay_given(alloc, file, given, View::Entries),
+        CommandName::Where => replay_given(alloc, file, given, View::State),
+        CommandName::Witness => Ok(run_given(file, given, Telling::Witness)),
+        CommandName::Exec => Ok(Command::Exec(ExecRequest {
+            file,
             workers: small_number(given, "workers", DEFAULT_WORKERS),
             limits: limits(given),
-        }),
-    })
+        })),
+    }
 }
