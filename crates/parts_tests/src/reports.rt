@@ -206,8 +206,8 @@ const REPORTS: [Row; 22] = [
 #[test]
 fn reports(rt: HostRuntime) {
     for row in &REPORTS {
-        let (lines, show, ..) = row;
-        assert!(rt; tells_behind(rt.alloc(), row), "{show:?} {lines}");
+        let (lines, ..) = row;
+        assert!(rt; tells_behind(rt.alloc(), row), "{lines}");
     }
 }
 

@@ -16,7 +16,7 @@ pub struct Refusal {
 }
 
 /// Memory was refused. No promise says when this comes.
-#[derive(Clone, Copy, Debug, PartialEq, Eq, Error)]
+#[derive(Clone, Copy, Debug, Error)]
 #[error("out of memory")]
 pub struct Memory;
 
@@ -33,7 +33,7 @@ impl<T: Drop> From<AllocFailed<T>> for Memory {
 }
 
 /// The answer of a pass that reads a text and does not come to its end.
-#[derive(Clone, Copy, Debug, PartialEq, Eq, Error)]
+#[derive(Clone, Copy, Debug, Error)]
 pub enum Halt {
     /// The text breaks a rule, of which this is the first.
     #[error("refused")]

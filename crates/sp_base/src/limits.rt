@@ -17,7 +17,7 @@ pub fn the_numbers_are_these()
 
 /// The seven limits of a run. Ticks, depth and cells count for each process by itself. Processes, channels and
 /// entries are totals of the run that never fall, since what is alive at once would depend on the schedule.
-#[derive(Clone, Copy, Debug, PartialEq, Eq)]
+#[derive(Clone, Copy)]
 pub struct Limits {
     /// How many ticks (turns of loops, and calls) a process may make.
     pub ticks: u64,
@@ -36,7 +36,7 @@ pub struct Limits {
 }
 
 /// What a run reports beside its end and its verdict.
-#[derive(Clone, Copy, Debug, PartialEq, Eq)]
+#[derive(Clone, Copy)]
 pub enum Show {
     /// Nothing more.
     End,

@@ -14,7 +14,7 @@ use std::cmp::Ordering;
 use std::fmt;
 
 /// One step from a process to one that it started: which of its forks, and which child of it. Both count from 0.
-#[derive(Clone, Copy, Debug, PartialEq, Eq, PartialOrd, Ord)]
+#[derive(Clone, Copy, PartialEq, Eq, PartialOrd, Ord)]
 pub struct Pair {
     pub fork: u32,
     pub child: u32,
@@ -22,14 +22,14 @@ pub struct Pair {
 
 /// The name of a process: the way to it from the root, which has no pairs. Names are ordered pair by pair, by
 /// fork and then child, and a prefix comes first.
-#[derive(Debug, Drop, PartialEq, Eq, PartialOrd, Ord)]
+#[derive(Drop, PartialEq, Eq, PartialOrd, Ord)]
 pub struct ProcName {
     pub pairs: List<Pair>,
 }
 
 /// The name of a channel: the process that opened it, and how many channels that process had opened before.
 /// Names are ordered by their owners and then by number.
-#[derive(Debug, Drop, PartialEq, Eq, PartialOrd, Ord)]
+#[derive(Drop, PartialEq, Eq, PartialOrd, Ord)]
 pub struct ChanName {
     pub owner: ProcName,
     pub nth: u32,

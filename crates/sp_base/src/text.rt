@@ -54,7 +54,7 @@ impl Text {
 }
 
 /// A text, which contracts see as its bytes.
-#[derive(Debug, Drop)]
+#[derive(Drop)]
 pub struct Word {
     inner: String,
 }

@@ -16,7 +16,7 @@ pub const MAX_CODE: usize = 1_048_576;
 pub const MAX_FRAME: usize = 4_294_967_294;
 
 /// How a block takes a parameter, and the cells of the parameter's type.
-#[derive(Clone, Copy, Debug, PartialEq, Eq)]
+#[derive(Clone, Copy, Debug)]
 pub enum Formal {
     /// By value: so many cells.
     Value(u32),

@@ -4,7 +4,7 @@ use sp_base::List;
 use sp_cell::Cell;
 
 /// What is told of an entry: where the turn ended that made it, and the message that passes there.
-#[derive(Debug, Drop)]
+#[derive(Drop)]
 pub struct Told {
     /// The number of the instruction at which the turn ended.
     pub instruction: u32,

@@ -13,7 +13,7 @@ use sp_writer::Writer;
 use std::alloc::Global;
 
 /// What is counted.
-#[derive(Clone, Copy, Debug)]
+#[derive(Clone, Copy)]
 pub(crate) enum EntryKind {
     Forks,
     Opens,

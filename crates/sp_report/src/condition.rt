@@ -8,7 +8,7 @@ ghost use Rattle.sp_report.specs.WaitingText.{has_ended, is_waiting};
 use sp_journal::{Event, Way};
 
 /// What a process does.
-#[derive(Clone, Copy, Debug)]
+#[derive(Clone, Copy)]
 pub(crate) enum Condition {
     /// It was not started: the entry that gave its number changed nothing.
     Unstarted,
@@ -24,7 +24,7 @@ pub(crate) enum Condition {
 }
 
 /// An offer that waits on a channel.
-#[derive(Clone, Copy, Debug)]
+#[derive(Clone, Copy)]
 pub(crate) struct Pending {
     pub(crate) way: Way,
     pub(crate) process: u32,

@@ -39,7 +39,7 @@ pub enum KindOf {
 }
 
 /// What a variable is in its block.
-#[derive(Clone, Copy, Debug, PartialEq, Eq)]
+#[derive(Clone, Copy)]
 pub enum Role {
     /// The input or the output.
     Console,

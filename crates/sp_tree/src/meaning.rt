@@ -5,7 +5,7 @@ use crate::operators::StandardFn;
 use sp_base::List;
 
 /// A procedure that every program may call.
-#[derive(Clone, Copy, Debug, PartialEq, Eq)]
+#[derive(Clone, Copy)]
 pub enum StandardProcedure {
     Read,
     Readln,
@@ -34,7 +34,7 @@ pub enum Meaning {
 }
 
 /// The four kinds of declarations that are counted, each alone.
-#[derive(Clone, Copy, Debug, PartialEq, Eq)]
+#[derive(Clone, Copy)]
 pub enum Sort {
     Constant,
     Kind,
@@ -43,7 +43,7 @@ pub enum Sort {
 }
 
 /// How many of each sort were declared so far, and how many functions have a result.
-#[derive(Clone, Copy, Debug, PartialEq, Eq)]
+#[derive(Clone, Copy)]
 pub struct Counts {
     pub constants: u32,
     pub kinds: u32,
@@ -53,7 +53,7 @@ pub struct Counts {
 }
 
 /// How an argument is passed.
-#[derive(Clone, Copy, Debug, PartialEq, Eq)]
+#[derive(Clone, Copy)]
 pub enum Passing {
     /// By its value.
     Value,

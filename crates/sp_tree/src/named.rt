@@ -91,7 +91,7 @@ pub struct NamedBlock {
 }
 
 /// The result of a function: the number of its variable, and the place of its type's name.
-#[derive(Clone, Copy, Debug, PartialEq, Eq)]
+#[derive(Clone, Copy)]
 pub struct NamedAnswer {
     pub variable: u32,
     pub at: Place,

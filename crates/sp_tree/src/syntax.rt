@@ -8,7 +8,7 @@ use crate::operators::{BinaryOp, UnaryOp};
 use sp_base::{Boxed, List, Place, Text};
 
 /// A name in lower case, and where it stands.
-#[derive(Debug, Drop)]
+#[derive(Drop)]
 pub struct Name {
     pub text: Text,
     pub at: Place,

@@ -4,7 +4,7 @@ use sp_base::Place;
 
 /// What a token is. A word and a sign carry their position, counted from 0, in the list of words and in the list of
 /// signs of `docs/LANGUAGE.md`, which are those of `word` and `sign`.
-#[derive(Clone, Copy, Debug, PartialEq, Eq)]
+#[derive(Clone, Copy, PartialEq, Eq)]
 pub enum Kind {
     /// A letter, and then letters, digits and underscores. It is no word.
     Name,
@@ -19,7 +19,7 @@ pub enum Kind {
 }
 
 /// A token: its bytes from `from` up to `to`, counted from 0, and the place of its first byte.
-#[derive(Clone, Copy, Debug, PartialEq, Eq)]
+#[derive(Clone, Copy, PartialEq, Eq)]
 pub struct Token {
     pub kind: Kind,
     pub from: u32,

@@ -9,7 +9,7 @@ use std::alloc::{AllocError, AllocFailed};
 use thiserror::Error;
 
 /// What the words ask for. `file`, or the one word of a command, names the program text, but for `Exec`.
-#[derive(Debug, Drop)]
+#[derive(Drop)]
 pub enum Command {
     /// Say whether the text keeps all rules, or name the first that it breaks.
     Check(Word),
@@ -37,7 +37,7 @@ pub enum Command {
 }
 
 /// The names of the commands.
-#[derive(Clone, Copy, Debug, PartialEq, Eq)]
+#[derive(Clone, Copy)]
 pub(crate) enum CommandName {
     Check,
     Run,
@@ -54,7 +54,7 @@ pub(crate) enum CommandName {
 }
 
 /// Why the words give no command.
-#[derive(Clone, Copy, Debug, PartialEq, Eq, Error)]
+#[derive(Clone, Copy, Debug, Error)]
 pub enum WordsError {
     /// The command is missing or unknown, its FILE, N or JOURNAL is missing or there is one too many, an N is out of
     /// its range, an option is unknown, repeated, without its value or out of its range, or a word breaks the dash

@@ -5,7 +5,7 @@ ghost use Rattle.sp_words.specs.Dashes.{after_dash, form_of, form_of_option, for
 ghost use Rattle.sp_words.specs.Dashes.{text_in, texts_of};
 
 /// How a word before `--` reads, where no option waits for its value.
-#[derive(Clone, Copy, Debug, PartialEq, Eq)]
+#[derive(Clone, Copy)]
 pub(crate) enum Form {
     /// It does not begin with a dash.
     Plain,

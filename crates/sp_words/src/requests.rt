@@ -4,7 +4,7 @@
 use sp_base::{Limits, Show, Word};
 
 /// The run that words ask for, and how it is told.
-#[derive(Debug, Drop)]
+#[derive(Drop)]
 pub struct RunRequest {
     /// The name of the program text.
     pub file: Word,
@@ -15,7 +15,7 @@ pub struct RunRequest {
 }
 
 /// How a run is told.
-#[derive(Clone, Copy, Debug)]
+#[derive(Clone, Copy)]
 pub enum Telling {
     /// By its output; by its end, its verdict and these reports, or by its journal.
     Reports(Show),
@@ -24,7 +24,7 @@ pub enum Telling {
 }
 
 /// The journal that words ask to follow, and what is written of it.
-#[derive(Debug, Drop)]
+#[derive(Drop)]
 pub struct ReplayRequest {
     /// The name of the program text.
     pub file: Word,
@@ -35,7 +35,7 @@ pub struct ReplayRequest {
 }
 
 /// What is written of a journal that was followed.
-#[derive(Clone, Copy, Debug, PartialEq, Eq)]
+#[derive(Clone, Copy)]
 pub enum View {
     /// What the program wrote along it.
     Output,
@@ -46,7 +46,7 @@ pub enum View {
 }
 
 /// The execution of a code file that words ask for.
-#[derive(Debug, Drop)]
+#[derive(Drop)]
 pub struct ExecRequest {
     /// The name of the code file.
     pub file: Word,
