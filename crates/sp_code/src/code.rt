@@ -127,9 +127,16 @@ impl Parts {
 }
 
 /// Code for the stack machine. It never is larger than `Parts::keeps_sizes` says.
-#[derive(Debug, Drop)]
+#[derive(Debug)]
 pub struct Code {
     parts: Parts,
+}
+
+// By hand, so that it is proved once, here, and not in each crate that drops code.
+impl Drop for Code {
+    fn drop(self) {
+        let Code { parts: _ } = self;
+    }
 }
 
 impl Model for Code {

@@ -203,11 +203,7 @@ fn name_program(
 pub fn resolve(alloc: Global, syntax: Syntax) -> Result<Named, Halt>
     ensures { AnswersAs named.program_of result (name_resolution (plain.program_of syntax)) }
 {
-    let Syntax {
-        name,
-        heading,
-        block,
-    } = syntax;
+    let (name, heading, block) = syntax.parts();
     let first = check_files(heading.items(), None);
     let inner = have!(name_program(alloc, block, first));
     match inner.first {

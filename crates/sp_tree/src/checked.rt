@@ -10,11 +10,21 @@ use sp_base::{Boxed, List, Place, Text};
 
 /// A program. Types, variables and blocks are named by their numbers, in order of declaration. Block 0 is the
 /// program itself, and variables 0 and 1 are the input and the output.
-#[derive(Drop)]
 pub struct Checked {
     pub kinds: List<KindOf>,
     pub variables: List<Variable>,
     pub blocks: List<Block>,
+}
+
+// By hand, so that it is proved once, here, and not in each crate that drops a tree.
+impl Drop for Checked {
+    fn drop(self) {
+        let Checked {
+            kinds: _,
+            variables: _,
+            blocks: _,
+        } = self;
+    }
 }
 
 /// A type.

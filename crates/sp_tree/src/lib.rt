@@ -9,7 +9,7 @@
 //! - Types that the trees share: `BinaryOp`, `UnaryOp`, `StandardFn`; and for names `Meaning`, `Sort`, `Counts`,
 //!   `Passing`, `StandardProcedure`.
 //! - `Expr::parts`, `SynExpr::parts`, `NamedExpr::parts`: the parts of an expression, whose form is smaller than the
-//!   whole. A type with a `drop` of its own is taken apart in its own methods alone.
+//!   whole; `Syntax::parts`: those of a tree. A type with a `drop` of its own is taken apart in its own methods alone.
 //! - `row`, `before`: the row of a rule in the rule table, and which of two refusals is reported: the earlier one, or
 //!   at one place that of the earlier row.
 //! - `PhaseResults` (a refusal or none): `earlier_refusal` is the first of two, `breaks` and `refusal_if` make one.

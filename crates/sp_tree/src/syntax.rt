@@ -15,11 +15,35 @@ pub struct Name {
 }
 
 /// A program: its name, the names in its heading, its block.
-#[derive(Drop)]
 pub struct Syntax {
     pub name: Name,
     pub heading: List<Name>,
     pub block: SynBlock,
+}
+
+impl Syntax {
+    /// The name, the heading and the block. A type with a `drop` of its own is taken apart in its own methods alone.
+    pub fn parts(self) -> (Name, List<Name>, SynBlock)
+        ensures { self ≡ record { name = result.0; heading = result.1; block = result.2 } }
+    {
+        let Syntax {
+            name,
+            heading,
+            block,
+        } = self;
+        (name, heading, block)
+    }
+}
+
+// By hand, so that it is proved once, here, and not in each crate that drops a tree.
+impl Drop for Syntax {
+    fn drop(self) {
+        let Syntax {
+            name: _,
+            heading: _,
+            block: _,
+        } = self;
+    }
 }
 
 /// Declarations in their order, and a statement part.
