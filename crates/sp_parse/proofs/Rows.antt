@@ -1,28 +1,25 @@
 -- How the rows of the table are used: a symbol that takes a token, and symbols that have the rows of others.
 use Rattle.std.proofs.Common.{◌≡◌, ℕ, suc, Bool, true, false, cond, List, [], ◌∷◌, ◌++◌, map, Option, Some, None}
-use Rattle.std.proofs.Common.{Result, Ok, Err, refl, sym as back_of, ap, ◌∙◌, subst, append_assoc}
-use Rattle.std.specs.Borrow.{Bor}
-use Rattle.sp_base.specs.declared.halt.Halt.{Halt}
-use Rattle.sp_base.specs.declared.halt.Halt.TheVariants as halt
+use Rattle.std.proofs.Common.{refl, sym as back_of, ap, ◌∙◌, subst, append_assoc}
 use Rattle.sp_base.specs.declared.rule.Rule.TheVariants as rule
 use Rattle.sp_tree.specs.declared.token.Token.{Token}
 use Rattle.sp_tree.specs.declared.token.Kind.{Kind}
+use Rattle.sp_tree.specs.declared.token.Kind.TheVariants as kind
 use Rattle.sp_tree.specs.declared.operators.BinaryOp.{BinaryOp}
 use Rattle.sp_tree.specs.Words as w
 use Rattle.sp_tree.specs.Breaches.{nesting}
 use Rattle.sp_grammar.specs.Symbols.{Symbol, Value, Values, split, part, AnExpression, ARelation, ANegated, MoreFactors}
-use Rattle.sp_grammar.specs.Symbols.{MoreTerms}
+use Rattle.sp_grammar.specs.Symbols.{MoreTerms, AValue, AConstant, ABlock}
 use Rattle.sp_grammar.specs.Table.{RowEntry, Row, row_entry, rows, look, gap, build, kind_is, FactorRow, SimpleRow}
-use Rattle.sp_grammar.specs.Table.{factor_rows, simple_rows, simple_factor, expression, negated}
+use Rattle.sp_grammar.specs.Table.{factor_rows, simple_rows, parts_rows, PartsRow, simple_factor, expression, negated}
+use Rattle.sp_grammar.specs.Table.{block}
 use Rattle.sp_grammar.specs.Machine.{allows}
 use Rattle.sp_grammar.specs.Derives.{PartMayBegin as MayBegin, Derives, takes, skips, DerivesAll, none, and}
 use Rattle.sp_grammar.proofs.From.{kind_is-true}
 use Rattle.sp_parse.specs.declared.source.Source.{Source}
-use Rattle.sp_parse.specs.Productions.{production}
-use Rattle.sp_parse.specs.Reads.{IsNestable, HasTokens, breaks, HasRead, Halts, ParsesAs, HasFirstToken, BeginsOther}
-use Rattle.sp_parse.specs.Reads.{BeginsWith}
-use Rattle.sp_parse.specs.Operators.{Operator, is_some, BeginsFactor, BeginsSimple}
-use Rattle.sp_parse.proofs.Steps.{has_read, take, step_takes, step_fails, step_deep, step_skips}
+use Rattle.sp_parse.specs.Reads.{IsNestable, breaks}
+use Rattle.sp_parse.specs.Operators.{IsOperator, is_some, BeginsFactor, BeginsSimple, BeginsBlock}
+use Rattle.sp_parse.proofs.Steps.{step_takes, step_fails, step_deep, step_skips}
 
 -- the kind that a test found
 pub kind_at : {b : Bool} (t : Token) (k : Kind) → b ≡ kind_is k t.kind → b ≡ true → t.kind ≡ k
@@ -31,22 +28,10 @@ kind_at t k e h = back_of (kind_is-true k t.kind (back_of e ∙ h))
 pub other_at : {b : Bool} (t : Token) (k : Kind) → b ≡ kind_is k t.kind → b ≡ false → kind_is k t.kind ≡ false
 other_at t k e h = back_of e ∙ h
 
-abbrev pub with_at : {source : Source} {ts r : List Token} {t : Token} {b : Bool} (k : Kind)
-    → HasFirstToken source ts t r
-    → b ≡ kind_is k t.kind → b ≡ true → BeginsWith source ts k r
-with_at {t = t} k a e h = record { token = t; token_is = kind_at t k e h; all = a.all; ready = a.ready }
-
-pub operator_is : {Is : Kind → BinaryOp → Type 0} {source : Source} {ts r : List Token} {t : Token} {o : BinaryOp}
-    {b : Bool} (k : Kind) → Is k o → HasFirstToken source ts t r → b ≡ kind_is k t.kind → b ≡ true
-    → Operator Is source ts o r
-operator_is {t = t} k c a e h = record {
-  key = k;
-  is_operator = c;
-  token = t;
-  key_is = kind_at t k e h;
-  all = a.all;
-  ready = a.ready;
-}
+-- a token is an operator
+pub operator_is : (Is : Kind → BinaryOp → Type 0) (tail : ℕ → Symbol) (t : Token) (o : BinaryOp) {b : Bool} (k : Kind)
+    → Is k o → b ≡ kind_is k t.kind → b ≡ true → IsOperator Is tail t (Some o)
+operator_is Is tail t o k c e h = (k, c, kind_at t k e h)
 
 -- the rows of one list, as rows of another
 abbrev pub lifted : {R S : Kind → List Symbol → Type 0} → (RowEntry R → RowEntry S) → Option (RowEntry R)
@@ -87,36 +72,6 @@ begins_simple_is t b p m h d =
     look_map (as_simple d) (λ e. refl) (factor_rows d) t.kind in
     ap is_some skip ∙ ap is_some same ∙ some_lifted (as_simple d) (look (factor_rows d) t.kind) ∙ h d
 
--- a symbol takes a token, and what it leaves is read
-pub row_reads : {X Y U V : Type 0} {source : Source} {s : Symbol} {k : Kind} {l : List Symbol} {of : Values l → U}
-    {plain : X → U} {to : Values (s ∷ []) → V} {view : Y → V} {ts rest r : List Token} {x : X} {y : Y} (row : Row s k l)
-    → look (rows s) k ≡ Some (row_entry k l row) → (b : BeginsWith source ts k rest)
-    → MayBegin IsNestable (part s) (b.token ∷ rest) → (h : HasRead source l of plain rest r x)
-    → view y ≡ to (build source.text.now row b.token h.values, tt) → HasRead source (s ∷ []) to view ts r y
-row_reads {source = source} {s = s} {k = k} {l = l} {r = r} row found b o h e =
-    has_read h.ready (subst (λ ts. DerivesAll source.text.now IsNestable (s ∷ []) ts r
-    (build source.text.now row b.token h.values, tt)) (back_of b.all)
-    (and (take (row_entry k l row) found b.token b.token_is o h.derives) none)) e
-
-pub row_leads : {source : Source} {s : Symbol} {k : Kind} {l : List Symbol} {ts rest : List Token} (row : Row s k l)
-    → look (rows s) k ≡ Some (row_entry k l row) → BeginsWith source ts k rest → allows (Some nesting) (part s) ≡ true
-    → (q : List Symbol) → breaks source ts (s ∷ q) ≡ breaks source rest (l ++ q)
-row_leads {source} {s} {k} {l} {ts} {rest} row found b o q = ap (λ ts. breaks source ts (s ∷ q)) b.all
-    ∙ step_takes source s b.token rest (row_entry k l row) (ap (look (rows s)) b.token_is ∙ found) o q
-
-pub row_halts : {source : Source} {s : Symbol} {k : Kind} {l : List Symbol} {ts rest : List Token} (row : Row s k l)
-    → look (rows s) k ≡ Some (row_entry k l row) → BeginsWith source ts k rest → allows (Some nesting) (part s) ≡ true
-    → (e : Halt) → Halts source l rest e → Halts source (s ∷ []) ts e
-row_halts row found b o halt.Memory h = tt
-row_halts row found b o (halt.Refused f) h = λ q. row_leads row found b o q ∙ h q
-
--- where the machine goes on the same way, it halts the same way
-pub halts_same : (source : Source) (l m : List Symbol) (ts us : List Token)
-    → ((q : List Symbol) → breaks source ts (l ++ q) ≡ breaks source us (m ++ q)) → (e : Halt) → Halts source m us e
-    → Halts source l ts e
-halts_same source l m ts us f halt.Memory h = tt
-halts_same source l m ts us f (halt.Refused r) h = λ q. f q ∙ h q
-
 -- values one after another
 abbrev pub join : (l m : List Symbol) → Values l → Values m → Values (l ++ m)
 join [] m vs us = us
@@ -132,7 +87,7 @@ pub join_all : {text : List ℕ} (l m : List Symbol) {ts u r : List Token} {vs :
 join_all [] m none b = b
 join_all (s ∷ l) m (and x a) b = and x (join_all l m a b)
 
-clash : {A : Type 0} {x : A} (X : Type 0) (o : Option A) → o ≡ Some x → o ≡ None → X
+pub clash : {A : Type 0} {x : A} (X : Type 0) (o : Option A) → o ≡ Some x → o ≡ None → X
 clash X o p q = absurd cc
 
 -- A symbol with the rows of another one, and further symbols behind it.
@@ -204,15 +159,6 @@ pub none_of : {A : Type 0} (o : Option A) → is_some o ≡ false → o ≡ None
 none_of None h = refl
 none_of (Some x) h = absurd cc
 
--- a part that lies too deep
-pub too_deep_at : {source : Source} {ts r : List Token} {t : Token} (s : Symbol) → HasFirstToken source ts t r
-    → is_some (look (rows s) t.kind) ≡ true → allows (Some nesting) (part s) ≡ false → (e : Halt)
-    → e ≡ halt.Refused (record { rule = rule.L2; at = t.at }) → Halts source (s ∷ []) ts e
-too_deep_at {source} {ts} {r} {t} s b h a e p =
-    let x = some_of (look (rows s) t.kind) h in
-    subst (Halts source (s ∷ []) ts) (back_of p)
-    (λ q. ap (λ l. breaks source l (s ∷ q)) b.all ∙ step_deep source s t r x.0 x.1 a q)
-
 pub expression_rows : (t : Token) (b : Bool) → BeginsSimple t b → (d : ℕ)
     → is_some (look (rows (AnExpression d)) t.kind) ≡ b
 expression_rows t b h d =
@@ -226,18 +172,6 @@ negated_rows t b h d =
     let f : RowEntry (FactorRow (suc d)) → RowEntry (Row (ANegated d)) = λ e. row_entry e.key e.left (negated e.row) in
     ap is_some (look_map f (λ e. refl) (factor_rows (suc d)) t.kind) ∙ some_lifted f (look (factor_rows (suc d)) t.kind)
     ∙ h (suc d)
-
--- a symbol takes a token, and the answer about what it leaves is that about itself
-pub row_result : {X V : Type 0} {source : Source} {s : Symbol} {k : Kind} {l : List Symbol} {ts rest : List Token}
-    (of : Values l → V) (plain : X → V) (to : Values (s ∷ []) → V) (row : Row s k l)
-    → look (rows s) k ≡ Some (row_entry k l row) → (b : BeginsWith source ts k rest)
-    → allows (Some nesting) (part s) ≡ true
-    → MayBegin IsNestable (part s) (b.token ∷ rest)
-    → ((vs : Values l) → of vs ≡ to (build source.text.now row b.token vs, tt))
-    → (result : Result (X × Bor (List Token)) Halt) → ParsesAs source (production l of) plain rest result
-    → ParsesAs source (production (s ∷ []) to) plain ts result
-row_result of plain to row found b a o e (Ok x) h = row_reads row found b o h (h.value_is ∙ e h.values)
-row_result of plain to row found b a o e (Err x) h = row_halts row found b a x h
 
 -- A symbol with the rows of another one.
 module _ (source : Source) (R : Kind → List Symbol → Type 0) (s a : Symbol)
@@ -317,23 +251,6 @@ module _ (source : Source) (R : Kind → List Symbol → Type 0) (s a : Symbol)
     loose_derives t ts r None x y g b (skips t' z h) = skips t x (g _ h)
     loose_derives t ts r (Some e') x y g b (skips t' z h) = clash _ (look (rows a) t.kind) y z
 
--- two kinds that do not come first
-pub neither : {ts : List Token} {j k : Kind} (a : BeginsOther ts j) → BeginsOther ts k → kind_is k a.token.kind ≡ false
-neither {k = k} a b = let same : b.token ≡ a.token = cc (a.all, b.all) in
-    subst (λ t. kind_is k t.kind ≡ false) same b.differs
-
--- a symbol takes a token, and what it leaves is derived
-pub row_derives : {Y V : Type 0} {source : Source} {s : Symbol} {k : Kind} {l : List Symbol} {to : Values (s ∷ []) → V}
-    {view : Y → V} {ts rest r : List Token} {vs : Values l} {y : Y} (row : Row s k l)
-    → look (rows s) k ≡ Some (row_entry k l row) → (b : BeginsWith source ts k rest)
-    → MayBegin IsNestable (part s) (b.token ∷ rest) → HasTokens source r
-    → DerivesAll source.text.now IsNestable l rest r vs
-    → view y ≡ to (build source.text.now row b.token vs, tt) → HasRead source (s ∷ []) to view ts r y
-row_derives {source = source} {s = s} {k = k} {l = l} {r = r} {vs = vs} row found b o a d e =
-    has_read a (subst (λ ts. DerivesAll source.text.now IsNestable (s ∷ []) ts r
-    (build source.text.now row b.token vs, tt))
-    (back_of b.all) (and (take (row_entry k l row) found b.token b.token_is o d) none)) e
-
 -- no row fits
 abbrev pub NoneIs : {R : Kind → List Symbol → Type 0} → List (RowEntry R) → Kind → Type 0
 NoneIs [] k = Unit {0}
@@ -342,3 +259,31 @@ NoneIs (e ∷ es) k = (kind_is e.key k ≡ false) × NoneIs es k
 pub none_at : {R : Kind → List Symbol → Type 0} (es : List (RowEntry R)) (k : Kind) → NoneIs es k → look es k ≡ None
 none_at [] k h = refl
 none_at (e ∷ es) k h = ap (λ b. cond b (Some e) (look es k)) h.0 ∙ none_at es k h.1
+
+-- tokens with which no constant begins
+pub no_value : (k : Kind) → (k ≡ kind.Name → ⊥) → (k ≡ kind.Number → ⊥) → look (rows AValue) k ≡ None
+no_value kind.Name h g = absurd (h refl)
+no_value kind.Number h g = absurd (g refl)
+no_value k h g = refl
+
+pub no_constant : (k : Kind) → (k ≡ kind.Name → ⊥) → (k ≡ kind.Number → ⊥) → (k ≡ kind.Text → ⊥)
+    → kind_is w.Plus k ≡ false → kind_is w.Minus k ≡ false → look (rows AConstant) k ≡ None
+no_constant kind.Name h g f p m = absurd (h refl)
+no_constant kind.Number h g f p m = absurd (g refl)
+no_constant kind.Text h g f p m = absurd (f refl)
+no_constant (kind.Word a) h g f p m = refl
+no_constant (kind.Sign a) h g f p m = after_two _ _ None p m
+
+-- why no part may stand here
+pub deep_at : (source : Source) (s : Symbol) (t : Token) (u : List Token) (b : Bool)
+    → is_some (look (rows s) t.kind) ≡ b → allows (Some nesting) (part s) ≡ false → gap s t ≡ None → (q : List Symbol)
+    → breaks source (t ∷ u) (s ∷ q) ≡ Some (record { rule = cond b rule.L2 rule.G1; at = t.at })
+deep_at source s t u true h a g q = let (e, found) = some_of (look (rows s) t.kind) h in
+    step_deep source s t u e found a q
+deep_at source s t u false h a g q = step_fails source s t u (none_of (look (rows s) t.kind) h) g q
+
+pub block_rows : (t : Token) (b : Bool) → BeginsBlock t b → (d : ℕ) → is_some (look (rows (ABlock d)) t.kind) ≡ b
+block_rows t b h d =
+    let f : RowEntry (PartsRow (suc d)) → RowEntry (Row (ABlock d)) = λ e. row_entry e.key e.left (block e.row) in
+    ap is_some (look_map f (λ e. refl) (parts_rows (suc d)) t.kind) ∙ some_lifted f (look (parts_rows (suc d)) t.kind)
+    ∙ h (suc d)

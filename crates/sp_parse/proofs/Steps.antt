@@ -2,9 +2,6 @@
 use Rattle.std.proofs.Common.{◌≡◌, ℕ, ◌<◌, ◌≤◌, Bool, true, false, cond, List, [], ◌∷◌, ◌++◌, length, Option, Some}
 use Rattle.std.proofs.Common.{None, Ok, Err, ◌⊎◌, inl, inr, refl, sym as back_of, ap, ◌∙◌, subst, arith, eq-eqb}
 use Rattle.std.proofs.lemmas.Bool.Decides.{nat_tests}
-use Rattle.std.specs.Borrow.{Bor}
-use Rattle.sp_base.specs.declared.halt.Halt.{Halt}
-use Rattle.sp_base.specs.declared.halt.Halt.TheVariants as halt
 use Rattle.sp_base.specs.declared.rule.Rule.TheVariants as rule
 use Rattle.sp_tree.specs.declared.token.Token.{Token}
 use Rattle.sp_tree.specs.declared.token.Kind.{Kind}
@@ -19,8 +16,7 @@ use Rattle.sp_grammar.specs.Derives.{PartMayBegin as MayBegin, Derives, takes, s
 use Rattle.sp_grammar.proofs.Run.{at_act, act_takes, act_skips, leads_all}
 use Rattle.sp_grammar.proofs.From.{kind_is-true}
 use Rattle.sp_parse.specs.declared.source.Source.{Source}
-use Rattle.sp_parse.specs.Reads.{IsNestable, HasTokens, breaks, refused_by, HasRead, Halts, HasFirstToken, BeginsOther}
-use Rattle.sp_parse.specs.Reads.{BeginsWith, PassesToken, Expected}
+use Rattle.sp_parse.specs.Reads.{IsNestable, breaks, refused_by}
 
 -- a part inside fewer than 200 others is allowed
 pub below : (a b : ℕ) → a < b → (allows (Some b) (Some a) ≡ true)
@@ -56,30 +52,6 @@ mutual
       → length r ≤ length ts
   shorter_all none = omega arith
   shorter_all (and x xs) = omega (arith, shorter_one x, shorter_all xs)
-
--- what is derived is read
-pub has_read : {X V : Type 0} {source : Source} {l : List Symbol} {of : Values l → V} {plain : X → V}
-    {ts r : List Token} {x : X} {vs : Values l} → HasTokens source r → DerivesAll source.text.now IsNestable l ts r vs
-    → plain x ≡ of vs → HasRead source l of plain ts r x
-has_read {source = source} {vs = vs} a d e =
-    record {
-      values = vs;
-      derives = d;
-      value_is = e;
-      leads = λ q. follows source d q;
-      shorter = shorter_all d;
-      ready = a;
-    }
-
--- the first of what is derived
-pub head : {text : List ℕ} {s : Symbol} {ts r : List Token} {vs : Values (s ∷ [])}
-    → DerivesAll text IsNestable (s ∷ []) ts r vs → Derives text IsNestable s ts r vs.0
-head (and x none) = x
-
-pub first_derived : {X V : Type 0} {source : Source} {s : Symbol} {of : Values (s ∷ []) → V} {plain : X → V}
-    {ts r : List Token}
-    {x : X} (h : HasRead source (s ∷ []) of plain ts r x) → Derives source.text.now IsNestable s ts r h.values.0
-first_derived h = head h.derives
 
 -- a symbol takes this token by this row
 pub take : {text : List ℕ} {s : Symbol} (e : RowEntry (Row s)) → look (rows s) e.key ≡ Some e → (t : Token)
@@ -139,70 +111,3 @@ kind_is-other a b false h n = h
 pub look_token : (k j : Kind) (b : Bool) → kind_is k j ≡ b
     → look (rows (AToken k)) j ≡ cond b (Some (row_entry k [] token)) None
 look_token k j b h = ap (λ b. cond b (Some (row_entry k [] token)) None) h
-
-pub cut_ends : (source : Source) (ts : List Token) → length ts < 1 → HasTokens source ts → (ts ≡ [])
-    × ((s : Symbol) (q : List Symbol) → breaks source ts (s ∷ q) ≡ Some (record { rule = rule.G2; at = source.end }))
-cut_ends source [] h a = (
-  refl,
-  λ s q. step_ends source s q
-      ∙ ap (λ p. Some (record { rule = rule.G2; at = p })) (back_of a.end),
-)
-cut_ends source (t ∷ ts) h a = absurd (omega arith)
-
-pub token_is : {source : Source} {ts r : List Token} {k : Kind} → BeginsWith source ts k r
-    → Derives source.text.now IsNestable (AToken k) ts r tt
-token_is {source} {ts} {r} {k} b = subst (λ l. Derives source.text.now IsNestable (AToken k) l r tt) (back_of b.all)
-    (take (row_entry k [] token) (look_token k k true (kind_is-same k)) b.token b.token_is tt none)
-
-pub expect_is : {source : Source} {ts r : List Token} {t : Token} (k : Kind) → HasFirstToken source ts t r → t.kind ≡ k
-    → Expected source k ts r
-expect_is {source} {ts} {r} {t} k b p =
-    let first : BeginsWith source ts k r = record { token = t; token_is = p; all = b.all; ready = b.ready } in
-    record {
-      first = first;
-      leads = λ q. follows source (and (token_is first) none) q;
-      shorter = omega (arith, ap length b.all);
-    }
-
--- of what is read behind others
-pub expected : {source : Source} {ts r : List Token} {k : Kind} → Expected source k ts r
-    → Derives source.text.now IsNestable (AToken k) ts r tt
-expected h = token_is h.first
-
--- no row fits
-pub fails : {source : Source} {ts r : List Token} {t : Token} (s : Symbol) → HasFirstToken source ts t r
-    → look (rows s) t.kind ≡ None → gap s t ≡ None → (e : Halt)
-    → e ≡ halt.Refused (record { rule = rule.G1; at = t.at }) → Halts source (s ∷ []) ts e
-fails {source} {ts} {r} {t} s b h g e p = subst (Halts source (s ∷ []) ts) (back_of p)
-    (λ q. ap (λ l. breaks source l (s ∷ q)) b.all ∙ step_fails source s t r h g q)
-
-pub expect_fails : {source : Source} {ts r : List Token} {t : Token} (k : Kind) → HasFirstToken source ts t r
-    → (t.kind ≡ k → ⊥) → (e : Halt) → e ≡ halt.Refused (record { rule = rule.G1; at = t.at })
-    → Halts source (AToken k ∷ []) ts e
-expect_fails {t = t} k b n = fails (AToken k) b
-    (look_token k t.kind false (kind_is-other k t.kind (kind_is k t.kind) refl n)) refl
-
-pub passes_other : {source : Source} {ts r : List Token} {t : Token} (k : Kind) → HasFirstToken source ts t r
-    → (t.kind ≡ k → ⊥) → BeginsOther ts k
-passes_other {r = r} {t = t} k b n = record {
-  token = t;
-  rest = r;
-  differs = kind_is-other k t.kind (kind_is k t.kind) refl n;
-  all = b.all;
-}
-
--- which of both it was
-pub passed : (source : Source) (k : Kind) (ts : List Token) (o : Option (Bor (List Token))) (r : Bor (List Token))
-    → PassesToken source k ts (Ok o) → o ≡ Some r → BeginsWith source ts k r.now
-passed source k ts o r h e = subst (λ o. PassesToken source k ts (Ok o)) e h
-
-pub not_passed : (source : Source) (k : Kind) (ts : List Token) (o : Option (Bor (List Token)))
-    → PassesToken source k ts (Ok o) → o ≡ None → BeginsOther ts k
-not_passed source k ts o h e = subst (λ o. PassesToken source k ts (Ok o)) e h
-
--- no token is left for a test
-pub pass_halts : (source : Source) (k : Kind) (ts : List Token) (s : Symbol) (e : Halt)
-    → PassesToken source k ts (Err e)
-    → Halts source (s ∷ []) ts e
-pass_halts source k ts s halt.Memory h = absurd h
-pass_halts source k ts s (halt.Refused f) h = λ q. h.1 s q

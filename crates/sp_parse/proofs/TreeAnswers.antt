@@ -1,6 +1,6 @@
 -- From the parts of the parser to the tree of a text.
-use Rattle.std.proofs.Common.{◌≡◌, ℕ, ◌+◌, ◌≤◌, List, [], ◌∷◌, length, Some, Result, Ok, Err, refl}
-use Rattle.std.proofs.Common.{sym as back_of, ap, ◌∙◌, subst}
+use Rattle.std.proofs.Common.{◌≡◌, ℕ, ◌+◌, ◌≤◌, List, [], ◌∷◌, length, Some, None, Ok, Err, refl}
+use Rattle.std.proofs.Common.{sym as back_of, ap, ◌∙◌, subst, ◌<◌, arith, slice_index_or}
 use Rattle.sp_base.specs.declared.halt.Halt.{Halt}
 use Rattle.sp_base.specs.declared.halt.Halt.TheVariants as halt
 use Rattle.sp_base.specs.declared.halt.Refusal.{Refusal}
@@ -21,10 +21,13 @@ use Rattle.sp_grammar.specs.Stops.{GetsStuck}
 use Rattle.sp_grammar.proofs.From.{from}
 use Rattle.sp_grammar.proofs.Wider.{wider_program}
 use Rattle.sp_grammar.proofs.Firsts.{first_broken, spells, none_broken}
+use Rattle.sp_grammar.specs.Derives.{none}
 use Rattle.sp_parse.specs.declared.source.Source.{Source}
-use Rattle.sp_parse.specs.Reads.{IsNestable, HasTokens, breaks, refused_by, HasRead, Halts, CutsToken}
+use Rattle.sp_parse.specs.declared.source.Tokens.{Tokens}
+use Rattle.sp_parse.specs.Reads.{IsNestable, HasTokens, breaks, refused_by, EndsBy, Pending, Fails, Finishes, first_failure}
 use Rattle.sp_parse.specs.Parses.{SpellsWell, Parsed}
-use Rattle.sp_parse.proofs.Steps.{first_derived}
+use Rattle.sp_parse.proofs.Pending.{ends_failed, has_failed, head}
+use Rattle.sp_parse.proofs.Looking.{no_tokens}
 use Rattle.sp_parse.proofs.TokenBounds.{all_fit}
 
 -- the place behind what is passed
@@ -52,13 +55,6 @@ first : (source : Source) (ts : List Token) (f : Refusal) → IsTokens source.te
     → breaks source ts (AProgram ∷ []) ≡ Some f → IsFirst (BreaksGrammar source.text.now ts) f
 first source ts f h b = first_broken source.text.now ts h.scans f (stops source ts f b)
 
-pub refused : (source : Source) (ts : List Token) (result : Result Syntax Halt) (e : Halt) → IsTokens source.text.now ts
-    → (y : Halt) × (result ≡ Err y) × (y ≡ e) → Halts source (AProgram ∷ []) ts e → Parsed source.text.now ts result
-refused source ts result halt.Memory h p x = let q : result ≡ Err halt.Memory = p.1 ∙ ap Err p.2 in
-    subst (Parsed source.text.now ts) (back_of q) tt
-refused source ts result (halt.Refused f) h p x = let q : result ≡ Err (halt.Refused f) = p.1 ∙ ap Err p.2 in
-    subst (Parsed source.text.now ts) (back_of q) (first source ts f h (x []))
-
 -- nothing may stand behind a program
 nothing_behind : (source : Source) (t : Token) (us : List Token)
     → breaks source (t ∷ us) [] ≡ Some (record { rule = rule.G1; at = t.at })
@@ -69,17 +65,42 @@ more_behind : (source : Source) (rest : List Token) (t : Token) (us : List Token
     → breaks source rest [] ≡ Some (record { rule = rule.G1; at = t.at })
 more_behind source rest t us e = ap (λ l. breaks source l []) e ∙ nothing_behind source t us
 
-pub too_long : (source : Source) (ts rest : List Token) (t : Token) (us : List Token) (tree : Syntax) (e : Halt)
-    → IsTokens source.text.now ts → HasRead source (AProgram ∷ []) (λ vs. vs.0) program_of ts rest tree → rest ≡ t ∷ us
-    → e ≡ halt.Refused (record { rule = rule.G1; at = t.at }) → Parsed source.text.now ts (Err e)
-too_long source ts rest t us tree e h x q p =
-    subst (λ e. Parsed source.text.now ts (Err e)) (back_of p)
-    (first source ts (record { rule = rule.G1; at = t.at }) h (x.leads [] ∙ more_behind source rest t us q))
+-- a reading of a program that failed
+pub refused : (source : Source) (old mid new : Tokens) {x : Program} (e : Halt) → old.failed ≡ None
+    → IsTokens source.text.now old.rest.now
+    → Pending source (AProgram ∷ []) (λ vs. vs.0) [] (λ _. x) old mid → Finishes source mid new → new.failed ≡ Some e
+    → Parsed source.text.now old.rest.now (Err e)
+refused source old mid new halt.Memory fine h p c failed = tt
+refused source old mid new (halt.Refused f) fine h p c failed = first source old.rest.now f h
+    (subst (λ o. EndsBy source o old.rest.now (AProgram ∷ []) (Some f)) fine
+    (p.leads [] (Some f) (c.leads f failed)))
 
 -- no token is left
-pub none_left : (source : Source) (ts : List Token) (e : Halt) → CutsToken source ts (Err e) → ts ≡ []
-none_left source ts halt.Memory h = absurd h
-none_left source ts (halt.Refused f) h = h.0
+pub finished : (source : Source) (old : Tokens) → length old.rest.now < 1 → Finishes source old old
+finished source old h = record {
+  done = λ fine. (fine, no_tokens old.rest.now h);
+  leads = λ f failed. subst (λ o. EndsBy source o old.rest.now [] (Some f)) (back_of failed) refl;
+}
+
+-- tokens behind a program
+begins : (ts : List Token) (other : Token) → 1 ≤ length ts → (u : List Token) × (ts ≡ slice_index_or ts 0 other ∷ u)
+begins [] other h = absurd (omega (arith, h))
+begins (t ∷ ts) other h = (ts, refl)
+
+pub not_finished : (source : Source) (old new : Tokens) (other : Token) (why : Halt) → 1 ≤ length old.rest.now
+    → why ≡ halt.Refused (record { rule = rule.G1; at = (slice_index_or old.rest.now 0 other).at })
+    → Fails source why old new → Finishes source old new
+not_finished source old new other why h is c =
+    let t : Token = slice_index_or old.rest.now 0 other in
+    let (us, q) = begins old.rest.now other h in
+    let g : Refusal = record { rule = rule.G1; at = t.at } in
+    let failed : new.failed ≡ first_failure old.failed (halt.Refused g) = c.failed ∙ ap (first_failure old.failed) is in
+    record {
+      done = λ fine. has_failed old.failed new.failed (halt.Refused g) failed fine;
+      leads = λ f e. ends_failed source old.failed new.failed g old.rest.now new.rest.now [] [] (Some f) failed
+          (λ _. more_behind source old.rest.now t us q)
+          (subst (λ o. EndsBy source o new.rest.now [] (Some f)) (back_of e) refl);
+    }
 
 -- the tree
 shallow : (source : Source) (ts : List Token) (p : Program) → IsProgram source.text.now IsNestable ts [] p
@@ -90,11 +111,13 @@ spelled : (source : Source) (ts : List Token) (p : Program) → IsProgram source
     → SpellsWell source.text.now ts p
 spelled source ts p x = record { spells = spells source.text.now ts p x; kept = none_broken source.text.now ts p x }
 
-pub is_tree : (source : Source) (ts rest : List Token) (tree : Syntax)
-    → HasRead source (AProgram ∷ []) (λ vs. vs.0) program_of ts rest tree → rest ≡ []
-    → Parsed source.text.now ts (Ok tree)
-is_tree source ts rest tree x q =
+pub is_tree : (source : Source) (old new : Tokens) (tree : Syntax)
+    → Pending source (AProgram ∷ []) (λ vs. vs.0) [] (λ _. program_of tree) old new → new.failed ≡ None
+    → new.rest.now ≡ [] → Parsed source.text.now old.rest.now (Ok tree)
+is_tree source old new tree p fine q =
     let text = source.text.now in
-    let y : IsProgram text IsNestable ts [] x.values.0 =
-    subst (λ r. IsProgram text IsNestable ts r x.values.0) q (from text IsNestable (first_derived x)) in
-    subst (SpellsWell text ts) (back_of x.value_is) (spelled source ts x.values.0 (shallow source ts x.values.0 y))
+    let (vs, d, same) = (p.derives fine).1 new.rest.now tt none in
+    let y : IsProgram text IsNestable old.rest.now [] vs.0 =
+    subst (λ r. IsProgram text IsNestable old.rest.now r vs.0) q (from text IsNestable (head d)) in
+    subst (SpellsWell text old.rest.now) (back_of same) (spelled source old.rest.now vs.0
+    (shallow source old.rest.now vs.0 y))

@@ -18,11 +18,7 @@ use Rattle.sp_tree.specs.Grammar.{with_part_first}
 use Rattle.sp_grammar.specs.Symbols.{AToken, AName, AHeading, MoreNames, AConstant, AType, MoreFields, AFormal}
 use Rattle.sp_grammar.specs.Symbols.{MoreFormals, Formals, ABlock, MoreConstants, MoreTypes, MoreVariables}
 use Rattle.sp_parse.specs.Productions.{Production, production}
-use Rattle.sp_parse.specs.Declares.{and_parts}
-
--- a name, and behind it a token of this kind
-abbrev pub name_then : Kind → Production Name
-name_then k = production (AName ∷ AToken k ∷ []) (λ (name, _). name)
+use Rattle.sp_parse.specs.Trees.{and_parts}
 
 -- names = name { "," name }
 abbrev pub names : Production (List Name)
@@ -31,18 +27,6 @@ names = production (AName ∷ MoreNames ∷ []) (λ (name, (more, _)). name ∷ 
 -- the same up to a ")"
 abbrev pub listed_names : Production (List Name)
 listed_names = production (AName ∷ MoreNames ∷ AToken w.Close ∷ []) (λ (name, (more, _)). name ∷ more)
-
--- a constant, and behind it a token of this kind
-abbrev pub constant_then : Kind → Production SynConst
-constant_then k = production (AConstant ∷ AToken k ∷ []) (λ (value, _). value)
-
--- the type that is named behind a colon
-abbrev pub type_name : Production Name
-type_name = production (AToken w.Colon ∷ AName ∷ []) (λ (_, (name, _)). name)
-
--- the type of an array's elements
-abbrev pub elements : Production Name
-elements = production (AToken w.Of ∷ AName ∷ []) (λ (_, (name, _)). name)
 
 -- group = names ":" name
 abbrev pub group : Production SynGroup
@@ -69,23 +53,6 @@ channel_type = production (AToken w.Open ∷ AName ∷ MoreNames ∷ AToken w.Cl
 abbrev pub formals : Production (List SynFormal)
 formals = production (AFormal ∷ MoreFormals ∷ []) (λ (formal, (more, _)). formal ∷ more)
 
--- one constant of `const`, one type of `type`, and the variables of one type of `var`
-abbrev pub one_constant : Production tree.Part
-one_constant = production (AName ∷ AToken w.Equal ∷ AConstant ∷ AToken w.Semicolon ∷ [])
-    (λ (name, (_, (value, _))). tree.Const name value)
-
-abbrev pub one_type : Production tree.Part
-one_type = production (AName ∷ AToken w.Equal ∷ AType ∷ AToken w.Semicolon ∷ [])
-    (λ (name, (_, (kind, _))). tree.Kind name kind)
-
--- the definition of a type, up to its semicolon
-abbrev pub definition : Production SynKind
-definition = production (AType ∷ AToken w.Semicolon ∷ []) (λ (kind, _). kind)
-
-abbrev pub one_group : Production tree.Part
-one_group = production (AName ∷ MoreNames ∷ AToken w.Colon ∷ AName ∷ AToken w.Semicolon ∷ [])
-    (λ (name, (more, (_, (kind, _)))). tree.Var (name ∷ more) kind)
-
 -- constants = "const" name "=" constant ";" { name "=" constant ";" }, with the declarations before and behind them
 abbrev pub constants : List SynPart → ℕ → Production tree.Block
 constants before d = production (AName ∷ AToken w.Equal ∷ AConstant ∷ AToken w.Semicolon ∷ MoreConstants d ∷ [])
@@ -103,10 +70,6 @@ variables before d = production
     (λ (name, (more, (_, (kind, (_, (behind, _)))))). and_parts before
     (with_part_first (tree.Var (name ∷ more) kind) behind))
 
--- the block of a procedure or function, between its semicolons
-abbrev pub body : ℕ → Production tree.Block
-body d = production (AToken w.Semicolon ∷ ABlock d ∷ AToken w.Semicolon ∷ []) (λ (_, (block, _)). block)
-
 -- procedure = "procedure" name [ formals ] ";" block ";"
 abbrev pub procedure : ℕ → Production tree.Part
 procedure d = production (AName ∷ Formals ∷ AToken w.Semicolon ∷ ABlock d ∷ AToken w.Semicolon ∷ [])
@@ -117,12 +80,3 @@ abbrev pub function : ℕ → Production tree.Part
 function d = production
     (AName ∷ Formals ∷ AToken w.Colon ∷ AName ∷ AToken w.Semicolon ∷ ABlock d ∷ AToken w.Semicolon ∷ [])
     (λ (name, (formals, (_, (answer, (_, (block, _)))))). tree.Proc name formals (Some answer) block.parts block.body)
-
--- the block of a program, behind its heading
-abbrev pub outer_block : Production tree.Block
-outer_block = production (AToken w.Semicolon ∷ ABlock 0 ∷ AToken w.Dot ∷ []) (λ (_, (block, _)). block)
-
--- program = "program" name [ "(" names ")" ] ";" block "."
-abbrev pub program : Production tree.Program
-program = production (AName ∷ AHeading ∷ AToken w.Semicolon ∷ ABlock 0 ∷ AToken w.Dot ∷ [])
-    (λ (name, (heading, (_, (block, _)))). record { name = name; heading = heading; block = block })

@@ -10,15 +10,10 @@ use Rattle.sp_tree.specs.declared.syntax.SynExpr.{SynExpr}
 use Rattle.sp_tree.specs.declared.syntax.SynSelector.{SynSelector}
 use Rattle.sp_tree.specs.PlainSyntax as tree
 use Rattle.sp_tree.specs.SyntaxOf.{expression_of}
-use Rattle.sp_tree.specs.declared.token.Kind.{Kind}
-use Rattle.sp_grammar.specs.Symbols.{AToken, AnExpression, MoreFactors, AFactor, ANegated, AReference, MoreIndices}
+use Rattle.sp_grammar.specs.Symbols.{AnExpression, MoreFactors, AFactor, ANegated, AReference, MoreIndices}
 use Rattle.sp_grammar.specs.Symbols.{MoreArguments, AWidth}
 use Rattle.sp_parse.specs.Productions.{Production, production}
 use Rattle.sp_parse.specs.Trees.{and_selectors}
-
--- an expression, and behind it a token of this kind
-abbrev pub expression_then : ℕ → Kind → Production tree.Expression
-expression_then d k = production (AnExpression d ∷ AToken k ∷ []) (λ (value, _). value)
 
 -- simple = [ "+" | "-" ] term { ( "+" | "-" | "or" ) term }, where this much is read and the terms behind it are
 -- pending
@@ -46,7 +41,3 @@ indices d before = production (AnExpression d ∷ MoreIndices d ∷ [])
 abbrev pub arguments : ℕ → Production tree.Arguments
 arguments d = production (AnExpression d ∷ AWidth d ∷ MoreArguments d ∷ [])
     (λ (value, (width, (more, _))). tree.AndArgument (tree.Pass value width) more)
-
--- argument = expression [ ":" expression ]
-abbrev pub argument : ℕ → Production tree.Argument
-argument d = production (AnExpression d ∷ AWidth d ∷ []) (λ (value, (width, _)). tree.Pass value width)

@@ -4,7 +4,6 @@ pub mod Productions
 pub mod Reads
 pub mod Trees
 pub mod Operators
-pub mod Declares
 pub mod Parses
 pub mod BlockProductions
 pub mod ExpressionProductions

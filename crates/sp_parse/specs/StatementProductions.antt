@@ -22,19 +22,9 @@ sequence d = production (AStatement d ∷ MoreStatements d ∷ []) (λ (first, (
 abbrev pub compound : ℕ → Production Statements
 compound d = production (AStatement d ∷ MoreStatements d ∷ AToken w.End ∷ []) (λ (first, (more, _)). AndThen first more)
 
--- the same as a statement
-abbrev pub compound_statement : ℕ → Place → Production Statement
-compound_statement d at = production (AStatement d ∷ MoreStatements d ∷ AToken w.End ∷ [])
-    (λ (first, (more, _)). Does at (Sequence (AndThen first more)))
-
 -- what stands behind the name that a statement begins with: `:=` and an expression, arguments, selectors, or nothing
 abbrev pub after_name : ℕ → Place → Name → Production Statement
 after_name d at name = production (AfterName d ∷ []) (λ (form_of, _). Does at (form_of name))
-
--- assignment = variable ":=" expression, behind the name of the variable
-abbrev pub assignment : ℕ → Place → Name → Production Statement
-assignment d at name = production (Selectors d ∷ AToken w.Becomes ∷ AnExpression d ∷ [])
-    (λ (selectors, (_, (value, _))). Does at (Assign (Entire name selectors) value))
 
 -- if = "if" expression "then" statement [ "else" statement ]
 abbrev pub if_statement : ℕ → Place → Production Statement
@@ -57,11 +47,6 @@ for_statement d at = production
     (AName ∷ AToken w.Becomes ∷ AnExpression d ∷ ADirection ∷ AnExpression d ∷ AToken w.Do ∷ AStatement d ∷ [])
     (λ (name, (_, (from, (down, (to, (_, (body, _))))))). Does at (For name from down to body))
 
--- the bounds of it, up to the `do`
-abbrev pub bounds : ℕ → Production (Expression × Bool × Expression)
-bounds d = production (AnExpression d ∷ ADirection ∷ AnExpression d ∷ AToken w.Do ∷ [])
-    (λ (from, (down, (to, _))). (from, down, to))
-
 -- forall = "forall" name ":=" expression "to" expression "do" statement
 abbrev pub forall_statement : ℕ → Place → Production Statement
 forall_statement d at = production
@@ -79,11 +64,6 @@ abbrev pub arms : ℕ → Production Arms
 arms d = production (AConstant ∷ MoreLabels ∷ AStatement d ∷ MoreArms d ∷ [])
     (λ (label, (labels, (body, (more, _)))). Or (On (label ∷ labels) body) more)
 
--- arm = constant { "," constant } ":" statement
-abbrev pub arm : ℕ → Production Arm
-arm d = production (AConstant ∷ MoreLabels ∷ AStatement d ∷ [])
-    (λ (label, (labels, (body, _))). On (label ∷ labels) body)
-
 -- the constants of it, up to the colon
 abbrev pub labels : Production (List SynConst)
 labels = production (AConstant ∷ MoreLabels ∷ []) (λ (label, (labels, _)). label ∷ labels)
@@ -92,12 +72,3 @@ labels = production (AConstant ∷ MoreLabels ∷ []) (λ (label, (labels, _)). 
 abbrev pub parallel_statement : ℕ → Place → Production Statement
 parallel_statement d at = production (AStatement d ∷ MoreStatements d ∷ MoreBranches d ∷ [])
     (λ (first, (statements, (more, _))). Does at (Parallel (Beside (AndThen first statements) more)))
-
--- the sequences of it, up to the `end`
-abbrev pub branches : ℕ → Production Branches
-branches d = production (AStatement d ∷ MoreStatements d ∷ MoreBranches d ∷ [])
-    (λ (first, (statements, (more, _))). Beside (AndThen first statements) more)
-
--- assume = "assume" expression
-abbrev pub assume_statement : ℕ → Place → Production Statement
-assume_statement d at = production (AnExpression d ∷ []) (λ (test, _). Does at (Assume test))

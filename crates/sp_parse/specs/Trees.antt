@@ -2,19 +2,19 @@
 -- The plain trees of parts that stand in no tree yet: lists and options, which sp_tree leads to plain trees only inside
 -- the part that holds them. The readers' contracts take them to say what an answer stands for. A list that is still
 -- growing stands for a function: these items, and then whatever is read behind them.
-use Rattle.std.specs.Prelude.{◌≡◌, Bool, List, [], ◌∷◌, Option, Some, None, Result, IfOk, map}
+use Rattle.std.specs.Prelude.{◌≡◌, List, [], ◌∷◌, Option, Some, None, Result, IfOk, map}
 use Rattle.sp_tree.specs.declared.syntax.SynExpr.{SynExpr}
 use Rattle.sp_tree.specs.declared.syntax.SynSelector.{SynSelector}
 use Rattle.sp_tree.specs.declared.syntax.SynArg.{SynArg}
 use Rattle.sp_tree.specs.declared.syntax.SynStmt.{SynStmt}
 use Rattle.sp_tree.specs.declared.syntax.SynArm.{SynArm}
 use Rattle.sp_tree.specs.declared.syntax.SynBranch.{SynBranch}
-use Rattle.sp_parse.specs.declared.made_statements.Bounds.{Bounds}
-use Rattle.sp_tree.specs.PlainSyntax.{Expression, Width, Selectors, Select, Arguments, AndArgument, ElsePart}
+use Rattle.sp_tree.specs.declared.syntax.SynPart.{SynPart}
+use Rattle.sp_tree.specs.PlainSyntax.{Width, Selectors, Select, Arguments, AndArgument, ElsePart}
 use Rattle.sp_tree.specs.PlainSyntax.{Statements}
-use Rattle.sp_tree.specs.PlainSyntax.{AndThen, Arms, Or, Branches, Beside}
+use Rattle.sp_tree.specs.PlainSyntax.{AndThen, Arms, Or, Branches, Beside, Block, Declare}
 use Rattle.sp_tree.specs.SyntaxOf.{expression_of, selector_of, argument_of, selectors, width, statement_of, arm_of}
-use Rattle.sp_tree.specs.SyntaxOf.{branch_of, else_part, arms, branches}
+use Rattle.sp_tree.specs.SyntaxOf.{branch_of, else_part, arms, branches, part_of}
 
 -- what is made stands for this, unless there is no memory for it
 abbrev pub MakesTree : {X V E : Type 0} → (X → V) → V → Result X E → Type 0
@@ -53,10 +53,6 @@ arms_of all = arms (map arm_of all)
 abbrev pub branches_of : List SynBranch → Branches
 branches_of all = branches (map branch_of all)
 
--- the bounds of a loop over a variable
-abbrev pub bounds_of : Bounds → Expression × Bool × Expression
-bounds_of b = (expression_of b.from, b.down, expression_of b.to)
-
 -- these statements, arms or branches, and then the others
 abbrev pub and_statements : List SynStmt → Statements → Statements
 and_statements all more = lay AndThen (map statement_of all) more
@@ -66,3 +62,7 @@ and_arms all more = lay Or (map arm_of all) more
 
 abbrev pub and_branches : List SynBranch → Branches → Branches
 and_branches all more = lay Beside (map branch_of all) more
+
+-- these declarations before those of a block
+abbrev pub and_parts : List SynPart → Block → Block
+and_parts ps b = record { parts = lay Declare (map part_of ps) b.parts; body = b.body }

@@ -3,30 +3,31 @@
 ghost use Rattle.std.specs.Prelude.{◌≡◌, None};
 ghost use Rattle.sp_grammar.specs.Symbols.{AConstant, AValue};
 ghost use Rattle.sp_parse.specs.Productions.{itself, single};
-ghost use Rattle.sp_parse.specs.Reads.{HasTokens, ParsesAs};
-ghost use Rattle.sp_parse.specs.BlockProductions as grammar;
+ghost use Rattle.sp_parse.specs.Reads.{HasTokens, Parses};
 
-use crate::have;
 use crate::operators::is;
-use crate::source::{Source, cut, expect, misplaced};
-use crate::spelling::{name_at, number_at, quoted_at};
-use sp_base::{Halt, Place};
-use sp_tree::{Kind, SynConst, SynValue, Token, sign};
+use crate::source::{Source, Tokens, misplaced};
+use crate::spelling::{name_at, nameless, number_at, quoted_at, wordless};
+use sp_base::Place;
+use sp_tree::{Kind, SynConst, SynValue, sign};
 
 // value = number | name
 /// A number or a name.
-fn value<'t>(source: &Source, tokens: &'t [Token]) -> Result<(SynValue, &'t [Token]), Halt>
-    requires { HasTokens source.now tokens.now }
-    ensures { ParsesAs source.now (single AValue) itself tokens.now result }
+fn value(source: &Source, tokens: &mut Tokens) -> SynValue
+    requires { HasTokens source.now tokens.now.rest.now }
+    ensures { Parses source.now (single AValue) itself tokens.old tokens.new result }
 {
-    let (first, rest) = have!(cut(source, tokens));
+    let first = tokens.look(source);
+    tokens.skip(source);
     match first.kind {
-        Kind::Number => Ok((SynValue::Number(number_at(source, first)), rest)),
+        Kind::Number => SynValue::Number(number_at(source, first)),
         Kind::Name => {
-            let name = have!(name_at(source, first), Halt::Memory);
-            Ok((SynValue::Named(name), rest))
+            SynValue::Named(tokens.made(source, name_at(source, first), nameless(source)))
         }
-        _ => Err(misplaced(first)),
+        _ => {
+            tokens.fail(source, misplaced(first));
+            SynValue::Number(0)
+        }
     }
 }
 
@@ -43,62 +44,40 @@ fn unsigned(at: Place, value: SynValue) -> SynConst
 
 // constant = [ "+" | "-" ] ( number | name ) | text
 /// A constant: a number or a name, with a sign or without, or a text.
-pub fn constant<'t>(source: &Source, tokens: &'t [Token]) -> Result<(SynConst, &'t [Token]), Halt>
-    requires { HasTokens source.now tokens.now }
-    ensures { ParsesAs source.now (single AConstant) itself tokens.now result }
+pub fn constant(source: &Source, tokens: &mut Tokens) -> SynConst
+    requires { HasTokens source.now tokens.now.rest.now }
+    ensures { Parses source.now (single AConstant) itself tokens.old tokens.new result }
 {
-    let (first, rest) = have!(cut(source, tokens));
+    let first = tokens.look(source);
     let at = first.at;
+    tokens.skip(source);
     if is(first, Kind::Sign(sign::PLUS)) {
-        let (value, rest) = have!(value(source, rest));
-        return Ok((
-            SynConst {
-                at,
-                negative: Some(false),
-                value,
-            },
-            rest,
-        ));
+        return SynConst {
+            at,
+            negative: Some(false),
+            value: value(source, tokens),
+        };
     }
     if is(first, Kind::Sign(sign::MINUS)) {
-        let (value, rest) = have!(value(source, rest));
-        return Ok((
-            SynConst {
-                at,
-                negative: Some(true),
-                value,
-            },
-            rest,
-        ));
+        return SynConst {
+            at,
+            negative: Some(true),
+            value: value(source, tokens),
+        };
     }
     match first.kind {
-        Kind::Number => Ok((
-            unsigned(at, SynValue::Number(number_at(source, first))),
-            rest,
-        )),
+        Kind::Number => unsigned(at, SynValue::Number(number_at(source, first))),
         Kind::Name => {
-            let name = have!(name_at(source, first), Halt::Memory);
-            Ok((unsigned(at, SynValue::Named(name)), rest))
+            let name = tokens.made(source, name_at(source, first), nameless(source));
+            unsigned(at, SynValue::Named(name))
         }
         Kind::Text => {
-            let text = have!(quoted_at(source, first), Halt::Memory);
-            Ok((unsigned(at, SynValue::Quoted(text)), rest))
+            let text = tokens.made(source, quoted_at(source, first), wordless(source));
+            unsigned(at, SynValue::Quoted(text))
         }
-        _ => Err(misplaced(first)),
+        _ => {
+            tokens.fail(source, misplaced(first));
+            unsigned(at, SynValue::Number(0))
+        }
     }
-}
-
-// constant_then = constant token
-/// A constant, and behind it a token of this kind.
-pub fn constant_then<'t>(
-    source: &Source,
-    tokens: &'t [Token],
-    kind: Kind,
-) -> Result<(SynConst, &'t [Token]), Halt>
-    requires { HasTokens source.now tokens.now }
-    ensures { ParsesAs source.now (grammar.constant_then kind) itself tokens.now result }
-{
-    let (value, rest) = have!(constant(source, tokens));
-    let rest = have!(expect(source, rest, kind));
-    Ok((value, rest))
 }

@@ -6,7 +6,6 @@ ghost use Rattle.sp_tree.specs.PlainSyntax as tree;
 ghost use Rattle.sp_tree.specs.SyntaxOf.{expression_of, arguments_of, variable_of, selector_of, argument_of};
 ghost use Rattle.sp_parse.specs.Trees.{MakesTree, selectors_of, width_of};
 
-use crate::have;
 use sp_base::{Boxed, List, Place, Text};
 use sp_tree::{BinaryOp, Name, SynArg, SynExpr, SynExprForm, SynSelector, SynVar, UnaryOp};
 use std::alloc::{AllocError, Global};
@@ -59,7 +58,7 @@ pub fn read_expression(at: Place, v: SynVar) -> SynExpr
 pub fn unary(alloc: Global, at: Place, op: UnaryOp, a: SynExpr) -> Result<SynExpr, AllocError>
     ensures { MakesTree expression_of (tree.ExpressionAt at (tree.Unary op (expression_of a))) result }
 {
-    let a = have!(Boxed::new(alloc, a));
+    let a = Boxed::new(alloc, a)?;
     Ok(SynExpr {
         at,
         form: SynExprForm::Unary(op, a),
@@ -71,8 +70,8 @@ pub fn binary(alloc: Global, op: BinaryOp, a: SynExpr, b: SynExpr) -> Result<Syn
     ensures { MakesTree expression_of (joined_of op (expression_of a) (expression_of b)) result }
 {
     let at = a.at;
-    let a = have!(Boxed::new(alloc, a));
-    let b = have!(Boxed::new(alloc, b));
+    let a = Boxed::new(alloc, a)?;
+    let b = Boxed::new(alloc, b)?;
     Ok(SynExpr {
         at,
         form: SynExprForm::Binary(op, a, b),

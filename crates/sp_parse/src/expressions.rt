@@ -1,294 +1,234 @@
 //! How expressions are read. `depth` says inside how many parts one lies.
 
-ghost use Rattle.sp_tree.specs.SyntaxOf.{expression_of, argument_of, arguments_of};
-ghost use Rattle.sp_grammar.specs.Symbols.{AnExpression, ASimple, MoreTerms, AFactor, Selectors};
+ghost use Rattle.std.specs.Prelude.{◌≡◌, Ok};
+ghost use Rattle.sp_tree.specs.SyntaxOf.{expression_of, arguments_of};
+ghost use Rattle.sp_grammar.specs.Symbols.{AnExpression, ASimple, MoreTerms, AFactor, Selectors, AWidth};
 ghost use Rattle.sp_parse.specs.Productions.{single};
-ghost use Rattle.sp_parse.specs.Reads.{HasTokens, ParsesAs, ReadsSoFar};
+ghost use Rattle.sp_parse.specs.Reads.{HasTokens, Keeps, Parses, ParsesSoFar};
 ghost use Rattle.sp_parse.specs.ExpressionProductions as grammar;
-ghost use Rattle.sp_parse.specs.Trees.{selectors_of, and_selectors};
+ghost use Rattle.sp_parse.specs.Trees.{selectors_of, and_selectors, width_of};
 
 use crate::constructors::{
-    argument as make_argument, binary, call_expression, field, index, moved, number_expression,
-    quoted_expression, read_expression, unary, variable,
+    argument, binary, call_expression, field, index, moved, number_expression, quoted_expression,
+    read_expression, unary, variable,
 };
 use crate::deep::{deep_expression, deep_factor};
-use crate::have;
 use crate::names::name;
 use crate::operators::{adding, is, multiplying, relational, sign_of};
-use crate::source::{Source, cut, expect, misplaced, pass};
-use crate::spelling::{name_at, number_at, quoted_at};
-use sp_base::{Halt, List, Place};
-use sp_tree::{Kind, MAX_NESTING, Name, SynArg, SynExpr, SynSelector, Token, UnaryOp, sign, word};
+use crate::source::{Source, Tokens, misplaced};
+use crate::spelling::{name_at, nameless, number_at, quoted_at, wordless};
+use sp_base::{List, Place};
+use sp_tree::{Kind, MAX_NESTING, Name, SynArg, SynExpr, SynSelector, UnaryOp, sign, word};
+use std::alloc::AllocError;
+
+/// The expression that was made, if there was memory for it.
+fn made(source: &Source, tokens: &mut Tokens, found: Result<SynExpr, AllocError>) -> SynExpr
+    requires { HasTokens source.now tokens.now.rest.now }
+    ensures { Keeps source.now (found ≡ Ok result) tokens.old tokens.new }
+{
+    tokens.made(source, found, number_expression(source.end, 0))
+}
 
 // expression = simple [ ( "=" | "<>" | "<" | "<=" | ">" | ">=" ) simple ]
 /// An expression: two simple ones with a relation between them, or one.
 #[cycle(expression)]
-pub fn expression<'t>(
-    source: &Source,
-    tokens: &'t [Token],
-    depth: u32,
-) -> Result<(SynExpr, &'t [Token]), Halt>
-    requires { HasTokens source.now tokens.now }
-    ensures { ParsesAs source.now (single (AnExpression depth)) expression_of tokens.now result }
+pub fn expression(source: &Source, tokens: &mut Tokens, depth: u32) -> SynExpr
+    requires { HasTokens source.now tokens.now.rest.now }
+    ensures { Parses source.now (single (AnExpression depth)) expression_of tokens.old tokens.new result }
 {
     if depth >= MAX_NESTING {
-        return Err(deep_expression(source, tokens));
+        return deep_expression(source, tokens);
     }
-    let (left, rest) = have!(simple(source, tokens, depth + 1));
-    let Some((op, after)) = have!(relational(source, rest)) else {
-        return Ok((left, rest));
+    let left = simple(source, tokens, depth + 1);
+    let Some(op) = relational(tokens.look(source)) else {
+        return left;
     };
-    let (right, rest) = have!(simple(source, after, depth + 1));
-    let whole = have!(binary(source.alloc, op, left, right), Halt::Memory);
-    Ok((whole, rest))
-}
-
-// expression_then = expression token
-/// An expression, and behind it a token of this kind.
-pub fn expression_then<'t>(
-    source: &Source,
-    tokens: &'t [Token],
-    depth: u32,
-    kind: Kind,
-) -> Result<(SynExpr, &'t [Token]), Halt>
-    requires { HasTokens source.now tokens.now }
-    ensures { ParsesAs source.now (grammar.expression_then depth kind) expression_of tokens.now result }
-{
-    let (value, rest) = have!(expression(source, tokens, depth));
-    let rest = have!(expect(source, rest, kind));
-    Ok((value, rest))
+    tokens.skip(source);
+    let right = simple(source, tokens, depth + 1);
+    made(source, tokens, binary(source.alloc, op, left, right))
 }
 
 // simple = [ "+" | "-" ] term { ( "+" | "-" | "or" ) term }
 /// A simple expression: terms with operators between them.
 #[cycle(expression)]
-fn simple<'t>(
-    source: &Source,
-    tokens: &'t [Token],
-    depth: u32,
-) -> Result<(SynExpr, &'t [Token]), Halt>
-    requires { HasTokens source.now tokens.now }
-    ensures { ParsesAs source.now (single (ASimple depth)) expression_of tokens.now result }
+fn simple(source: &Source, tokens: &mut Tokens, depth: u32) -> SynExpr
+    requires { HasTokens source.now tokens.now.rest.now }
+    ensures { Parses source.now (single (ASimple depth)) expression_of tokens.old tokens.new result }
 {
-    let (mut sum, mut rest) = have!(first_term(source, tokens, depth));
-    'more: while let Some((op, after)) = have!(adding(source, rest)) {
-        let (next, left) = have!(term(source, after, depth));
-        sum = have!(binary(source.alloc, op, sum, next), Halt::Memory);
-        rest = left;
+    let mut sum = first_term(source, tokens, depth);
+    'more: loop {
+        let Some(op) = adding(tokens.look(source)) else {
+            return sum;
+        };
+        tokens.skip(source);
+        let next = term(source, tokens, depth);
+        sum = made(source, tokens, binary(source.alloc, op, sum, next));
     }
-    Ok((sum, rest))
 }
 
 // first_term = [ "+" | "-" ] term
 /// The first term of a simple expression, with its sign.
 #[cycle(expression)]
-fn first_term<'t>(
-    source: &Source,
-    tokens: &'t [Token],
-    depth: u32,
-) -> Result<(SynExpr, &'t [Token]), Halt>
-    requires { HasTokens source.now tokens.now }
-    ensures { ReadsSoFar source.now (single (ASimple depth)) (MoreTerms depth) grammar.continued_expression tokens.now
-        result }
+fn first_term(source: &Source, tokens: &mut Tokens, depth: u32) -> SynExpr
+    requires { HasTokens source.now tokens.now.rest.now }
+    ensures { ParsesSoFar source.now (single (ASimple depth)) (MoreTerms depth) grammar.continued_expression
+        tokens.old tokens.new result }
 {
-    let (first, behind) = have!(cut(source, tokens));
+    let first = tokens.look(source);
     let Some(op) = sign_of(first) else {
         return term(source, tokens, depth);
     };
-    let (a, rest) = have!(term(source, behind, depth));
-    let signed = have!(unary(source.alloc, first.at, op, a), Halt::Memory);
-    Ok((signed, rest))
+    tokens.skip(source);
+    let of = term(source, tokens, depth);
+    made(source, tokens, unary(source.alloc, first.at, op, of))
 }
 
 // term = factor { ( "*" | "div" | "mod" | "and" ) factor }
 /// A term: factors with operators between them.
 #[cycle(expression)]
-fn term<'t>(
-    source: &Source,
-    tokens: &'t [Token],
-    depth: u32,
-) -> Result<(SynExpr, &'t [Token]), Halt>
-    requires { HasTokens source.now tokens.now }
-    ensures { ParsesAs source.now (grammar.term depth) expression_of tokens.now result }
+fn term(source: &Source, tokens: &mut Tokens, depth: u32) -> SynExpr
+    requires { HasTokens source.now tokens.now.rest.now }
+    ensures { Parses source.now (grammar.term depth) expression_of tokens.old tokens.new result }
 {
-    let (mut product, mut rest) = have!(factor(source, tokens, depth));
-    'more: while let Some((op, after)) = have!(multiplying(source, rest)) {
-        let (next, left) = have!(factor(source, after, depth));
-        product = have!(binary(source.alloc, op, product, next), Halt::Memory);
-        rest = left;
+    let mut product = factor(source, tokens, depth);
+    'more: loop {
+        let Some(op) = multiplying(tokens.look(source)) else {
+            return product;
+        };
+        tokens.skip(source);
+        let next = factor(source, tokens, depth);
+        product = made(source, tokens, binary(source.alloc, op, product, next));
     }
-    Ok((product, rest))
 }
 
 // factor = number | text | variable | call | "(" expression ")" | "not" factor
 /// A factor: a number, a text, a variable, a call, an expression in parentheses, or a factor after `not`.
 #[cycle(expression)]
-fn factor<'t>(
-    source: &Source,
-    tokens: &'t [Token],
-    depth: u32,
-) -> Result<(SynExpr, &'t [Token]), Halt>
-    requires { HasTokens source.now tokens.now }
-    ensures { ParsesAs source.now (single (AFactor depth)) expression_of tokens.now result }
+fn factor(source: &Source, tokens: &mut Tokens, depth: u32) -> SynExpr
+    requires { HasTokens source.now tokens.now.rest.now }
+    ensures { Parses source.now (single (AFactor depth)) expression_of tokens.old tokens.new result }
 {
-    let (first, rest) = have!(cut(source, tokens));
+    let first = tokens.look(source);
     let at = first.at;
+    tokens.skip(source);
     if is(first, Kind::Number) {
-        return Ok((number_expression(at, number_at(source, first)), rest));
+        return number_expression(at, number_at(source, first));
     }
     if is(first, Kind::Text) {
-        let text = have!(quoted_at(source, first), Halt::Memory);
-        return Ok((quoted_expression(at, text), rest));
+        let text = tokens.made(source, quoted_at(source, first), wordless(source));
+        return quoted_expression(at, text);
     }
     if is(first, Kind::Name) {
-        let name = have!(name_at(source, first), Halt::Memory);
-        return reference(source, rest, depth, at, name);
+        let name = tokens.made(source, name_at(source, first), nameless(source));
+        return reference(source, tokens, depth, at, name);
     }
     if is(first, Kind::Sign(sign::OPEN)) {
-        let (inner, rest) = have!(expression(source, rest, depth));
-        let rest = have!(expect(source, rest, Kind::Sign(sign::CLOSE)));
-        return Ok((moved(at, inner), rest));
+        let inner = expression(source, tokens, depth);
+        tokens.expect(source, Kind::Sign(sign::CLOSE));
+        return moved(at, inner);
     }
     if is(first, Kind::Word(word::NOT)) {
-        return negation(source, rest, depth, at);
+        return negation(source, tokens, depth, at);
     }
-    Err(misplaced(first))
+    tokens.fail(source, misplaced(first));
+    number_expression(at, 0)
 }
 
 // negation = "not" factor
 /// What stands behind `not`.
 #[cycle(expression)]
-fn negation<'t>(
-    source: &Source,
-    tokens: &'t [Token],
-    depth: u32,
-    at: Place,
-) -> Result<(SynExpr, &'t [Token]), Halt>
-    requires { HasTokens source.now tokens.now }
-    ensures { ParsesAs source.now (grammar.negation depth at) expression_of tokens.now result }
+fn negation(source: &Source, tokens: &mut Tokens, depth: u32, at: Place) -> SynExpr
+    requires { HasTokens source.now tokens.now.rest.now }
+    ensures { Parses source.now (grammar.negation depth at) expression_of tokens.old tokens.new result }
 {
     if depth >= MAX_NESTING {
-        return Err(deep_factor(source, tokens));
+        return deep_factor(source, tokens, at);
     }
-    let (a, rest) = have!(factor(source, tokens, depth + 1));
-    let whole = have!(unary(source.alloc, at, UnaryOp::Not, a), Halt::Memory);
-    Ok((whole, rest))
+    let of = factor(source, tokens, depth + 1);
+    made(source, tokens, unary(source.alloc, at, UnaryOp::Not, of))
 }
 
 // reference = variable | call
 /// A variable or a call, after its name.
 #[cycle(expression)]
-fn reference<'t>(
-    source: &Source,
-    tokens: &'t [Token],
-    depth: u32,
-    at: Place,
-    name: Name,
-) -> Result<(SynExpr, &'t [Token]), Halt>
-    requires { HasTokens source.now tokens.now }
-    ensures { ParsesAs source.now (grammar.reference depth at name) expression_of tokens.now result }
+fn reference(source: &Source, tokens: &mut Tokens, depth: u32, at: Place, name: Name) -> SynExpr
+    requires { HasTokens source.now tokens.now.rest.now }
+    ensures { Parses source.now (grammar.reference depth at name) expression_of tokens.old tokens.new result }
 {
-    let Some(inner) = have!(pass(source, tokens, Kind::Sign(sign::OPEN))) else {
-        let (of, rest) = have!(selectors(source, tokens, depth));
-        return Ok((read_expression(at, variable(name, of)), rest));
-    };
-    let (args, rest) = have!(arguments(source, inner, depth));
-    Ok((call_expression(at, name, args), rest))
+    if tokens.pass(source, Kind::Sign(sign::OPEN)) {
+        return call_expression(at, name, arguments(source, tokens, depth));
+    }
+    read_expression(at, variable(name, selectors(source, tokens, depth)))
 }
 
 // selectors = { "[" expression { "," expression } "]" | "." name }
 /// The selectors of a variable.
 #[cycle(expression)]
-pub fn selectors<'t>(
-    source: &Source,
-    tokens: &'t [Token],
-    depth: u32,
-) -> Result<(List<SynSelector>, &'t [Token]), Halt>
-    requires { HasTokens source.now tokens.now }
-    ensures { ParsesAs source.now (single (Selectors depth)) selectors_of tokens.now result }
+pub fn selectors(source: &Source, tokens: &mut Tokens, depth: u32) -> List<SynSelector>
+    requires { HasTokens source.now tokens.now.rest.now }
+    ensures { Parses source.now (single (Selectors depth)) selectors_of tokens.old tokens.new result }
 {
     let mut all = List::new(source.alloc);
-    let mut rest = tokens;
     'more: loop {
-        if let Some(inner) = have!(pass(source, rest, Kind::Sign(sign::OPEN_INDEX))) {
-            let (more, left) = have!(indices(source, inner, depth, all));
-            all = more;
-            rest = left;
-            continue;
+        if tokens.pass(source, Kind::Sign(sign::OPEN_INDEX)) {
+            indices(source, tokens, depth, &mut all);
+        } else if tokens.pass(source, Kind::Sign(sign::DOT)) {
+            let name = name(source, tokens);
+            tokens.push(source, &mut all, field(name));
+        } else {
+            return all;
         }
-        let Some(after) = have!(pass(source, rest, Kind::Sign(sign::DOT))) else {
-            return Ok((all, rest));
-        };
-        let (name, left) = have!(name(source, after));
-        all.push(field(name))?;
-        rest = left;
     }
 }
 
 // indices = "[" expression { "," expression } "]"
-/// Indices behind `[`, up to the `]`, after the selectors so far.
+/// Indices behind `[`, up to the `]`, added to the selectors so far.
 #[cycle(expression)]
-fn indices<'t>(
-    source: &Source,
-    tokens: &'t [Token],
-    depth: u32,
-    before: List<SynSelector>,
-) -> Result<(List<SynSelector>, &'t [Token]), Halt>
-    requires { HasTokens source.now tokens.now }
-    ensures { ReadsSoFar source.now (grammar.indices depth before) (Selectors depth) and_selectors tokens.now result }
+fn indices(source: &Source, tokens: &mut Tokens, depth: u32, all: &mut List<SynSelector>)
+    requires { HasTokens source.now tokens.now.rest.now }
+    ensures { ParsesSoFar source.now (grammar.indices depth all.old) (Selectors depth) and_selectors
+        tokens.old tokens.new all.new }
 {
-    let mut all = before;
-    let mut rest = tokens;
     'more: loop {
-        let (next, left) = have!(expression(source, rest, depth));
-        all.push(index(next))?;
-        let Some(after) = have!(pass(source, left, Kind::Sign(sign::COMMA))) else {
-            let rest = have!(expect(source, left, Kind::Sign(sign::CLOSE_INDEX)));
-            return Ok((all, rest));
-        };
-        rest = after;
+        let next = expression(source, tokens, depth);
+        tokens.push(source, all, index(next));
+        if !tokens.goes_on(
+            source,
+            Kind::Sign(sign::COMMA),
+            Kind::Sign(sign::CLOSE_INDEX),
+        ) {
+            return;
+        }
     }
 }
 
 // arguments = "(" argument { "," argument } ")"
 /// Arguments behind `(`, up to the `)`.
 #[cycle(expression)]
-pub fn arguments<'t>(
-    source: &Source,
-    tokens: &'t [Token],
-    depth: u32,
-) -> Result<(List<SynArg>, &'t [Token]), Halt>
-    requires { HasTokens source.now tokens.now }
-    ensures { ParsesAs source.now (grammar.arguments depth) arguments_of tokens.now result }
+pub fn arguments(source: &Source, tokens: &mut Tokens, depth: u32) -> List<SynArg>
+    requires { HasTokens source.now tokens.now.rest.now }
+    ensures { Parses source.now (grammar.arguments depth) arguments_of tokens.old tokens.new result }
 {
     let mut all = List::new(source.alloc);
-    let mut rest = tokens;
     'more: loop {
-        let (next, left) = have!(argument(source, rest, depth));
-        all.push(next)?;
-        let Some(after) = have!(pass(source, left, Kind::Sign(sign::COMMA))) else {
-            let rest = have!(expect(source, left, Kind::Sign(sign::CLOSE)));
-            return Ok((all, rest));
-        };
-        rest = after;
+        let value = expression(source, tokens, depth);
+        let width = width(source, tokens, depth);
+        tokens.push(source, &mut all, argument(value, width));
+        if !tokens.goes_on(source, Kind::Sign(sign::COMMA), Kind::Sign(sign::CLOSE)) {
+            return all;
+        }
     }
 }
 
-// argument = expression [ ":" expression ]
-/// An argument and its width.
+// width = [ ":" expression ]
+/// The width of an argument, if it has one.
 #[cycle(expression)]
-fn argument<'t>(
-    source: &Source,
-    tokens: &'t [Token],
-    depth: u32,
-) -> Result<(SynArg, &'t [Token]), Halt>
-    requires { HasTokens source.now tokens.now }
-    ensures { ParsesAs source.now (grammar.argument depth) argument_of tokens.now result }
+fn width(source: &Source, tokens: &mut Tokens, depth: u32) -> Option<SynExpr>
+    requires { HasTokens source.now tokens.now.rest.now }
+    ensures { Parses source.now (single (AWidth depth)) width_of tokens.old tokens.new result }
 {
-    let (value, rest) = have!(expression(source, tokens, depth));
-    let Some(after) = have!(pass(source, rest, Kind::Sign(sign::COLON))) else {
-        return Ok((make_argument(value, None), rest));
-    };
-    let (width, rest) = have!(expression(source, after, depth));
-    Ok((make_argument(value, Some(width)), rest))
+    if tokens.pass(source, Kind::Sign(sign::COLON)) {
+        return Some(expression(source, tokens, depth));
+    }
+    None
 }

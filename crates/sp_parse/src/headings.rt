@@ -1,21 +1,23 @@
 //! How formal parameters, and the names in a program's heading, are read.
 
-ghost use Rattle.std.specs.Prelude.{◌≡◌};
 ghost use Rattle.sp_grammar.specs.Symbols.{AFormal, Formals, AHeading};
 ghost use Rattle.sp_parse.specs.Productions.{itself, single};
-ghost use Rattle.sp_parse.specs.Reads.{HasTokens, ParsesAs};
+ghost use Rattle.sp_parse.specs.Reads.{HasTokens, Parses};
 ghost use Rattle.sp_parse.specs.BlockProductions as grammar;
 
-use crate::have;
-use crate::source::{Source, expect, pass};
+use crate::source::{Source, Tokens};
 use crate::types::{group, listed};
-use sp_base::{Halt, List};
-use sp_tree::{Kind, Name, SynFormal, SynGroup, Token, sign, word};
+use sp_base::List;
+use sp_tree::{Kind, Name, SynFormal, sign, word};
 
-/// Parameters of one type.
-fn parameters(by_reference: bool, of: SynGroup) -> SynFormal
-    ensures { result ≡ record { by_reference = by_reference; names = of.names; kind = of.kind } }
+// formal = [ "var" ] names ":" name
+/// Formal parameters of one type.
+fn formal(source: &Source, tokens: &mut Tokens) -> SynFormal
+    requires { HasTokens source.now tokens.now.rest.now }
+    ensures { Parses source.now (single AFormal) itself tokens.old tokens.new result }
 {
+    let by_reference = tokens.pass(source, Kind::Word(word::VAR));
+    let of = group(source, tokens);
     SynFormal {
         by_reference,
         names: of.names,
@@ -23,65 +25,42 @@ fn parameters(by_reference: bool, of: SynGroup) -> SynFormal
     }
 }
 
-// formal = [ "var" ] names ":" name
-/// Formal parameters of one type.
-fn formal<'t>(source: &Source, tokens: &'t [Token]) -> Result<(SynFormal, &'t [Token]), Halt>
-    requires { HasTokens source.now tokens.now }
-    ensures { ParsesAs source.now (single AFormal) itself tokens.now result }
-{
-    if let Some(after) = have!(pass(source, tokens, Kind::Word(word::VAR))) {
-        let (of, rest) = have!(group(source, after));
-        return Ok((parameters(true, of), rest));
-    }
-    let (of, rest) = have!(group(source, tokens));
-    Ok((parameters(false, of), rest))
-}
-
 // formals = "(" formal { ";" formal } ")"
 /// Formal parameters up to the closing parenthesis, behind the opening one.
-fn some_formals<'t>(
-    source: &Source,
-    tokens: &'t [Token],
-) -> Result<(List<SynFormal>, &'t [Token]), Halt>
-    requires { HasTokens source.now tokens.now }
-    ensures { ParsesAs source.now grammar.formals itself tokens.now result }
+fn some_formals(source: &Source, tokens: &mut Tokens) -> List<SynFormal>
+    requires { HasTokens source.now tokens.now.rest.now }
+    ensures { Parses source.now grammar.formals itself tokens.old tokens.new result }
 {
     let mut all = List::new(source.alloc);
-    let mut rest = tokens;
     'more: loop {
-        let (next, left) = have!(formal(source, rest));
-        all.push(next)?;
-        let Some(after) = have!(pass(source, left, Kind::Sign(sign::SEMICOLON))) else {
-            let rest = have!(expect(source, left, Kind::Sign(sign::CLOSE)));
-            return Ok((all, rest));
-        };
-        rest = after;
+        let next = formal(source, tokens);
+        tokens.push(source, &mut all, next);
+        if !tokens.goes_on(source, Kind::Sign(sign::SEMICOLON), Kind::Sign(sign::CLOSE)) {
+            return all;
+        }
     }
 }
 
 // optional_formals = [ formals ]
 /// The formal parameters of a procedure, if it has some.
-pub fn formals<'t>(
-    source: &Source,
-    tokens: &'t [Token],
-) -> Result<(List<SynFormal>, &'t [Token]), Halt>
-    requires { HasTokens source.now tokens.now }
-    ensures { ParsesAs source.now (single Formals) itself tokens.now result }
+pub fn formals(source: &Source, tokens: &mut Tokens) -> List<SynFormal>
+    requires { HasTokens source.now tokens.now.rest.now }
+    ensures { Parses source.now (single Formals) itself tokens.old tokens.new result }
 {
-    match have!(pass(source, tokens, Kind::Sign(sign::OPEN))) {
-        Some(after) => some_formals(source, after),
-        None => Ok((List::new(source.alloc), tokens)),
+    if tokens.pass(source, Kind::Sign(sign::OPEN)) {
+        return some_formals(source, tokens);
     }
+    List::new(source.alloc)
 }
 
 // heading = [ "(" names ")" ]
 /// The names in the heading of a program, if it has some.
-pub fn heading<'t>(source: &Source, tokens: &'t [Token]) -> Result<(List<Name>, &'t [Token]), Halt>
-    requires { HasTokens source.now tokens.now }
-    ensures { ParsesAs source.now (single AHeading) itself tokens.now result }
+pub fn heading(source: &Source, tokens: &mut Tokens) -> List<Name>
+    requires { HasTokens source.now tokens.now.rest.now }
+    ensures { Parses source.now (single AHeading) itself tokens.old tokens.new result }
 {
-    match have!(pass(source, tokens, Kind::Sign(sign::OPEN))) {
-        Some(after) => listed(source, after),
-        None => Ok((List::new(source.alloc), tokens)),
+    if tokens.pass(source, Kind::Sign(sign::OPEN)) {
+        return listed(source, tokens);
     }
+    List::new(source.alloc)
 }

@@ -8,13 +8,13 @@
 //! - Above each parse function stands its line of the grammar, and its contract names the production that it reads.
 //! - `specs/BlockProductions.antt`, `ExpressionProductions.antt` and `StatementProductions.antt` list the productions:
 //!   their symbols and what these make.
-//! - `ParsesAs` of `specs/Reads.antt` says that the tree is what the production makes, and that the machine of
+//! - `Parses` of `specs/Reads.antt` says that the tree is what the production makes, and that the machine of
 //!   `sp_grammar` goes on the same way or gets stuck at the same place.
-//! - `have!` stands for `?`, which costs a proof more. `?` is left where a failure hands back what has to be dropped.
+//! - A failure is kept in `Tokens`. No token is left after it, so loops end, and what is read is no answer.
 //! - Chains, lists and selectors are loops. Only nesting is recursion, and at most 200 parts deep.
-//! - Of the proofs, `Steps` and `Behind` are the steps of the machine and what stands behind them, `SoFar` and
-//!   `Rounds` the loops (`Rounds` those that begin with an item), `Rows` the use of rows of the table. `Read*` have
-//!   the lemmas of each group of functions, and `TreeAnswers` leads to the tokens' own definitions.
+//! - Of the proofs, `Steps` has the steps of the machine, `Pending` what is read and what is still pending, `Rows` the
+//!   use of rows of the table. `Turns` has symbols that have the rows of others, and `TreeAnswers` leads to the tokens'
+//!   own definitions.
 //!
 //! Lemmas for others, in `proofs`:
 //! - `TokenBounds`: the tokens of a text that breaks no rule of characters lie in it, and their numbers are integers.

@@ -3,9 +3,13 @@
 ghost use Rattle.std.specs.Prelude.{◌≡◌};
 ghost use Rattle.sp_tree.specs.PlainSyntax as tree;
 ghost use Rattle.sp_tree.specs.SyntaxOf.{part_of, parts_of, block_of, statements_of};
+ghost use Rattle.sp_parse.specs.Trees.{MakesTree};
 
+use crate::source::Source;
+use crate::spelling::nameless;
 use sp_base::{Boxed, List, Place};
 use sp_tree::{Name, SynBlock, SynConst, SynForm, SynFormal, SynGroup, SynKind, SynPart, SynStmt};
+use std::alloc::{AllocError, Global};
 
 pub fn constant_declaration(name: Name, value: SynConst) -> SynPart
     ensures { part_of result ≡ tree.Const name value }
@@ -27,19 +31,21 @@ pub fn variable_declaration(of: SynGroup) -> SynPart
 
 /// A procedure, or with an answer a function.
 pub fn procedure_declaration(
+    alloc: Global,
     name: Name,
     formals: List<SynFormal>,
     answer: Option<Name>,
-    block: Boxed<SynBlock>,
-) -> SynPart
-    ensures { part_of result ≡ (let b = block_of block in tree.Proc name formals answer b.parts b.body) }
+    block: SynBlock,
+) -> Result<SynPart, AllocError>
+    ensures { MakesTree part_of (let b = block_of block in tree.Proc name formals answer b.parts b.body) result }
 {
-    SynPart::Proc {
+    let block = Boxed::new(alloc, block)?;
+    Ok(SynPart::Proc {
         name,
         formals,
         answer,
         block,
-    }
+    })
 }
 
 /// A block with these declarations and the statements behind the `begin` at this place.
@@ -56,4 +62,13 @@ pub fn whole_block(all: List<SynPart>, at: Place, statements: List<SynStmt>) -> 
             form: SynForm::Sequence(statements),
         },
     }
+}
+
+/// A declaration and a block that say nothing, for a reading that failed.
+pub fn no_part(source: &Source) -> SynPart {
+    SynPart::Var(List::new(source.alloc), nameless(source))
+}
+
+pub fn no_block(source: &Source) -> SynBlock {
+    whole_block(List::new(source.alloc), source.end, List::new(source.alloc))
 }

@@ -4,10 +4,11 @@ ghost use Rattle.std.specs.Prelude.{◌≡◌};
 ghost use Rattle.sp_tree.specs.PlainSyntax as tree;
 ghost use Rattle.sp_tree.specs.SyntaxOf.{expression_of, arguments_of, variable_of, statement_of, statements_of, arm_of};
 ghost use Rattle.sp_tree.specs.SyntaxOf.{branch_of};
-ghost use Rattle.sp_parse.specs.Trees.{other_of, arms_of, branches_of};
+ghost use Rattle.sp_parse.specs.Trees.{MakesTree, other_of, arms_of, branches_of};
 
 use sp_base::{Boxed, List, Place};
 use sp_tree::{Name, SynArg, SynArm, SynBranch, SynConst, SynExpr, SynForm, SynStmt, SynVar};
+use std::alloc::{AllocError, Global};
 
 pub fn empty_statement(at: Place) -> SynStmt
     ensures { statement_of result ≡ tree.Does at tree.Empty }
@@ -46,26 +47,39 @@ pub fn sequence_statement(at: Place, all: List<SynStmt>) -> SynStmt
 }
 
 pub fn if_statement(
+    alloc: Global,
     at: Place,
     test: SynExpr,
-    body: Boxed<SynStmt>,
-    other: Option<Boxed<SynStmt>>,
-) -> SynStmt
-    ensures { statement_of result ≡ tree.Does at (tree.If (expression_of test) (statement_of body) (other_of other)) }
+    body: SynStmt,
+    other: Option<SynStmt>,
+) -> Result<SynStmt, AllocError>
+    ensures { MakesTree statement_of
+        (tree.Does at (tree.If (expression_of test) (statement_of body) (other_of other))) result }
 {
-    SynStmt {
+    let body = Boxed::new(alloc, body)?;
+    let other = match other {
+        Some(other) => Some(Boxed::new(alloc, other)?),
+        None => None,
+    };
+    Ok(SynStmt {
         at,
         form: SynForm::If(test, body, other),
-    }
+    })
 }
 
-pub fn while_statement(at: Place, test: SynExpr, body: Boxed<SynStmt>) -> SynStmt
-    ensures { statement_of result ≡ tree.Does at (tree.While (expression_of test) (statement_of body)) }
+pub fn while_statement(
+    alloc: Global,
+    at: Place,
+    test: SynExpr,
+    body: SynStmt,
+) -> Result<SynStmt, AllocError>
+    ensures { MakesTree statement_of (tree.Does at (tree.While (expression_of test) (statement_of body))) result }
 {
-    SynStmt {
+    let body = Boxed::new(alloc, body)?;
+    Ok(SynStmt {
         at,
         form: SynForm::While(test, body),
-    }
+    })
 }
 
 pub fn repeat_statement(at: Place, body: List<SynStmt>, test: SynExpr) -> SynStmt
@@ -86,20 +100,20 @@ pub fn case_statement(at: Place, test: SynExpr, arms: List<SynArm>) -> SynStmt
     }
 }
 
-/// The bounds of a loop over a variable.
-#[derive(Drop)]
-pub struct Bounds {
-    pub from: SynExpr,
-    pub down: bool,
-    pub to: SynExpr,
-}
-
-pub fn for_statement(at: Place, name: Name, bounds: Bounds, body: Boxed<SynStmt>) -> SynStmt
-    ensures { statement_of result ≡ tree.Does at
-        (tree.For name (expression_of bounds.from) bounds.down (expression_of bounds.to) (statement_of body)) }
+pub fn for_statement(
+    alloc: Global,
+    at: Place,
+    name: Name,
+    from: SynExpr,
+    down: bool,
+    to: SynExpr,
+    body: SynStmt,
+) -> Result<SynStmt, AllocError>
+    ensures { MakesTree statement_of
+        (tree.Does at (tree.For name (expression_of from) down (expression_of to) (statement_of body))) result }
 {
-    let Bounds { from, down, to } = bounds;
-    SynStmt {
+    let body = Boxed::new(alloc, body)?;
+    Ok(SynStmt {
         at,
         form: SynForm::For {
             name,
@@ -108,20 +122,22 @@ pub fn for_statement(at: Place, name: Name, bounds: Bounds, body: Boxed<SynStmt>
             to,
             body,
         },
-    }
+    })
 }
 
 pub fn forall_statement(
+    alloc: Global,
     at: Place,
     name: Name,
     from: SynExpr,
     to: SynExpr,
-    body: Boxed<SynStmt>,
-) -> SynStmt
-    ensures { statement_of result ≡ tree.Does at
-        (tree.Forall name (expression_of from) (expression_of to) (statement_of body)) }
+    body: SynStmt,
+) -> Result<SynStmt, AllocError>
+    ensures { MakesTree statement_of
+        (tree.Does at (tree.Forall name (expression_of from) (expression_of to) (statement_of body))) result }
 {
-    SynStmt {
+    let body = Boxed::new(alloc, body)?;
+    Ok(SynStmt {
         at,
         form: SynForm::Forall {
             name,
@@ -129,7 +145,7 @@ pub fn forall_statement(
             to,
             body,
         },
-    }
+    })
 }
 
 pub fn parallel_statement(at: Place, branches: List<SynBranch>) -> SynStmt

@@ -2,14 +2,10 @@
 
 ghost use Rattle.std.specs.Prelude.{◌≡◌};
 ghost use Rattle.sp_grammar.specs.Table.{kind_is};
-ghost use Rattle.sp_parse.specs.Reads.{HasTokens};
-ghost use Rattle.sp_parse.specs.Operators.{IsSign, ReadsRelation, ReadsAddition, ReadsMultiplication, BeginsFactor};
+ghost use Rattle.sp_parse.specs.Operators.{IsSign, IsRelation, IsAddition, IsMultiplication, BeginsFactor};
 ghost use Rattle.sp_parse.specs.Operators.{BeginsSimple};
 ghost use Rattle.sp_parse.specs.Operators.{BeginsSelector, BeginsForm};
 
-use crate::have;
-use crate::source::{Source, cut};
-use sp_base::Halt;
 use sp_tree::{BinaryOp, Kind, Token, UnaryOp, sign, word};
 
 /// Whether a token is of this kind.
@@ -34,81 +30,66 @@ pub fn sign_of(token: Token) -> Option<UnaryOp>
 }
 
 // relational = "=" | "<>" | "<" | "<=" | ">" | ">="
-/// The relation that comes first, and what is behind it.
-pub fn relational<'t>(
-    source: &Source,
-    tokens: &'t [Token],
-) -> Result<Option<(BinaryOp, &'t [Token])>, Halt>
-    requires { HasTokens source.now tokens.now }
-    ensures { ReadsRelation source.now tokens.now result }
+/// The relation, if the token is one.
+pub fn relational(token: Token) -> Option<BinaryOp>
+    ensures { IsRelation token result }
 {
-    let (first, rest) = have!(cut(source, tokens));
-    if is(first, Kind::Sign(sign::EQUAL)) {
-        return Ok(Some((BinaryOp::Eq, rest)));
+    if is(token, Kind::Sign(sign::EQUAL)) {
+        return Some(BinaryOp::Eq);
     }
-    if is(first, Kind::Sign(sign::UNEQUAL)) {
-        return Ok(Some((BinaryOp::Ne, rest)));
+    if is(token, Kind::Sign(sign::UNEQUAL)) {
+        return Some(BinaryOp::Ne);
     }
-    if is(first, Kind::Sign(sign::LESS)) {
-        return Ok(Some((BinaryOp::Lt, rest)));
+    if is(token, Kind::Sign(sign::LESS)) {
+        return Some(BinaryOp::Lt);
     }
-    if is(first, Kind::Sign(sign::AT_MOST)) {
-        return Ok(Some((BinaryOp::Le, rest)));
+    if is(token, Kind::Sign(sign::AT_MOST)) {
+        return Some(BinaryOp::Le);
     }
-    if is(first, Kind::Sign(sign::GREATER)) {
-        return Ok(Some((BinaryOp::Gt, rest)));
+    if is(token, Kind::Sign(sign::GREATER)) {
+        return Some(BinaryOp::Gt);
     }
-    if is(first, Kind::Sign(sign::AT_LEAST)) {
-        return Ok(Some((BinaryOp::Ge, rest)));
+    if is(token, Kind::Sign(sign::AT_LEAST)) {
+        return Some(BinaryOp::Ge);
     }
-    Ok(None)
+    None
 }
 
 // adding = "+" | "-" | "or"
-/// The operator between two terms that comes first, and what is behind it.
-pub fn adding<'t>(
-    source: &Source,
-    tokens: &'t [Token],
-) -> Result<Option<(BinaryOp, &'t [Token])>, Halt>
-    requires { HasTokens source.now tokens.now }
-    ensures { ReadsAddition source.now tokens.now result }
+/// The operator between two terms, if the token is one.
+pub fn adding(token: Token) -> Option<BinaryOp>
+    ensures { IsAddition token result }
 {
-    let (first, rest) = have!(cut(source, tokens));
-    if is(first, Kind::Sign(sign::PLUS)) {
-        return Ok(Some((BinaryOp::Add, rest)));
+    if is(token, Kind::Sign(sign::PLUS)) {
+        return Some(BinaryOp::Add);
     }
-    if is(first, Kind::Sign(sign::MINUS)) {
-        return Ok(Some((BinaryOp::Sub, rest)));
+    if is(token, Kind::Sign(sign::MINUS)) {
+        return Some(BinaryOp::Sub);
     }
-    if is(first, Kind::Word(word::OR)) {
-        return Ok(Some((BinaryOp::Or, rest)));
+    if is(token, Kind::Word(word::OR)) {
+        return Some(BinaryOp::Or);
     }
-    Ok(None)
+    None
 }
 
 // multiplying = "*" | "div" | "mod" | "and"
-/// The operator between two factors that comes first, and what is behind it.
-pub fn multiplying<'t>(
-    source: &Source,
-    tokens: &'t [Token],
-) -> Result<Option<(BinaryOp, &'t [Token])>, Halt>
-    requires { HasTokens source.now tokens.now }
-    ensures { ReadsMultiplication source.now tokens.now result }
+/// The operator between two factors, if the token is one.
+pub fn multiplying(token: Token) -> Option<BinaryOp>
+    ensures { IsMultiplication token result }
 {
-    let (first, rest) = have!(cut(source, tokens));
-    if is(first, Kind::Sign(sign::TIMES)) {
-        return Ok(Some((BinaryOp::Mul, rest)));
+    if is(token, Kind::Sign(sign::TIMES)) {
+        return Some(BinaryOp::Mul);
     }
-    if is(first, Kind::Word(word::DIV)) {
-        return Ok(Some((BinaryOp::Div, rest)));
+    if is(token, Kind::Word(word::DIV)) {
+        return Some(BinaryOp::Div);
     }
-    if is(first, Kind::Word(word::MOD)) {
-        return Ok(Some((BinaryOp::Mod, rest)));
+    if is(token, Kind::Word(word::MOD)) {
+        return Some(BinaryOp::Mod);
     }
-    if is(first, Kind::Word(word::AND)) {
-        return Ok(Some((BinaryOp::And, rest)));
+    if is(token, Kind::Word(word::AND)) {
+        return Some(BinaryOp::And);
     }
-    Ok(None)
+    None
 }
 
 /// Whether a factor begins with the token.

@@ -4,9 +4,10 @@ ghost use Rattle.std.specs.Prelude.{◌≡◌, ◌≤◌, length};
 ghost use Rattle.sp_tree.specs.Places.{place_at};
 ghost use Rattle.sp_tree.specs.Scans.{IsTokens};
 ghost use Rattle.sp_parse.specs.Parses.{Parsed};
+ghost use Rattle.sp_parse.specs.Reads.{HasTokens, Finishes};
 
 use crate::blocks::program;
-use crate::source::{Source, cut, misplaced};
+use crate::source::{Source, Tokens, misplaced};
 use sp_base::{Halt, Place};
 use sp_tree::{Syntax, Token};
 use std::alloc::Global;
@@ -31,6 +32,17 @@ fn end_of(text: &[u8]) -> Place
     Place { line, column }
 }
 
+/// The reading fails if a token is left.
+fn finish(source: &Source, tokens: &mut Tokens)
+    requires { HasTokens source.now tokens.now.rest.now }
+    ensures { Finishes source.now tokens.old tokens.new }
+{
+    match tokens.rest {
+        [next, ..] => tokens.fail(source, misplaced(*next)),
+        [] => {}
+    }
+}
+
 // text = program
 /// The tree that the tokens of a text spell. Where they spell none, or a part lies inside 200 others, the answer is
 /// the first rule that they break: G1 at the first token with which no program begins, L2 at the first token of the
@@ -41,12 +53,17 @@ pub fn parse(alloc: Global, text: &[u8], tokens: &[Token]) -> Result<Syntax, Hal
 {
     let end = end_of(text);
     let source = Source { alloc, text, end };
-    let (tree, rest) = program(&source, tokens)?;
-    match cut(&source, rest) {
-        Ok((next, _)) => {
+    let mut tokens = Tokens {
+        rest: tokens,
+        failed: None,
+    };
+    let tree = program(&source, &mut tokens);
+    finish(&source, &mut tokens);
+    match tokens.failed {
+        None => Ok(tree),
+        Some(why) => {
             drop(tree);
-            Err(misplaced(next))
+            Err(why)
         }
-        Err(_) => Ok(tree),
     }
 }

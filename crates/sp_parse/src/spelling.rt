@@ -8,7 +8,6 @@ ghost use Rattle.sp_parse.specs.Productions.{itself};
 ghost use Rattle.sp_parse.specs.Reads.{TokenFits};
 ghost use Rattle.sp_parse.specs.Trees.{MakesTree};
 
-use crate::have;
 use crate::source::Source;
 use sp_base::Text;
 use sp_tree::{Name, Token, lower};
@@ -25,7 +24,7 @@ fn spelled<'a>(source: &Source<'a>, token: Token) -> &'a [u8]
 fn lowered(alloc: Global, bytes: &[u8]) -> Result<Text, AllocError>
     ensures { MakesTree itself (map lower_of bytes.now) result }
 {
-    let mut all = have!(Vec::with_capacity(alloc, bytes.len()));
+    let mut all = Vec::with_capacity(alloc, bytes.len())?;
     let mut rest = bytes;
     'more: while let [byte, after @ ..] = rest {
         all.push(lower(*byte))?;
@@ -39,8 +38,23 @@ pub fn name_at(source: &Source, token: Token) -> Result<Name, AllocError>
     requires { TokenFits source.now.text.now token }
     ensures { MakesTree itself (name_of source.now.text.now token) result }
 {
-    let text = have!(lowered(source.alloc, spelled(source, token)));
-    Ok(Name { text, at: token.at })
+    match lowered(source.alloc, spelled(source, token)) {
+        Ok(text) => Ok(Name { text, at: token.at }),
+        Err(failure) => Err(failure),
+    }
+}
+
+/// A name without letters, for a reading that failed.
+pub fn nameless(source: &Source) -> Name {
+    Name {
+        text: wordless(source),
+        at: source.end,
+    }
+}
+
+/// A text without letters, for a reading that failed.
+pub fn wordless(source: &Source) -> Text {
+    Text::of(Vec::new(source.alloc))
 }
 
 /// The number that digits write.

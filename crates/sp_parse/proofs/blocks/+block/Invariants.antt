@@ -1,27 +1,24 @@
-use Rattle.std.proofs.Common.{◌+◌, ◌*◌, length}
-use Rattle.sp_parse.proofs.ReadBlocks.{PartsSoFar}
+use Rattle.std.proofs.Common.{◌+◌, ◌*◌, ◌-◌, [], ◌∷◌, length}
+use Rattle.sp_grammar.specs.Symbols.{Parts}
+use Rattle.sp_parse.specs.Reads.{Pending}
+use Rattle.sp_parse.specs.Trees.{and_parts}
 use Rattle.sp_parse.proofs.blocks.+block.Given as goal
 
 abbrev pub decreases-block : goal.decreases-block
-decreases-block l = 4 * length l.tokens.now + 2
+decreases-block l = 8 * (201 - l.depth) + 1
 
 abbrev pub decreases-parts : goal.decreases-parts
-decreases-parts l = 4 * length l.tokens.now + 1
-
-abbrev pub decreases-declarations : goal.decreases-declarations
-decreases-declarations l = 4 * length l.tokens.now
+decreases-parts l = 8 * (201 - l.depth) + 3
 
 abbrev pub decreases-procedure : goal.decreases-procedure
-decreases-procedure l = 4 * length l.tokens.now + 3
-
-abbrev pub decreases-body : goal.decreases-body
-decreases-body l = 4 * length l.tokens.now
+decreases-procedure l = 8 * (201 - l.depth) + 2
 
 abbrev pub decreases-function : goal.decreases-function
-decreases-function l = 4 * length l.tokens.now + 3
+decreases-function l = 8 * (201 - l.depth) + 2
 
 abbrev pub invariant-parts-more : goal.invariant-parts-more
-invariant-parts-more l = PartsSoFar l.source l.depth l.all l.tokens l.rest
+invariant-parts-more l = Pending l.source (Parts l.depth ∷ []) (λ vs. vs.0) (Parts l.depth ∷ [])
+    (λ vs. and_parts l.all vs.0) l.fn.tokens l.tokens
 
 abbrev pub decreases-parts-more : goal.decreases-parts-more
-decreases-parts-more l = length l.rest
+decreases-parts-more l = length l.tokens.rest.now

@@ -1,15 +1,12 @@
-use Rattle.std.proofs.Common.{◌∙◌, refl}
+use Rattle.std.proofs.Common.{refl}
+use Rattle.sp_parse.proofs.Pending.{begin, fail_at}
+use Rattle.sp_parse.proofs.Steps.{above}
 use Rattle.sp_grammar.specs.Symbols.{ABlock}
-use Rattle.sp_parse.proofs.Steps.{fails, above}
-use Rattle.sp_parse.proofs.Rows.{too_deep_at, none_of}
-use Rattle.sp_parse.proofs.ReadBlocks.{block_rows}
+use Rattle.sp_tree.specs.Breaches.{nesting}
+use Rattle.sp_parse.proofs.Rows.{deep_at, block_rows}
 use Rattle.sp_parse.proofs.blocks.deep_block.Goals as goal
 
-pub returns-then-begins_block : goal.returns-then-begins_block
-returns-then-begins_block c = λ d h. too_deep_at (ABlock d) c.in-Ok.ensures
-    (block_rows c.in-Ok.first _ c.begins_block.ensures d ∙ c.if-begins_block.true) (above d 200 h) _ c.too_deep.ensures
-
-pub returns-else-begins_block : goal.returns-else-begins_block
-returns-else-begins_block c = λ d h. fails (ABlock d) c.in-Ok.ensures
-    (none_of _ (block_rows c.in-Ok.first _ c.begins_block.ensures d ∙ c.if-begins_block.false)) refl _
-    c.misplaced.ensures
+pub returns : goal.returns
+returns c = λ d h. fail_at _ (begin c.requires) c.look-first.ensures (λ u q. deep_at c.args.source.now (ABlock d)
+    c.look-first.result u c.begins_block.result (block_rows c.look-first.result c.begins_block.result
+    c.begins_block.ensures d) (above d nesting h) refl q) refl c.why.ensures c.fail.ensures

@@ -1,38 +1,37 @@
-use Rattle.std.proofs.Common.{[], ◌∷◌}
+use Rattle.std.proofs.Common.{[], ◌∷◌, ◌∙◌, ap, refl, rules, cond, Some, map}
 use Rattle.sp_tree.specs.declared.token.Kind.TheVariants as kind
 use Rattle.sp_tree.specs.Words as w
-use Rattle.sp_grammar.specs.Symbols.{AName, AToken, AType, MoreTypes}
-use Rattle.sp_parse.proofs.Steps.{passed, not_passed}
-use Rattle.sp_parse.proofs.SoFar.{halts_pending}
-use Rattle.sp_parse.proofs.Rounds.{no_item}
-use Rattle.sp_parse.proofs.Declares.{halts_short, name_less}
-use Rattle.sp_parse.proofs.ReadParts.{types_none, types_read, types_on, types_end}
+use Rattle.sp_tree.specs.PlainSyntax as tree
+use Rattle.sp_tree.specs.Grammar.{with_part_first}
+use Rattle.sp_grammar.specs.Symbols.{AToken, MoreVariables}
+use Rattle.sp_grammar.specs.Table as row
+use Rattle.sp_grammar.specs.Table.{RowEntry, PartsRow, row_entry, look, parts_rows}
+use Rattle.sp_parse.specs.BlockProductions.{group}
+use Rattle.sp_parse.specs.Trees.{and_parts}
+use Rattle.sp_parse.proofs.Pending.{begin, read, read_as, keep, pass}
+use Rattle.sp_parse.proofs.Rows.{kind_at, other_at}
+use Rattle.sp_parse.proofs.Turns.{name_turn_at, parts_turn, part_behind}
 use Rattle.sp_parse.proofs.declarations.types.Goals as goal
 
 pub more-init : goal.more-init
-more-init c = types_none c.args.all c.requires
+more-init c = λ d. begin c.requires
 
-pub one_type-requires : goal.one_type-requires
-one_type-requires c = (c.more.invariant 0).ready
-
-pub more-smaller : goal.more-smaller
-more-smaller c = name_less (c.more.invariant 0).ready c.in-Ok.ensures
-
-pub returns-in-Err : goal.returns-in-Err
-returns-in-Err c = λ d. no_item (AName ∷ AToken w.Equal ∷ AType ∷ AToken w.Semicolon ∷ []) (MoreTypes d ∷ [])
-    (c.more.invariant d) _ c.in-Err.ensures
-
-pub returns-in-Err-pass : goal.returns-in-Err-pass
-returns-in-Err-pass c = λ d. halts_pending (types_read c.args.all c.more.all c.push.new.self c.more.invariant
-    c.in-Ok.ensures c.in_ok-push.ensures.ok d) _ (halts_short c.args.source.now kind.Name c.in-Ok.value.1.now _
-    c.in-Err-pass.ensures (MoreTypes d))
-
-pub returns-in_default : goal.returns-in_default
-returns-in_default c = types_end c.args.all c.push.new.self
-    (types_read c.args.all c.more.all c.push.new.self c.more.invariant c.in-Ok.ensures c.in_ok-push.ensures.ok)
-    (not_passed c.args.source.now kind.Name c.in-Ok.value.1.now _ c.in-Ok-pass.ensures c.in_default.is)
+pub name-called-requires : goal.name-called-requires
+name-called-requires c = (c.more.invariant 0).ready
 
 pub more-preserved : goal.more-preserved
-more-preserved c = types_on c.args.all c.push.new.self
-    (types_read c.args.all c.more.all c.push.new.self c.more.invariant c.in-Ok.ensures c.in_ok-push.ensures.ok)
-    (passed c.args.source.now kind.Name c.in-Ok.value.1.now _ c.in-Some.field-0 c.in-Ok-pass.ensures c.in-Some.is)
+more-preserved c = λ d. name_turn_at row.next_type refl refl (λ (name, (_, (kind, (_, (behind, _))))). with_part_first (tree.Kind name kind) behind)
+    (λ t vs. refl) [] (keep (λ vs. and_parts c.push.new.all vs.0) (pass (read (pass (read (c.more.invariant d) c.name-called.ensures) c.expect.ensures)
+    c.type_of-kind.ensures) c.expect-in-more.ensures) c.push.ensures
+    (λ p vs. ap (λ l. and_parts l vs.0) p ∙ part_behind c.more.all c.type_declaration.result vs.0
+    ∙ ap (λ q. and_parts c.more.all (with_part_first q vs.0)) c.type_declaration.ensures))
+    c.look-next.ensures (kind_at c.look-next.result kind.Name c.is.ensures (search rules)) refl
+
+pub returns-then-not-is : goal.returns-then-not-is
+returns-then-not-is c = λ d. parts_turn d (λ e. row.after_types e.row) (λ b. b) (λ e t us. refl) [] (keep (λ vs. and_parts c.push.new.all vs.0) (pass (read (pass (read (c.more.invariant d) c.name-called.ensures) c.expect.ensures)
+    c.type_of-kind.ensures) c.expect-in-more.ensures) c.push.ensures
+    (λ p vs. ap (λ l. and_parts l vs.0) p ∙ part_behind c.more.all c.type_declaration.result vs.0
+    ∙ ap (λ q. and_parts c.more.all (with_part_first q vs.0)) c.type_declaration.ensures))
+    c.look-next.ensures (ap (λ x. cond x (Some (row_entry _ _ row.next_type)) (look (map
+    (λ (e : RowEntry (PartsRow d)). row_entry e.key e.left (row.after_types e.row)) (parts_rows d))
+    c.look-next.result.kind)) (other_at c.look-next.result kind.Name c.is.ensures (search rules))) refl refl

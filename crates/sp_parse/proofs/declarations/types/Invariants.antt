@@ -1,9 +1,11 @@
-use Rattle.std.proofs.Common.{length, ℕ}
-use Rattle.sp_parse.proofs.ReadParts.{TypesPending}
+use Rattle.std.proofs.Common.{ℕ, length}
+use Rattle.sp_parse.specs.BlockProductions.{types}
+use Rattle.sp_parse.specs.Reads.{Pending}
 use Rattle.sp_parse.proofs.declarations.types.Given as goal
 
 abbrev pub invariant-more : goal.invariant-more
-invariant-more l = (d : ℕ) → TypesPending l.source d l.fn.all l.all l.tokens l.rest
+invariant-more l = (d : ℕ) → Pending l.source (types l.fn.all d).symbols (types l.fn.all d).makes
+    (types l.fn.all d).symbols (types l.all d).makes l.fn.tokens l.tokens
 
 abbrev pub decreases-more : goal.decreases-more
-decreases-more l = length l.rest
+decreases-more l = length l.tokens.rest.now

@@ -1,9 +1,11 @@
-use Rattle.std.proofs.Common.{length, ℕ}
-use Rattle.sp_parse.proofs.ReadParts.{VariablesPending}
+use Rattle.std.proofs.Common.{ℕ, length}
+use Rattle.sp_parse.specs.BlockProductions.{variables}
+use Rattle.sp_parse.specs.Reads.{Pending}
 use Rattle.sp_parse.proofs.declarations.variables.Given as goal
 
 abbrev pub invariant-more : goal.invariant-more
-invariant-more l = (d : ℕ) → VariablesPending l.source d l.fn.all l.all l.tokens l.rest
+invariant-more l = (d : ℕ) → Pending l.source (variables l.fn.all d).symbols (variables l.fn.all d).makes
+    (variables l.fn.all d).symbols (variables l.all d).makes l.fn.tokens l.tokens
 
 abbrev pub decreases-more : goal.decreases-more
-decreases-more l = length l.rest
+decreases-more l = length l.tokens.rest.now

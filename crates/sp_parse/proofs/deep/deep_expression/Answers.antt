@@ -1,15 +1,12 @@
-use Rattle.std.proofs.Common.{◌∙◌, refl}
+use Rattle.std.proofs.Common.{refl}
+use Rattle.sp_parse.proofs.Pending.{begin, fail_at}
+use Rattle.sp_parse.proofs.Steps.{above}
 use Rattle.sp_grammar.specs.Symbols.{AnExpression}
-use Rattle.sp_parse.proofs.Steps.{fails, above}
-use Rattle.sp_parse.proofs.Rows.{too_deep_at, none_of, expression_rows}
+use Rattle.sp_tree.specs.Breaches.{nesting}
+use Rattle.sp_parse.proofs.Rows.{deep_at, expression_rows}
 use Rattle.sp_parse.proofs.deep.deep_expression.Goals as goal
 
-pub returns-then-begins_simple : goal.returns-then-begins_simple
-returns-then-begins_simple c = λ d h. too_deep_at (AnExpression d) c.in-Ok.ensures
-    (expression_rows c.in-Ok.first _ c.begins_simple.ensures d ∙ c.if-begins_simple.true) (above d 200 h) _
-    c.too_deep.ensures
-
-pub returns-else-begins_simple : goal.returns-else-begins_simple
-returns-else-begins_simple c = λ d h. fails (AnExpression d) c.in-Ok.ensures
-    (none_of _ (expression_rows c.in-Ok.first _ c.begins_simple.ensures d ∙ c.if-begins_simple.false)) refl _
-    c.misplaced.ensures
+pub returns : goal.returns
+returns c = λ d h. fail_at _ (begin c.requires) c.look-first.ensures (λ u q. deep_at c.args.source.now (AnExpression d)
+    c.look-first.result u c.begins_simple.result (expression_rows c.look-first.result c.begins_simple.result c.begins_simple.ensures d)
+    (above d nesting h) refl q) refl c.why.ensures c.fail.ensures

@@ -1,15 +1,12 @@
-use Rattle.std.proofs.Common.{◌∙◌, refl}
+use Rattle.std.proofs.Common.{refl}
+use Rattle.sp_parse.proofs.Pending.{begin, fail_at}
+use Rattle.sp_parse.proofs.Steps.{above}
 use Rattle.sp_grammar.specs.Symbols.{ANegated}
-use Rattle.sp_parse.proofs.Steps.{fails, above}
-use Rattle.sp_parse.proofs.Rows.{too_deep_at, none_of, negated_rows}
+use Rattle.sp_tree.specs.Breaches.{nesting}
+use Rattle.sp_parse.proofs.Rows.{deep_at, negated_rows}
 use Rattle.sp_parse.proofs.deep.deep_factor.Goals as goal
 
-pub returns-then-begins_factor : goal.returns-then-begins_factor
-returns-then-begins_factor c = λ d h. too_deep_at (ANegated d) c.in-Ok.ensures
-    (negated_rows c.in-Ok.first _ c.begins_factor.ensures d ∙ c.if-begins_factor.true) (above d 200 h) _
-    c.too_deep.ensures
-
-pub returns-else-begins_factor : goal.returns-else-begins_factor
-returns-else-begins_factor c = λ d h. fails (ANegated d) c.in-Ok.ensures
-    (none_of _ (negated_rows c.in-Ok.first _ c.begins_factor.ensures d ∙ c.if-begins_factor.false)) refl _
-    c.misplaced.ensures
+pub returns : goal.returns
+returns c = λ d h. fail_at _ (begin c.requires) c.look-first.ensures (λ u q. deep_at c.args.source.now (ANegated d)
+    c.look-first.result u c.begins_factor.result (negated_rows c.look-first.result c.begins_factor.result c.begins_factor.ensures d)
+    (above d nesting h) refl q) refl c.why.ensures c.fail.ensures

@@ -1,34 +1,21 @@
-use Rattle.std.proofs.Common.{[], ◌∷◌}
+use Rattle.std.proofs.Common.{[], ◌∷◌, ◌++◌, ◌∙◌, ap, append_assoc, refl, rules, Some, None, cond, sym as back_of}
+use Rattle.std.proofs.lemmas.List.{append-nil}
 use Rattle.sp_tree.specs.Words as w
-use Rattle.sp_grammar.specs.Symbols.{AFormal, MoreFormals}
-use Rattle.sp_parse.proofs.Steps.{passed, not_passed, pass_halts}
-use Rattle.sp_parse.proofs.SoFar.{halts_pending}
-use Rattle.sp_parse.proofs.Rounds.{no_item}
-use Rattle.sp_parse.proofs.ReadHeadings.{formals_none, formals_read, formals_on, formals_close, no_formals}
+use Rattle.sp_grammar.specs.Table as row
+use Rattle.sp_grammar.specs.Table.{row_entry, kind_is}
+use Rattle.sp_parse.proofs.Pending.{begin, say, read, keep, close, pass_row, went_on, closed}
 use Rattle.sp_parse.proofs.headings.some_formals.Goals as goal
 
 pub more-init : goal.more-init
-more-init c = formals_none c.new-all.result c.new-all.ensures c.requires
+more-init c = say (λ (formal, (more, _)). ap (λ l. l ++ formal ∷ more) c.new-all.ensures) (begin c.requires)
 
-pub returns-in-Err : goal.returns-in-Err
-returns-in-Err c = no_item (AFormal ∷ []) (MoreFormals ∷ []) c.more.invariant _ c.in-Err.ensures
-
-pub returns-in-Err-pass : goal.returns-in-Err-pass
-returns-in-Err-pass c = halts_pending (formals_read c.more.all c.push.new.self c.more.invariant c.in-Ok.ensures
-    c.in_ok-push.ensures.ok) _ (pass_halts c.args.source.now w.Semicolon c.in-Ok.value.1.now (MoreFormals) _
-    c.in-Err-pass.ensures)
-
-pub returns-in-Err-expect : goal.returns-in-Err-expect
-returns-in-Err-expect c = no_formals c.push.new.self (formals_read c.more.all c.push.new.self c.more.invariant
-    c.in-Ok.ensures c.in_ok-push.ensures.ok) (not_passed c.args.source.now w.Semicolon c.in-Ok.value.1.now _
-    c.in-Ok-pass.ensures c.in_default.is) _ c.in-Err-expect.ensures
-
-pub returns-in_default : goal.returns-in_default
-returns-in_default c = formals_close c.push.new.self
-    (formals_read c.more.all c.push.new.self c.more.invariant c.in-Ok.ensures c.in_ok-push.ensures.ok)
-    c.in-Ok-expect.ensures.first
+pub returns-then-not-goes_on : goal.returns-then-not-goes_on
+returns-then-not-goes_on c = say (λ _. back_of (append-nil c.push.new.all)) (close [] row.formals_end refl refl
+    (λ t n. ap (λ x. cond (kind_is w.Close t.kind) (Some (row_entry _ _ row.formals_end))
+    (cond x (Some (row_entry _ _ row.next_formal)) None)) n) (λ t. refl) (keep (λ vs. c.push.new.all ++ vs.0) (read c.more.invariant c.formal-next.ensures) c.push.ensures
+    (λ p vs. ap (λ l. l ++ vs.0) p ∙ append_assoc c.more.all (c.formal-next.result ∷ []) vs.0))
+    (closed c.goes_on.ensures (search rules)))
 
 pub more-preserved : goal.more-preserved
-more-preserved c = formals_on c.push.new.self
-    (formals_read c.more.all c.push.new.self c.more.invariant c.in-Ok.ensures c.in_ok-push.ensures.ok)
-    (passed c.args.source.now w.Semicolon c.in-Ok.value.1.now _ c.in-Some.after c.in-Ok-pass.ensures c.in-Some.is)
+more-preserved c = pass_row [] row.next_formal refl refl (keep (λ vs. c.push.new.all ++ vs.0) (read c.more.invariant c.formal-next.ensures) c.push.ensures
+    (λ p vs. ap (λ l. l ++ vs.0) p ∙ append_assoc c.more.all (c.formal-next.result ∷ []) vs.0)) (went_on _ c.goes_on.ensures (search rules))

@@ -1,29 +1,21 @@
-use Rattle.std.proofs.Common.{[], ◌∷◌}
-use Rattle.sp_tree.specs.Words as w
-use Rattle.sp_grammar.specs.Symbols.{AName, MoreNames}
-use Rattle.sp_parse.proofs.Steps.{passed, not_passed, pass_halts}
-use Rattle.sp_parse.proofs.SoFar.{halts_pending}
-use Rattle.sp_parse.proofs.Rounds.{no_item}
-use Rattle.sp_parse.proofs.ReadNames.{names_none, names_read, names_on, names_end}
+use Rattle.std.proofs.Common.{[], ◌∷◌, ◌++◌, ap, ◌∙◌, sym as back_of, append_assoc, rules, refl}
+use Rattle.std.proofs.lemmas.List.{append-nil}
+use Rattle.sp_grammar.specs.Table as row
+use Rattle.sp_parse.proofs.Pending.{begin, say, read, keep, pass_row, leave_at, passed, not_passed}
+use Rattle.sp_parse.proofs.Turns.{none_if}
 use Rattle.sp_parse.proofs.names.names.Goals as goal
 
 pub more-init : goal.more-init
-more-init c = names_none c.new-all.result c.new-all.ensures c.requires
+more-init c = say (λ vs. ap (λ l. l ++ vs.0 ∷ vs.1.0) c.new-all.ensures) (begin c.requires)
 
-pub returns-in-Err : goal.returns-in-Err
-returns-in-Err c = no_item (AName ∷ []) (MoreNames ∷ []) c.more.invariant _ c.in-Err.ensures
-
-pub returns-in-Err-pass : goal.returns-in-Err-pass
-returns-in-Err-pass c = halts_pending (names_read c.more.all c.push.new.self c.more.invariant c.in-Ok.ensures
-    c.in_ok-push.ensures.ok) _ (pass_halts c.args.source.now w.Comma c.in-Ok.value.1.now (MoreNames) _
-    c.in-Err-pass.ensures)
-
-pub returns-in_default : goal.returns-in_default
-returns-in_default c = names_end c.push.new.self
-    (names_read c.more.all c.push.new.self c.more.invariant c.in-Ok.ensures c.in_ok-push.ensures.ok)
-    (not_passed c.args.source.now w.Comma c.in-Ok.value.1.now _ c.in-Ok-pass.ensures c.in_default.is)
+pub returns-then-not-pass : goal.returns-then-not-pass
+returns-then-not-pass c = say (λ _. back_of (append-nil c.push.new.all)) (leave_at
+    (keep (λ vs. c.push.new.all ++ vs.0) (read c.more.invariant c.name-next.ensures) c.push.ensures
+    (λ p vs. ap (λ l. l ++ vs.0) p ∙ append_assoc c.more.all (c.name-next.result ∷ []) vs.0))
+    (not_passed c.pass.ensures (search rules)) (λ t n. none_if _ n refl) refl)
 
 pub more-preserved : goal.more-preserved
-more-preserved c = names_on c.push.new.self (names_read c.more.all c.push.new.self c.more.invariant c.in-Ok.ensures
-    c.in_ok-push.ensures.ok) (passed c.args.source.now w.Comma c.in-Ok.value.1.now _ c.in-Some.after
-    c.in-Ok-pass.ensures c.in-Some.is)
+more-preserved c = pass_row [] row.next_name refl refl
+    (keep (λ vs. c.push.new.all ++ vs.0) (read c.more.invariant c.name-next.ensures) c.push.ensures
+    (λ p vs. ap (λ l. l ++ vs.0) p ∙ append_assoc c.more.all (c.name-next.result ∷ []) vs.0))
+    (passed c.pass.ensures (search rules))

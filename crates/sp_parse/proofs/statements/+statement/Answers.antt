@@ -1,111 +1,102 @@
-use Rattle.std.proofs.Common.{arith, refl, [], ◌∷◌, ap, ◌∙◌, add-one}
+use Rattle.std.proofs.Common.{[], ◌∷◌, ◌∙◌, ap, refl, arith, add-one, None, Some, rules, cond, sym as back_of}
 use Rattle.sp_tree.specs.declared.token.Kind.TheVariants as kind
 use Rattle.sp_tree.specs.Words as w
 use Rattle.sp_tree.specs.PlainSyntax as tree
-use Rattle.sp_tree.specs.SyntaxOf.{statement_of}
 use Rattle.sp_grammar.specs.Symbols as sym
 use Rattle.sp_grammar.specs.Table as row
-use Rattle.sp_grammar.specs.Table.{rows}
-use Rattle.sp_grammar.specs.Derives.{and}
-use Rattle.sp_parse.proofs.Steps.{has_read, first_derived, passed, not_passed, pass_halts}
-use Rattle.sp_parse.proofs.SoFar.{halts_pending}
-use Rattle.sp_parse.proofs.Rounds.{no_item}
-use Rattle.sp_parse.proofs.Rows.{with_at, other_at, none_at, join_all}
-use Rattle.sp_parse.proofs.Declares.{halts_longer}
-use Rattle.sp_parse.proofs.Behind.{halts_after, halts_behind}
-use Rattle.sp_parse.proofs.ReadStatements.{form_result, empty_is, compound_is, sequence_is, statements_none}
-use Rattle.sp_parse.proofs.ReadStatements.{statements_read, statements_on, statements_done, no_other, other_halts}
-use Rattle.sp_parse.proofs.ReadStatements.{other_is, repeat_is, arm_is, arms_none, arms_read, arms_on, arms_end_halt}
-use Rattle.sp_parse.proofs.ReadStatements.{arms_last, arms_close_halt, arms_done, branches_none, branches_read}
-use Rattle.sp_parse.proofs.ReadStatements.{branches_on, branches_close_halt, branches_done, parallel_is}
+use Rattle.sp_grammar.specs.Table.{row_entry, rows, kind_is}
+use Rattle.sp_tree.specs.SyntaxOf.{expression_of, statement_of, statements_of, arm_of, branch_of}
+use Rattle.sp_parse.specs.StatementProductions.{sequence, compound, arms, labels}
+use Rattle.sp_parse.specs.Trees.{and_statements, and_arms, and_branches}
+use Rattle.sp_parse.proofs.Pending.{begin, say, read, read_as, go_on, keep, pass, leave, leave_at, close, pass_row}
+use Rattle.sp_parse.proofs.Pending.{fail_at, passed, not_passed, went_on, closed}
+use Rattle.sp_parse.proofs.Rows.{kind_at, other_at}
+use Rattle.sp_parse.proofs.ReadNames.{is_made}
+use Rattle.sp_parse.proofs.Turns.{arm_turn, none_if, lay_push, lay_statements, lay_arms, lay_branches}
+use Rattle.sp_parse.proofs.Forms.{form_on, no_form, deep_form, name_form, direct}
 use Rattle.sp_parse.proofs.statements.+statement.Goals as goal
 
+pub statement-returns-then-not-begins_form : goal.statement-returns-then-not-begins_form
+statement-returns-then-not-begins_form t c = say (λ _. c.empty_statement.ensures) (leave (begin c.requires) c.look-first.ensures
+    (λ _. no_form c.args.depth c.look-first.result c.begins_form.result c.begins_form.ensures (search rules)) refl)
+
+pub statement-returns-then-depth-ge-MAX_NESTING : goal.statement-returns-then-depth-ge-MAX_NESTING
+statement-returns-then-depth-ge-MAX_NESTING t c = fail_at _ (begin c.requires) c.look-first.ensures
+    (λ u q. deep_form c.args.source.now c.args.depth c.look-first.result u c.begins_form.result c.begins_form.ensures
+    (search rules) (omega arith) q) refl c.why.ensures c.fail.ensures
+
 pub statement-returns-then-is : goal.statement-returns-then-is
-statement-returns-then-is t c = form_result c.args.source.now c.args.depth _ (λ n. sym.AfterName n ∷ [])
-    (λ n. row.form_name) refl (with_at kind.Name c.in-Ok.ensures c.is.ensures c.if-is.true) (add-one c.args.depth)
-    (omega arith) (λ n vs. vs.0 c.in-Ok-name_at.value) (λ n vs. ap vs.0 c.in-Ok-name_at.ensures) _ c.after_name.ensures
+statement-returns-then-is t c = read_as (compound _).symbols [] _ (form_on c.args.depth _ (λ n. sym.AStatement n ∷ sym.MoreStatements n ∷ sym.AToken w.End ∷ []) (λ n. row.form_begin) refl refl
+    (kind_at c.look-first.result w.Begin c.is.ensures c.if-is.true) (add-one c.args.depth) (omega arith)
+    (begin c.requires) c.look-first.ensures c.skip.ensures) c.compound.ensures
+    (λ us same _. c.sequence_statement.ensures
+    ∙ ap (λ x. tree.Does c.look-first.result.at (tree.Sequence x)) same)
 
 pub statement-returns-then-is-2 : goal.statement-returns-then-is-2
-statement-returns-then-is-2 t c = form_result c.args.source.now c.args.depth _
-    (λ n. sym.AStatement n ∷ sym.MoreStatements n ∷ sym.AToken w.End ∷ []) (λ n. row.form_begin) refl
-    (with_at w.Begin c.in-Ok.ensures c.is-2.ensures c.if-is-2.true) (add-one c.args.depth) (omega arith)
-    (λ n (first, (more, _)). tree.Sequence (tree.AndThen first more)) (λ n vs. refl) _ c.sequence.ensures
+statement-returns-then-is-2 t c = go_on (form_on c.args.depth _ (λ n. sym.AnExpression n ∷ sym.AToken w.Then ∷ sym.AStatement n ∷ sym.AnElse n ∷ []) (λ n. row.form_if) refl refl
+    (kind_at c.look-first.result w.If c.is-2.ensures c.if-is-2.true) (add-one c.args.depth) (omega arith)
+    (begin c.requires) c.look-first.ensures c.skip.ensures) c.choice.ensures (λ us. refl)
 
 pub statement-returns-then-is-3 : goal.statement-returns-then-is-3
-statement-returns-then-is-3 t c = form_result c.args.source.now c.args.depth _
-    (λ n. sym.AnExpression n ∷ sym.AToken w.Then ∷ sym.AStatement n ∷ sym.AnElse n ∷ []) (λ n. row.form_if) refl
-    (with_at w.If c.in-Ok.ensures c.is-3.ensures c.if-is-3.true) (add-one c.args.depth) (omega arith)
-    (λ n (test, (_, (body, (other, _)))). tree.If test body other) (λ n vs. refl) _ c.choice.ensures
+statement-returns-then-is-3 t c = go_on (form_on c.args.depth _ (λ n. sym.AnExpression n ∷ sym.AToken w.Do ∷ sym.AStatement n ∷ []) (λ n. row.form_while) refl refl
+    (kind_at c.look-first.result w.While c.is-3.ensures c.if-is-3.true) (add-one c.args.depth) (omega arith)
+    (begin c.requires) c.look-first.ensures c.skip.ensures) c.while_loop.ensures (λ us. refl)
 
 pub statement-returns-then-is-4 : goal.statement-returns-then-is-4
-statement-returns-then-is-4 t c = form_result c.args.source.now c.args.depth _
-    (λ n. sym.AnExpression n ∷ sym.AToken w.Do ∷ sym.AStatement n ∷ []) (λ n. row.form_while) refl
-    (with_at w.While c.in-Ok.ensures c.is-4.ensures c.if-is-4.true) (add-one c.args.depth) (omega arith)
-    (λ n (test, (_, (body, _))). tree.While test body) (λ n vs. refl) _ c.while_loop.ensures
+statement-returns-then-is-4 t c = go_on (form_on c.args.depth _ (λ n. sym.AStatement n ∷ sym.MoreStatements n ∷ sym.AToken w.Until ∷ sym.AnExpression n ∷ []) (λ n. row.form_repeat) refl refl
+    (kind_at c.look-first.result w.Repeat c.is-4.ensures c.if-is-4.true) (add-one c.args.depth) (omega arith)
+    (begin c.requires) c.look-first.ensures c.skip.ensures) c.repeat_loop.ensures (λ us. refl)
 
 pub statement-returns-then-is-5 : goal.statement-returns-then-is-5
-statement-returns-then-is-5 t c = form_result c.args.source.now c.args.depth _
-    (λ n. sym.AStatement n ∷ sym.MoreStatements n ∷ sym.AToken w.Until ∷ sym.AnExpression n ∷ []) (λ n. row.form_repeat)
-    refl (with_at w.Repeat c.in-Ok.ensures c.is-5.ensures c.if-is-5.true) (add-one c.args.depth) (omega arith)
-    (λ n (first, (more, (_, (test, _)))). tree.Repeat (tree.AndThen first more) test) (λ n vs. refl) _
-    c.repeat_loop.ensures
+statement-returns-then-is-5 t c = go_on (form_on c.args.depth _ (λ n. sym.AName ∷ sym.AToken w.Becomes ∷ sym.AnExpression n ∷ sym.ADirection ∷ sym.AnExpression n
+    ∷ sym.AToken w.Do ∷ sym.AStatement n ∷ []) (λ n. row.form_for) refl refl
+    (kind_at c.look-first.result w.For c.is-5.ensures c.if-is-5.true) (add-one c.args.depth) (omega arith)
+    (begin c.requires) c.look-first.ensures c.skip.ensures) c.for_loop.ensures (λ us. refl)
 
 pub statement-returns-then-is-6 : goal.statement-returns-then-is-6
-statement-returns-then-is-6 t c = form_result c.args.source.now c.args.depth _
-    (λ n. sym.AName ∷ sym.AToken w.Becomes ∷ sym.AnExpression n ∷ sym.ADirection ∷ sym.AnExpression n ∷ sym.AToken w.Do
-    ∷ sym.AStatement n ∷ []) (λ n. row.form_for) refl
-    (with_at w.For c.in-Ok.ensures c.is-6.ensures c.if-is-6.true) (add-one c.args.depth) (omega arith)
-    (λ n (name, (_, (from, (down, (to, (_, (body, _))))))). tree.For name from down to body) (λ n vs. refl) _
-    c.for_loop.ensures
+statement-returns-then-is-6 t c = go_on (form_on c.args.depth _ (λ n. sym.AnExpression n ∷ sym.AToken w.Of ∷ sym.AConstant ∷ sym.MoreLabels ∷ sym.AStatement n
+    ∷ sym.MoreArms n ∷ []) (λ n. row.form_case) refl refl
+    (kind_at c.look-first.result w.Case c.is-6.ensures c.if-is-6.true) (add-one c.args.depth) (omega arith)
+    (begin c.requires) c.look-first.ensures c.skip.ensures) c.case_choice.ensures (λ us. refl)
 
 pub statement-returns-then-is-7 : goal.statement-returns-then-is-7
-statement-returns-then-is-7 t c = form_result c.args.source.now c.args.depth _
-    (λ n. sym.AnExpression n ∷ sym.AToken w.Of ∷ sym.AConstant ∷ sym.MoreLabels ∷ sym.AStatement n ∷ sym.MoreArms n
-    ∷ []) (λ n. row.form_case) refl (with_at w.Case c.in-Ok.ensures c.is-7.ensures c.if-is-7.true)
-    (add-one c.args.depth) (omega arith) (λ n (test, (_, (label, (labels, (body, (more, _)))))). tree.Case test
-    (tree.Or (tree.On (label ∷ labels) body) more)) (λ n vs. refl) _ c.case_choice.ensures
+statement-returns-then-is-7 t c = go_on (form_on c.args.depth _ (λ n. sym.AStatement n ∷ sym.MoreStatements n ∷ sym.MoreBranches n ∷ []) (λ n. row.form_parallel) refl refl
+    (kind_at c.look-first.result w.Parallel c.is-7.ensures c.if-is-7.true) (add-one c.args.depth) (omega arith)
+    (begin c.requires) c.look-first.ensures c.skip.ensures) c.parallel.ensures (λ us. refl)
 
 pub statement-returns-then-is-8 : goal.statement-returns-then-is-8
-statement-returns-then-is-8 t c = form_result c.args.source.now c.args.depth _
-    (λ n. sym.AStatement n ∷ sym.MoreStatements n ∷ sym.MoreBranches n ∷ []) (λ n. row.form_parallel) refl
-    (with_at w.Parallel c.in-Ok.ensures c.is-8.ensures c.if-is-8.true) (add-one c.args.depth) (omega arith)
-    (λ n (first, (statements, (more, _))). tree.Parallel (tree.Beside (tree.AndThen first statements) more))
-    (λ n vs. refl) _ c.parallel.ensures
+statement-returns-then-is-8 t c = go_on (form_on c.args.depth _ (λ n. sym.AName ∷ sym.AToken w.Becomes ∷ sym.AnExpression n ∷ sym.AToken w.To ∷ sym.AnExpression n
+    ∷ sym.AToken w.Do ∷ sym.AStatement n ∷ []) (λ n. row.form_forall) refl refl
+    (kind_at c.look-first.result w.Forall c.is-8.ensures c.if-is-8.true) (add-one c.args.depth) (omega arith)
+    (begin c.requires) c.look-first.ensures c.skip.ensures) c.forall.ensures (λ us. refl)
 
 pub statement-returns-then-is-9 : goal.statement-returns-then-is-9
-statement-returns-then-is-9 t c = form_result c.args.source.now c.args.depth _
-    (λ n. sym.AName ∷ sym.AToken w.Becomes ∷ sym.AnExpression n ∷ sym.AToken w.To ∷ sym.AnExpression n ∷ sym.AToken w.Do
-    ∷ sym.AStatement n ∷ []) (λ n. row.form_forall) refl
-    (with_at w.Forall c.in-Ok.ensures c.is-9.ensures c.if-is-9.true) (add-one c.args.depth) (omega arith)
-    (λ n (name, (_, (from, (_, (to, (_, (body, _))))))). tree.Forall name from to body) (λ n vs. refl) _
-    c.forall.ensures
-
-pub statement-returns-then-is-10 : goal.statement-returns-then-is-10
-statement-returns-then-is-10 t c = form_result c.args.source.now c.args.depth _ (λ n. sym.AnExpression n ∷ [])
-    (λ n. row.form_assume) refl (with_at w.Assume c.in-Ok.ensures c.is-10.ensures c.if-is-10.true)
-    (add-one c.args.depth) (omega arith) (λ n vs. tree.Assume vs.0) (λ n vs. refl) _ c.assume.ensures
+statement-returns-then-is-9 t c = say (λ _. c.assume_statement.ensures) (read (form_on c.args.depth _ (λ n. sym.AnExpression n ∷ []) (λ n. row.form_assume) refl refl
+    (kind_at c.look-first.result w.Assume c.is-9.ensures c.if-is-9.true) (add-one c.args.depth) (omega arith)
+    (begin c.requires) c.look-first.ensures c.skip.ensures) c.expression.ensures)
 
 pub statement-returns : goal.statement-returns
-statement-returns t c = empty_is c.args.source.now c.args.depth c.empty_statement.result c.requires
-    c.in-Ok.ensures (none_at (rows (sym.AStatement c.args.depth)) c.in-Ok.value.0.kind (
-      other_at c.in-Ok.value.0 kind.Name c.is.ensures c.if-is.false,
+statement-returns t c = go_on (keep (λ vs. tree.Does c.look-first.result.at (vs.0 c.made-name.result))
+    (form_on c.args.depth _ (λ n. sym.AfterName n ∷ []) (λ n. row.form_name) refl refl
+    (name_form c.look-first.result c.begins_form.result c.begins_form.ensures (search rules) (
+      other_at c.look-first.result w.Begin c.is.ensures c.if-is.false,
       (
-        other_at c.in-Ok.value.0 w.Begin c.is-2.ensures c.if-is-2.false,
+        other_at c.look-first.result w.If c.is-2.ensures c.if-is-2.false,
         (
-          other_at c.in-Ok.value.0 w.If c.is-3.ensures c.if-is-3.false,
+          other_at c.look-first.result w.While c.is-3.ensures c.if-is-3.false,
           (
-            other_at c.in-Ok.value.0 w.While c.is-4.ensures c.if-is-4.false,
+            other_at c.look-first.result w.Repeat c.is-4.ensures c.if-is-4.false,
             (
-              other_at c.in-Ok.value.0 w.Repeat c.is-5.ensures c.if-is-5.false,
+              other_at c.look-first.result w.For c.is-5.ensures c.if-is-5.false,
               (
-                other_at c.in-Ok.value.0 w.For c.is-6.ensures c.if-is-6.false,
+                other_at c.look-first.result w.Case c.is-6.ensures c.if-is-6.false,
                 (
-                  other_at c.in-Ok.value.0 w.Case c.is-7.ensures c.if-is-7.false,
+                  other_at c.look-first.result w.Parallel c.is-7.ensures c.if-is-7.false,
                   (
-                    other_at c.in-Ok.value.0 w.Parallel c.is-8.ensures c.if-is-8.false,
+                    other_at c.look-first.result w.Forall c.is-8.ensures c.if-is-8.false,
                     (
-                      other_at c.in-Ok.value.0 w.Forall c.is-9.ensures c.if-is-9.false,
-                      (other_at c.in-Ok.value.0 w.Assume c.is-10.ensures c.if-is-10.false, tt),
+                      other_at c.look-first.result w.Assume c.is-9.ensures c.if-is-9.false,
+                      tt,
                     ),
                   ),
                 ),
@@ -114,301 +105,137 @@ statement-returns t c = empty_is c.args.source.now c.args.depth c.empty_statemen
           ),
         ),
       ),
-    )) c.empty_statement.ensures
-
-pub boxed_statement-returns-in-Err : goal.boxed_statement-returns-in-Err
-boxed_statement-returns-in-Err t c = c.in-Err.ensures
-
-pub boxed_statement-returns : goal.boxed_statement-returns
-boxed_statement-returns t c = has_read c.in-Ok.ensures.ready c.in-Ok.ensures.derives
-    (ap statement_of c.in-Ok-new.ensures ∙ c.in-Ok.ensures.value_is)
-
-pub compound-returns-in-Err : goal.compound-returns-in-Err
-compound-returns-in-Err t c = halts_longer c.args.source.now
-    (sym.AStatement c.args.depth ∷ sym.MoreStatements c.args.depth ∷ []) (sym.AToken w.End ∷ []) _ _ c.in-Err.ensures
-
-pub compound-returns-in-Err-expect : goal.compound-returns-in-Err-expect
-compound-returns-in-Err-expect t c = halts_after (sym.AToken w.End ∷ []) c.in-Ok.ensures _ c.in-Err-expect.ensures
+    ))
+    (add-one c.args.depth) (omega arith) (begin c.requires) c.look-first.ensures c.skip.ensures) c.made-name.ensures
+    (λ p vs. ap (λ n. tree.Does c.look-first.result.at (vs.0 n)) (is_made _ _ p c.name_at.ensures))) c.after_name.ensures
+    (λ us. refl)
 
 pub compound-returns : goal.compound-returns
-compound-returns t c = compound_is c.args.source.now c.args.depth c.in-Ok.value.0 c.in-Ok.ensures
-    c.in-Ok-expect.ensures
-
-pub sequence-returns-in-Err : goal.sequence-returns-in-Err
-sequence-returns-in-Err t c = c.in-Err.ensures
-
-pub sequence-returns : goal.sequence-returns
-sequence-returns t c = sequence_is c.args.source.now c.args.depth c.args.at c.in-Ok.value.0 c.sequence_statement.result
-    c.in-Ok.ensures c.sequence_statement.ensures
+compound-returns t c = pass (read_as (sequence c.args.depth).symbols (sym.AToken w.End ∷ []) (λ _. statements_of c.statements-all.result)
+    (begin c.requires) c.statements-all.ensures (λ us same _. same)) c.expect.ensures
 
 pub statements-more-init : goal.statements-more-init
-statements-more-init t c = statements_none c.args.source.now c.args.depth c.new-all.result c.new-all.ensures c.requires
-
-pub statements-returns-in-Err : goal.statements-returns-in-Err
-statements-returns-in-Err t c = no_item (sym.AStatement c.args.depth ∷ []) (sym.MoreStatements c.args.depth ∷ [])
-    c.more.invariant _ c.in-Err.ensures
-
-pub statements-returns-in-Err-pass : goal.statements-returns-in-Err-pass
-statements-returns-in-Err-pass t c = halts_pending (statements_read c.args.source.now c.args.depth c.in-Ok.value.0
-    c.more.all c.push.new.self c.more.invariant c.in-Ok.ensures c.in_ok-push.ensures.ok) _ (pass_halts c.args.source.now
-    w.Semicolon c.in-Ok.value.1.now (sym.MoreStatements c.args.depth) _ c.in-Err-pass.ensures)
-
-pub statements-returns-in_default : goal.statements-returns-in_default
-statements-returns-in_default t c = statements_done c.args.source.now c.args.depth c.push.new.self
-    (statements_read c.args.source.now c.args.depth c.in-Ok.value.0 c.more.all c.push.new.self c.more.invariant
-    c.in-Ok.ensures c.in_ok-push.ensures.ok)
-    (not_passed c.args.source.now w.Semicolon c.in-Ok.value.1.now _ c.in-Ok-pass.ensures c.in_default.is)
+statements-more-init t c = say (λ (first, (more, _)). ap (λ l. and_statements l (tree.AndThen first more)) c.new-all.ensures)
+    (begin c.requires)
 
 pub statements-more-preserved : goal.statements-more-preserved
-statements-more-preserved t c = statements_on c.args.source.now c.args.depth c.push.new.self
-    (statements_read c.args.source.now c.args.depth c.in-Ok.value.0 c.more.all c.push.new.self c.more.invariant
-    c.in-Ok.ensures c.in_ok-push.ensures.ok)
-    (passed c.args.source.now w.Semicolon c.in-Ok.value.1.now _ c.in-Some.after c.in-Ok-pass.ensures c.in-Some.is)
+statements-more-preserved t c = pass_row [] row.next_statement refl refl (keep (λ vs. and_statements c.push.new.all vs.0)
+    (read c.more.invariant c.statement-next.ensures) c.push.ensures
+    (λ p vs. ap (λ l. and_statements l vs.0) p ∙ lay_push tree.AndThen statement_of c.more.all c.statement-next.result
+    vs.0)) (passed c.pass.ensures (search rules))
 
-pub choice-returns-in-Err : goal.choice-returns-in-Err
-choice-returns-in-Err t c = halts_longer c.args.source.now (sym.AnExpression c.args.depth ∷ sym.AToken w.Then ∷ [])
-    (sym.AStatement c.args.depth ∷ sym.AnElse c.args.depth ∷ []) _ _ c.in-Err.ensures
-
-pub choice-returns-in-Err-boxed_statement : goal.choice-returns-in-Err-boxed_statement
-choice-returns-in-Err-boxed_statement t c = halts_after (sym.AStatement c.args.depth ∷ sym.AnElse c.args.depth ∷ [])
-    c.in-Ok.ensures _ (halts_longer c.args.source.now (sym.AStatement c.args.depth ∷ []) (sym.AnElse c.args.depth ∷ [])
-    _ _ c.in-Err-boxed_statement.ensures)
-
-pub choice-returns-in-Err-otherwise : goal.choice-returns-in-Err-otherwise
-choice-returns-in-Err-otherwise t c = halts_after (sym.AStatement c.args.depth ∷ sym.AnElse c.args.depth ∷ [])
-    c.in-Ok.ensures _ (halts_after (sym.AnElse c.args.depth ∷ []) c.in-Ok-boxed_statement.ensures _
-    c.in-Err-otherwise.ensures)
+pub statements-returns-then-not-pass : goal.statements-returns-then-not-pass
+statements-returns-then-not-pass t c = say (λ _. back_of (lay_statements _)) (leave_at (keep (λ vs. and_statements c.push.new.all vs.0)
+    (read c.more.invariant c.statement-next.ensures) c.push.ensures
+    (λ p vs. ap (λ l. and_statements l vs.0) p ∙ lay_push tree.AndThen statement_of c.more.all c.statement-next.result
+    vs.0)) (not_passed c.pass.ensures (search rules))
+    (λ t n. none_if _ n refl) refl)
 
 pub choice-returns : goal.choice-returns
-choice-returns t c = has_read c.in-Ok-otherwise.ensures.ready
-    (join_all (sym.AnExpression c.args.depth ∷ sym.AToken w.Then ∷ [])
-    (sym.AStatement c.args.depth ∷ sym.AnElse c.args.depth ∷ []) c.in-Ok.ensures.derives
-    (and (first_derived c.in-Ok-boxed_statement.ensures) c.in-Ok-otherwise.ensures.derives))
-    (c.if_statement.ensures ∙ (λ i. tree.Does c.args.at
-    (tree.If (c.in-Ok.ensures.value_is i) (c.in-Ok-boxed_statement.ensures.value_is i)
-    (c.in-Ok-otherwise.ensures.value_is i))))
+choice-returns t c = keep (λ _. statement_of c.made.result) (read (read (pass (read (begin c.requires) c.expression-test.ensures)
+    c.expect.ensures) c.statement-body.ensures) c.otherwise-other.ensures) c.made.ensures
+    (λ p _. is_made _ _ p c.if_statement.ensures)
 
-pub otherwise-returns-in_default : goal.otherwise-returns-in_default
-otherwise-returns-in_default t c = no_other c.args.source.now c.args.depth c.requires
-    (not_passed c.args.source.now w.Else c.args.tokens.now _ c.in-Ok.ensures c.in_default.is)
-
-pub otherwise-returns-in-Err-boxed_statement : goal.otherwise-returns-in-Err-boxed_statement
-otherwise-returns-in-Err-boxed_statement t c = other_halts c.args.source.now c.args.depth
-    (passed c.args.source.now w.Else c.args.tokens.now _ c.in-Some.after c.in-Ok.ensures c.in-Some.is) _
-    c.in-Err-boxed_statement.ensures
+pub otherwise-returns-then-pass : goal.otherwise-returns-then-pass
+otherwise-returns-then-pass t c = read (pass_row [] row.other refl refl (begin c.requires) (passed c.pass.ensures c.if-pass.true))
+    c.statement.ensures
 
 pub otherwise-returns : goal.otherwise-returns
-otherwise-returns t c = other_is c.args.source.now c.args.depth c.in-Ok-boxed_statement.value.0
-    c.in-Ok-boxed_statement.value.0 (passed c.args.source.now w.Else c.args.tokens.now _ c.in-Some.after c.in-Ok.ensures
-    c.in-Some.is) c.in-Ok-boxed_statement.ensures refl
-
-pub while_loop-returns-in-Err : goal.while_loop-returns-in-Err
-while_loop-returns-in-Err t c = halts_longer c.args.source.now (sym.AnExpression c.args.depth ∷ sym.AToken w.Do ∷ [])
-    (sym.AStatement c.args.depth ∷ []) _ _ c.in-Err.ensures
-
-pub while_loop-returns-in-Err-boxed_statement : goal.while_loop-returns-in-Err-boxed_statement
-while_loop-returns-in-Err-boxed_statement t c = halts_after (sym.AStatement c.args.depth ∷ []) c.in-Ok.ensures _
-    c.in-Err-boxed_statement.ensures
+otherwise-returns t c = leave_at (begin c.requires) (not_passed c.pass.ensures c.if-pass.false) (λ t n. none_if _ n refl) refl
 
 pub while_loop-returns : goal.while_loop-returns
-while_loop-returns t c = has_read c.in-Ok-boxed_statement.ensures.ready
-    (join_all (sym.AnExpression c.args.depth ∷ sym.AToken w.Do ∷ []) (sym.AStatement c.args.depth ∷ [])
-    c.in-Ok.ensures.derives c.in-Ok-boxed_statement.ensures.derives)
-    (c.while_statement.ensures ∙ (λ i. tree.Does c.args.at
-    (tree.While (c.in-Ok.ensures.value_is i) (c.in-Ok-boxed_statement.ensures.value_is i))))
-
-pub repeat_loop-returns-in-Err : goal.repeat_loop-returns-in-Err
-repeat_loop-returns-in-Err t c = halts_longer c.args.source.now
-    (sym.AStatement c.args.depth ∷ sym.MoreStatements c.args.depth ∷ [])
-    (sym.AToken w.Until ∷ sym.AnExpression c.args.depth ∷ []) _ _ c.in-Err.ensures
-
-pub repeat_loop-returns-in-Err-expect : goal.repeat_loop-returns-in-Err-expect
-repeat_loop-returns-in-Err-expect t c = halts_after (sym.AToken w.Until ∷ sym.AnExpression c.args.depth ∷ [])
-    c.in-Ok.ensures _ (halts_longer c.args.source.now (sym.AToken w.Until ∷ []) (sym.AnExpression c.args.depth ∷ []) _ _
-    c.in-Err-expect.ensures)
-
-pub repeat_loop-returns-in-Err-expression : goal.repeat_loop-returns-in-Err-expression
-repeat_loop-returns-in-Err-expression t c = halts_after (sym.AToken w.Until ∷ sym.AnExpression c.args.depth ∷ [])
-    c.in-Ok.ensures _ (halts_behind (sym.AnExpression c.args.depth ∷ []) c.in-Ok-expect.ensures _
-    c.in-Err-expression.ensures)
+while_loop-returns t c = keep (λ _. statement_of c.made.result) (read (pass (read (begin c.requires) c.expression-test.ensures)
+    c.expect.ensures) c.statement-body.ensures) c.made.ensures (λ p _. is_made _ _ p c.while_statement.ensures)
 
 pub repeat_loop-returns : goal.repeat_loop-returns
-repeat_loop-returns t c = repeat_is c.args.source.now c.args.depth c.args.at c.in-Ok.value.0 c.in-Ok-expression.value.0
-    c.repeat_statement.result c.in-Ok.ensures c.in-Ok-expect.ensures c.in-Ok-expression.ensures
-    c.repeat_statement.ensures
-
-pub for_loop-returns-in-Err : goal.for_loop-returns-in-Err
-for_loop-returns-in-Err t c = halts_longer c.args.source.now (sym.AName ∷ sym.AToken w.Becomes ∷ [])
-    (sym.AnExpression c.args.depth ∷ sym.ADirection ∷ sym.AnExpression c.args.depth ∷ sym.AToken w.Do
-    ∷ sym.AStatement c.args.depth ∷ []) _ _ c.in-Err.ensures
-
-pub for_loop-returns-in-Err-bounds : goal.for_loop-returns-in-Err-bounds
-for_loop-returns-in-Err-bounds t c = halts_after (sym.AnExpression c.args.depth ∷ sym.ADirection ∷ sym.AnExpression
-    c.args.depth ∷ sym.AToken w.Do ∷ sym.AStatement c.args.depth ∷ []) c.in-Ok.ensures _ (halts_longer c.args.source.now
-    (sym.AnExpression c.args.depth ∷ sym.ADirection ∷ sym.AnExpression c.args.depth ∷ sym.AToken w.Do ∷ [])
-    (sym.AStatement c.args.depth ∷ []) _ _ c.in-Err-bounds.ensures)
-
-pub for_loop-returns-in-Err-boxed_statement : goal.for_loop-returns-in-Err-boxed_statement
-for_loop-returns-in-Err-boxed_statement t c = halts_after (sym.AnExpression c.args.depth ∷ sym.ADirection
-    ∷ sym.AnExpression c.args.depth ∷ sym.AToken w.Do ∷ sym.AStatement c.args.depth ∷ []) c.in-Ok.ensures _ (halts_after
-    (sym.AStatement c.args.depth ∷ []) c.in-Ok-bounds.ensures _ c.in-Err-boxed_statement.ensures)
+repeat_loop-returns t c = say (λ _. c.repeat_statement.ensures) (read (pass (read_as (sequence c.args.depth).symbols
+    (sym.AToken w.Until ∷ sym.AnExpression c.args.depth ∷ [])
+    (λ vs. tree.Does c.args.at (tree.Repeat (statements_of c.statements-body.result) vs.1.0)) (begin c.requires)
+    c.statements-body.ensures (λ us same vs. ap (λ x. tree.Does c.args.at (tree.Repeat x vs.1.0)) same))
+    c.expect.ensures) c.expression-test.ensures)
 
 pub for_loop-returns : goal.for_loop-returns
-for_loop-returns t c = has_read c.in-Ok-boxed_statement.ensures.ready
-    (join_all (sym.AName ∷ sym.AToken w.Becomes ∷ [])
-    (sym.AnExpression c.args.depth ∷ sym.ADirection ∷ sym.AnExpression c.args.depth ∷ sym.AToken w.Do
-    ∷ sym.AStatement c.args.depth ∷ []) c.in-Ok.ensures.derives
-    (join_all (sym.AnExpression c.args.depth ∷ sym.ADirection ∷ sym.AnExpression c.args.depth ∷ sym.AToken w.Do ∷ [])
-    (sym.AStatement c.args.depth ∷ []) c.in-Ok-bounds.ensures.derives c.in-Ok-boxed_statement.ensures.derives))
-    (c.for_statement.ensures ∙ (λ i. tree.Does c.args.at
-    (tree.For (c.in-Ok.ensures.value_is i) (c.in-Ok-bounds.ensures.value_is i).0 (c.in-Ok-bounds.ensures.value_is i).1
-    (c.in-Ok-bounds.ensures.value_is i).2 (c.in-Ok-boxed_statement.ensures.value_is i))))
-
-pub forall-returns-in-Err : goal.forall-returns-in-Err
-forall-returns-in-Err t c = halts_longer c.args.source.now (sym.AName ∷ sym.AToken w.Becomes ∷ [])
-    (sym.AnExpression c.args.depth ∷ sym.AToken w.To ∷ sym.AnExpression c.args.depth ∷ sym.AToken w.Do
-    ∷ sym.AStatement c.args.depth ∷ []) _ _ c.in-Err.ensures
-
-pub forall-returns-in-Err-expression_then : goal.forall-returns-in-Err-expression_then
-forall-returns-in-Err-expression_then t c = halts_after (sym.AnExpression c.args.depth ∷ sym.AToken w.To
-    ∷ sym.AnExpression c.args.depth ∷ sym.AToken w.Do ∷ sym.AStatement c.args.depth ∷ []) c.in-Ok.ensures _
-    (halts_longer c.args.source.now (sym.AnExpression c.args.depth ∷ sym.AToken w.To ∷ []) (sym.AnExpression
-    c.args.depth ∷ sym.AToken w.Do ∷ sym.AStatement c.args.depth ∷ []) _ _ c.in-Err-expression_then.ensures)
-
-pub forall-returns-in-Err-expression_then-2 : goal.forall-returns-in-Err-expression_then-2
-forall-returns-in-Err-expression_then-2 t c = halts_after (sym.AnExpression c.args.depth ∷ sym.AToken w.To
-    ∷ sym.AnExpression c.args.depth ∷ sym.AToken w.Do ∷ sym.AStatement c.args.depth ∷ []) c.in-Ok.ensures _ (halts_after
-    (sym.AnExpression c.args.depth ∷ sym.AToken w.Do ∷ sym.AStatement c.args.depth ∷ []) c.in-Ok-expression_then.ensures
-    _ (halts_longer c.args.source.now (sym.AnExpression c.args.depth ∷ sym.AToken w.Do ∷ [])
-    (sym.AStatement c.args.depth ∷ []) _ _ c.in-Err-expression_then-2.ensures))
-
-pub forall-returns-in-Err-boxed_statement : goal.forall-returns-in-Err-boxed_statement
-forall-returns-in-Err-boxed_statement t c = halts_after (sym.AnExpression c.args.depth ∷ sym.AToken w.To
-    ∷ sym.AnExpression c.args.depth ∷ sym.AToken w.Do ∷ sym.AStatement c.args.depth ∷ []) c.in-Ok.ensures _ (halts_after
-    (sym.AnExpression c.args.depth ∷ sym.AToken w.Do ∷ sym.AStatement c.args.depth ∷ []) c.in-Ok-expression_then.ensures
-    _ (halts_after (sym.AStatement c.args.depth ∷ []) c.in-Ok-expression_then-2.ensures _
-    c.in-Err-boxed_statement.ensures))
+for_loop-returns t c = keep (λ _. statement_of c.made.result) (read (pass (read (direct c.goes_on-down.result
+    (read (pass (read (begin c.requires) c.name-name.ensures) c.expect.ensures) c.expression-from.ensures)
+    c.goes_on-down.ensures) c.expression-to.ensures) c.expect-2.ensures) c.statement-body.ensures) c.made.ensures
+    (λ p _. is_made _ _ p c.for_statement.ensures)
 
 pub forall-returns : goal.forall-returns
-forall-returns t c = has_read c.in-Ok-boxed_statement.ensures.ready (join_all (sym.AName ∷ sym.AToken w.Becomes ∷ [])
-    (sym.AnExpression c.args.depth ∷ sym.AToken w.To ∷ sym.AnExpression c.args.depth ∷ sym.AToken w.Do ∷ sym.AStatement
-    c.args.depth ∷ []) c.in-Ok.ensures.derives (join_all (sym.AnExpression c.args.depth ∷ sym.AToken w.To ∷ [])
-    (sym.AnExpression c.args.depth ∷ sym.AToken w.Do ∷ sym.AStatement c.args.depth ∷ [])
-    c.in-Ok-expression_then.ensures.derives (join_all (sym.AnExpression c.args.depth ∷ sym.AToken w.Do ∷ [])
-    (sym.AStatement c.args.depth ∷ []) c.in-Ok-expression_then-2.ensures.derives
-    c.in-Ok-boxed_statement.ensures.derives))) (c.forall_statement.ensures ∙ (λ i. tree.Does c.args.at (tree.Forall
-    (c.in-Ok.ensures.value_is i) (c.in-Ok-expression_then.ensures.value_is i)
-    (c.in-Ok-expression_then-2.ensures.value_is i)
-    (c.in-Ok-boxed_statement.ensures.value_is i))))
-
-pub case_choice-returns-in-Err : goal.case_choice-returns-in-Err
-case_choice-returns-in-Err t c = halts_longer c.args.source.now (sym.AnExpression c.args.depth ∷ sym.AToken w.Of ∷ [])
-    (sym.AConstant ∷ sym.MoreLabels ∷ sym.AStatement c.args.depth ∷ sym.MoreArms c.args.depth ∷ []) _ _
-    c.in-Err.ensures
-
-pub case_choice-returns-in-Err-arms : goal.case_choice-returns-in-Err-arms
-case_choice-returns-in-Err-arms t c = halts_after (sym.AConstant ∷ sym.MoreLabels ∷ sym.AStatement c.args.depth
-    ∷ sym.MoreArms c.args.depth ∷ []) c.in-Ok.ensures _ c.in-Err-arms.ensures
+forall-returns t c = keep (λ _. statement_of c.made.result) (read (pass (read (pass (read (pass (read (begin c.requires)
+    c.name-name.ensures) c.expect.ensures) c.expression-from.ensures) c.expect-2.ensures) c.expression-to.ensures)
+    c.expect-3.ensures) c.statement-body.ensures) c.made.ensures (λ p _. is_made _ _ p c.forall_statement.ensures)
 
 pub case_choice-returns : goal.case_choice-returns
-case_choice-returns t c = has_read c.in-Ok-arms.ensures.ready
-    (join_all (sym.AnExpression c.args.depth ∷ sym.AToken w.Of ∷ [])
-    (sym.AConstant ∷ sym.MoreLabels ∷ sym.AStatement c.args.depth ∷ sym.MoreArms c.args.depth ∷ [])
-    c.in-Ok.ensures.derives c.in-Ok-arms.ensures.derives)
-    (c.case_statement.ensures ∙ (λ i. tree.Does c.args.at
-    (tree.Case (c.in-Ok.ensures.value_is i) (c.in-Ok-arms.ensures.value_is i))))
-
-pub arm-returns-in-Err : goal.arm-returns-in-Err
-arm-returns-in-Err t c = halts_longer c.args.source.now (sym.AConstant ∷ sym.MoreLabels ∷ [])
-    (sym.AStatement c.args.depth ∷ []) _ _ c.in-Err.ensures
-
-pub arm-returns-in-Err-statement : goal.arm-returns-in-Err-statement
-arm-returns-in-Err-statement t c = halts_after (sym.AStatement c.args.depth ∷ []) c.in-Ok.ensures _
-    c.in-Err-statement.ensures
-
-pub arm-returns : goal.arm-returns
-arm-returns t c = arm_is c.args.source.now c.args.depth c.in-Ok.value.0 c.in-Ok-statement.value.0 c.arm.result
-    c.in-Ok.ensures c.in-Ok-statement.ensures c.arm.ensures
+case_choice-returns t c = read_as (arms c.args.depth).symbols [] _ (pass (read (begin c.requires) c.expression-test.ensures)
+    c.expect.ensures) c.arms.ensures (λ us same _. c.case_statement.ensures
+    ∙ ap (λ x. tree.Does c.args.at (tree.Case (expression_of c.expression-test.result) x)) same)
 
 pub arms-more-init : goal.arms-more-init
-arms-more-init t c = arms_none c.args.source.now c.args.depth c.new-all.result c.new-all.ensures c.requires
-
-pub arms-returns-in-Err : goal.arms-returns-in-Err
-arms-returns-in-Err t c = no_item (sym.AConstant ∷ sym.MoreLabels ∷ sym.AStatement c.args.depth ∷ [])
-    (sym.MoreArms c.args.depth ∷ []) c.more.invariant _ c.in-Err.ensures
-
-pub arms-returns-in-Err-pass : goal.arms-returns-in-Err-pass
-arms-returns-in-Err-pass t c = halts_pending (arms_read c.args.source.now c.args.depth c.in-Ok.value.0 c.more.all
-    c.push.new.self c.more.invariant c.in-Ok.ensures c.in_ok-push.ensures.ok) _ (pass_halts c.args.source.now
-    w.Semicolon c.in-Ok.value.1.now (sym.MoreArms c.args.depth) _ c.in-Err-pass.ensures)
-
-pub arms-returns-in-Err-expect : goal.arms-returns-in-Err-expect
-arms-returns-in-Err-expect t c = arms_close_halt c.args.source.now c.args.depth c.push.new.self
-    (arms_read c.args.source.now c.args.depth c.in-Ok.value.0 c.more.all c.push.new.self c.more.invariant
-    c.in-Ok.ensures c.in_ok-push.ensures.ok)
-    (not_passed c.args.source.now w.Semicolon c.in-Ok.value.1.now _ c.in-Ok-pass.ensures c.in_default.is) _
-    c.in-Err-expect.ensures
-
-pub arms-returns-in_default : goal.arms-returns-in_default
-arms-returns-in_default t c = arms_done c.args.source.now c.args.depth c.push.new.self
-    (arms_read c.args.source.now c.args.depth c.in-Ok.value.0 c.more.all c.push.new.self c.more.invariant
-    c.in-Ok.ensures c.in_ok-push.ensures.ok) c.in-Ok-expect.ensures
+arms-more-init t c = say (λ (label, (labels, (body, (more, _)))).
+    ap (λ l. and_arms l (tree.Or (tree.On (label ∷ labels) body) more)) c.new-all.ensures) (begin c.requires)
 
 pub arms-more-preserved : goal.arms-more-preserved
-arms-more-preserved t c = arms_on c.args.source.now c.args.depth c.push.new.self
-    (arms_read c.args.source.now c.args.depth c.in-Ok.value.0 c.more.all c.push.new.self c.more.invariant
-    c.in-Ok.ensures c.in_ok-push.ensures.ok)
-    (passed c.args.source.now w.Semicolon c.in-Ok.value.1.now _ c.in-Some.after c.in-Ok-pass.ensures c.in-Some.is)
-    (not_passed c.args.source.now w.End c.in-Some.after.now _ c.in-Ok-pass-2.ensures c.in_default-2.is)
+arms-more-preserved t c = arm_turn c.args.depth (pass_row [] row.arms_go_on refl refl (keep (λ vs. and_arms c.push.new.all vs.0) (read (read_as labels.symbols
+    (sym.AStatement c.args.depth ∷ sym.MoreArms c.args.depth ∷ [])
+    (λ vs. and_arms c.more.all (tree.Or (tree.On c.labels-constants.result vs.0) vs.1.0)) c.more.invariant
+    c.labels-constants.ensures
+    (λ us same vs. ap (λ ls. and_arms c.more.all (tree.Or (tree.On ls vs.0) vs.1.0)) same))
+    c.statement-body.ensures) c.push.ensures
+    (λ p vs. ap (λ l. and_arms l vs.0) p ∙ lay_push tree.Or arm_of c.more.all c.arm.result vs.0
+    ∙ ap (λ x. and_arms c.more.all (tree.Or x vs.0)) c.arm.ensures))
+    (went_on _ c.goes_on.ensures (search rules))) (not_passed c.pass.ensures c.if-pass.false)
 
-pub arms-returns-in-Err-pass-2 : goal.arms-returns-in-Err-pass-2
-arms-returns-in-Err-pass-2 t c = arms_end_halt c.args.source.now c.args.depth c.push.new.self
-    (arms_read c.args.source.now c.args.depth c.in-Ok.value.0 c.more.all c.push.new.self c.more.invariant
-    c.in-Ok.ensures c.in_ok-push.ensures.ok)
-    (passed c.args.source.now w.Semicolon c.in-Ok.value.1.now _ c.in-Some.after c.in-Ok-pass.ensures c.in-Some.is) _
-    (pass_halts c.args.source.now w.End c.in-Some.after.now (sym.ArmOrEnd c.args.depth) _ c.in-Err-pass-2.ensures)
+pub arms-returns-then-not-goes_on : goal.arms-returns-then-not-goes_on
+arms-returns-then-not-goes_on t c = say (λ _. back_of (lay_arms _)) (close [] row.arms_end refl refl
+    (λ t n. ap (λ x. cond (kind_is w.End t.kind) (Some (row_entry _ _ row.arms_end))
+    (cond x (Some (row_entry _ _ row.arms_go_on)) None)) n) (λ t. refl) (keep (λ vs. and_arms c.push.new.all vs.0) (read (read_as labels.symbols
+    (sym.AStatement c.args.depth ∷ sym.MoreArms c.args.depth ∷ [])
+    (λ vs. and_arms c.more.all (tree.Or (tree.On c.labels-constants.result vs.0) vs.1.0)) c.more.invariant
+    c.labels-constants.ensures
+    (λ us same vs. ap (λ ls. and_arms c.more.all (tree.Or (tree.On ls vs.0) vs.1.0)) same))
+    c.statement-body.ensures) c.push.ensures
+    (λ p vs. ap (λ l. and_arms l vs.0) p ∙ lay_push tree.Or arm_of c.more.all c.arm.result vs.0
+    ∙ ap (λ x. and_arms c.more.all (tree.Or x vs.0)) c.arm.ensures))
+    (closed c.goes_on.ensures (search rules)))
 
-pub arms-returns-in-Some-2 : goal.arms-returns-in-Some-2
-arms-returns-in-Some-2 t c = arms_last c.args.source.now c.args.depth c.push.new.self
-    (arms_read c.args.source.now c.args.depth c.in-Ok.value.0 c.more.all c.push.new.self c.more.invariant
-    c.in-Ok.ensures c.in_ok-push.ensures.ok)
-    (passed c.args.source.now w.Semicolon c.in-Ok.value.1.now _ c.in-Some.after c.in-Ok-pass.ensures c.in-Some.is)
-    (passed c.args.source.now w.End c.in-Some.after.now _ c.in-Some-2.behind c.in-Ok-pass-2.ensures c.in-Some-2.is)
+pub arms-returns-then-pass : goal.arms-returns-then-pass
+arms-returns-then-pass t c = say (λ _. back_of (lay_arms _)) (pass_row [] row.no_arm refl refl (pass_row [] row.arms_go_on refl refl
+    (keep (λ vs. and_arms c.push.new.all vs.0) (read (read_as labels.symbols
+    (sym.AStatement c.args.depth ∷ sym.MoreArms c.args.depth ∷ [])
+    (λ vs. and_arms c.more.all (tree.Or (tree.On c.labels-constants.result vs.0) vs.1.0)) c.more.invariant
+    c.labels-constants.ensures
+    (λ us same vs. ap (λ ls. and_arms c.more.all (tree.Or (tree.On ls vs.0) vs.1.0)) same))
+    c.statement-body.ensures) c.push.ensures
+    (λ p vs. ap (λ l. and_arms l vs.0) p ∙ lay_push tree.Or arm_of c.more.all c.arm.result vs.0
+    ∙ ap (λ x. and_arms c.more.all (tree.Or x vs.0)) c.arm.ensures)) (went_on _ c.goes_on.ensures (search rules))) (passed c.pass.ensures c.if-pass.true))
 
-pub branches-more-init : goal.branches-more-init
-branches-more-init t c = branches_none c.args.source.now c.args.depth c.new-all.result c.new-all.ensures c.requires
+pub parallel-more-init : goal.parallel-more-init
+parallel-more-init t c = say (λ (first, (statements, (more, _))). ap (λ l. tree.Does c.args.at
+    (tree.Parallel (and_branches l (tree.Beside (tree.AndThen first statements) more)))) c.new-all.ensures)
+    (begin c.requires)
 
-pub branches-returns-in-Err : goal.branches-returns-in-Err
-branches-returns-in-Err t c = no_item (sym.AStatement c.args.depth ∷ sym.MoreStatements c.args.depth ∷ [])
-    (sym.MoreBranches c.args.depth ∷ []) c.more.invariant _ c.in-Err.ensures
+pub parallel-more-preserved : goal.parallel-more-preserved
+parallel-more-preserved t c = pass_row [] row.next_branch refl refl (keep (λ vs. tree.Does c.args.at
+    (tree.Parallel (and_branches c.push.new.all vs.0))) (read_as (sequence c.args.depth).symbols
+    (sym.MoreBranches c.args.depth ∷ [])
+    (λ vs. tree.Does c.args.at (tree.Parallel (and_branches c.more.all
+    (tree.Beside (statements_of c.statements-next.result) vs.0)))) c.more.invariant c.statements-next.ensures
+    (λ us same vs. ap (λ x. tree.Does c.args.at (tree.Parallel (and_branches c.more.all (tree.Beside x vs.0)))) same))
+    c.push.ensures (λ p vs. ap (λ x. tree.Does c.args.at (tree.Parallel x)) (ap (λ l. and_branches l vs.0) p
+    ∙ lay_push tree.Beside branch_of c.more.all c.process.result vs.0
+    ∙ ap (λ x. and_branches c.more.all (tree.Beside x vs.0)) c.process.ensures))) (went_on _ c.goes_on.ensures (search rules))
 
-pub branches-returns-in-Err-pass : goal.branches-returns-in-Err-pass
-branches-returns-in-Err-pass t c = halts_pending (branches_read c.args.source.now c.args.depth c.in-Ok.value.0
-    c.process.result c.more.all c.push.new.self c.more.invariant c.in-Ok.ensures c.process.ensures
-    c.in_ok-push.ensures.ok) _ (pass_halts c.args.source.now w.Bar c.in-Ok.value.1.now (sym.MoreBranches c.args.depth) _
-    c.in-Err-pass.ensures)
-
-pub branches-returns-in-Err-expect : goal.branches-returns-in-Err-expect
-branches-returns-in-Err-expect t c = branches_close_halt c.args.source.now c.args.depth c.push.new.self
-    (branches_read c.args.source.now c.args.depth c.in-Ok.value.0 c.process.result c.more.all c.push.new.self
-    c.more.invariant c.in-Ok.ensures c.process.ensures c.in_ok-push.ensures.ok)
-    (not_passed c.args.source.now w.Bar c.in-Ok.value.1.now _ c.in-Ok-pass.ensures c.in_default.is) _
-    c.in-Err-expect.ensures
-
-pub branches-returns-in_default : goal.branches-returns-in_default
-branches-returns-in_default t c = branches_done c.args.source.now c.args.depth c.push.new.self
-    (branches_read c.args.source.now c.args.depth c.in-Ok.value.0 c.process.result c.more.all c.push.new.self
-    c.more.invariant c.in-Ok.ensures c.process.ensures c.in_ok-push.ensures.ok) c.in-Ok-expect.ensures
-
-pub branches-more-preserved : goal.branches-more-preserved
-branches-more-preserved t c = branches_on c.args.source.now c.args.depth c.push.new.self
-    (branches_read c.args.source.now c.args.depth c.in-Ok.value.0 c.process.result c.more.all c.push.new.self
-    c.more.invariant c.in-Ok.ensures c.process.ensures c.in_ok-push.ensures.ok)
-    (passed c.args.source.now w.Bar c.in-Ok.value.1.now _ c.in-Some.after c.in-Ok-pass.ensures c.in-Some.is)
-
-pub parallel-returns-in-Err : goal.parallel-returns-in-Err
-parallel-returns-in-Err t c = c.in-Err.ensures
-
-pub parallel-returns : goal.parallel-returns
-parallel-returns t c = parallel_is c.args.source.now c.args.depth c.args.at c.in-Ok.value.0 c.parallel_statement.result
-    c.in-Ok.ensures c.parallel_statement.ensures
+pub parallel-returns-then-not-goes_on : goal.parallel-returns-then-not-goes_on
+parallel-returns-then-not-goes_on t c = say (λ _. c.parallel_statement.ensures ∙ ap (λ x. tree.Does c.args.at (tree.Parallel x))
+    (back_of (lay_branches _))) (close [] row.branches_end refl refl
+    (λ t n. ap (λ x. cond (kind_is w.End t.kind) (Some (row_entry _ _ row.branches_end))
+    (cond x (Some (row_entry _ _ row.next_branch)) None)) n) (λ t. refl) (keep (λ vs. tree.Does c.args.at
+    (tree.Parallel (and_branches c.push.new.all vs.0))) (read_as (sequence c.args.depth).symbols
+    (sym.MoreBranches c.args.depth ∷ [])
+    (λ vs. tree.Does c.args.at (tree.Parallel (and_branches c.more.all
+    (tree.Beside (statements_of c.statements-next.result) vs.0)))) c.more.invariant c.statements-next.ensures
+    (λ us same vs. ap (λ x. tree.Does c.args.at (tree.Parallel (and_branches c.more.all (tree.Beside x vs.0)))) same))
+    c.push.ensures (λ p vs. ap (λ x. tree.Does c.args.at (tree.Parallel x)) (ap (λ l. and_branches l vs.0) p
+    ∙ lay_push tree.Beside branch_of c.more.all c.process.result vs.0
+    ∙ ap (λ x. and_branches c.more.all (tree.Beside x vs.0)) c.process.ensures)))
+    (closed c.goes_on.ensures (search rules)))

@@ -1,51 +1,42 @@
-use Rattle.std.proofs.Common.{[], ◌∷◌}
+use Rattle.std.proofs.Common.{[], ◌∷◌, ◌++◌, ◌∙◌, ap, append_assoc, refl, rules, Some, None, cond, sym as back_of}
+use Rattle.std.proofs.lemmas.List.{append-nil}
 use Rattle.sp_tree.specs.Words as w
+use Rattle.sp_tree.specs.declared.token.Kind.TheVariants as kind
 use Rattle.sp_grammar.specs.Symbols.{MoreFields, FieldOrEnd}
-use Rattle.sp_parse.proofs.Steps.{passed, not_passed, pass_halts}
-use Rattle.sp_parse.proofs.SoFar.{halts_pending}
-use Rattle.sp_parse.proofs.Rounds.{no_item}
-use Rattle.sp_parse.proofs.Declares.{halts_short}
-use Rattle.sp_parse.proofs.ReadTypes.{GroupSymbols, fields_none, fields_read, fields_on, fields_next, fields_close}
-use Rattle.sp_parse.proofs.ReadTypes.{fields_up, no_fields}
+use Rattle.sp_grammar.specs.Table as row
+use Rattle.sp_grammar.specs.Table.{row_entry, kind_is}
+use Rattle.sp_parse.specs.BlockProductions.{group}
+use Rattle.sp_parse.proofs.Pending.{begin, say, read_as, keep, close, pass_row, passed, not_passed, went_on, closed}
+use Rattle.sp_parse.proofs.Turns.{name_turn, none_if}
 use Rattle.sp_parse.proofs.types.fields.Goals as goal
 
 pub more-init : goal.more-init
-more-init c = fields_none c.new-all.result c.new-all.ensures c.requires
+more-init c = say (λ vs. ap (λ l. l ++ record { names = vs.0 ∷ vs.1.0; kind = vs.1.1.1.0 } ∷ vs.1.1.1.1.0) c.new-all.ensures)
+    (begin c.requires)
 
-pub returns-in-Err : goal.returns-in-Err
-returns-in-Err c = no_item GroupSymbols (MoreFields ∷ []) c.more.invariant _ c.in-Err.ensures
+pub returns-then-not-goes_on : goal.returns-then-not-goes_on
+returns-then-not-goes_on c = say (λ _. back_of (append-nil c.push.new.all)) (close [] row.fields_end refl refl
+    (λ t n. ap (λ x. cond (kind_is w.End t.kind) (Some (row_entry _ _ row.fields_end))
+    (cond x (Some (row_entry _ _ row.fields_go_on)) None)) n) (λ t. refl) (keep (λ vs. c.push.new.all ++ vs.0) (read_as group.symbols (MoreFields ∷ [])
+    (λ vs. c.more.all ++ c.group-next.result ∷ vs.0) c.more.invariant c.group-next.ensures
+    (λ us same vs. ap (λ g. c.more.all ++ g ∷ vs.0) same)) c.push.ensures
+    (λ p vs. ap (λ l. l ++ vs.0) p ∙ append_assoc c.more.all (c.group-next.result ∷ []) vs.0))
+    (closed c.goes_on.ensures (search rules)))
 
-pub returns-in-Err-pass : goal.returns-in-Err-pass
-returns-in-Err-pass c = halts_pending (fields_read c.more.all c.push.new.self c.more.invariant c.in-Ok.ensures
-    c.in_ok-push.ensures.ok) _ (pass_halts c.args.source.now w.Semicolon c.in-Ok.value.1.now (MoreFields) _
-    c.in-Err-pass.ensures)
-
-pub returns-in-Err-expect : goal.returns-in-Err-expect
-returns-in-Err-expect c = no_fields c.push.new.self (fields_read c.more.all c.push.new.self c.more.invariant
-    c.in-Ok.ensures c.in_ok-push.ensures.ok) (not_passed c.args.source.now w.Semicolon c.in-Ok.value.1.now _
-    c.in-Ok-pass.ensures c.in_default.is) _ c.in-Err-expect.ensures
-
-pub returns-in_default : goal.returns-in_default
-returns-in_default c = fields_close c.push.new.self
-    (fields_read c.more.all c.push.new.self c.more.invariant c.in-Ok.ensures c.in_ok-push.ensures.ok)
-    c.in-Ok-expect.ensures.first
+pub returns-then-pass : goal.returns-then-pass
+returns-then-pass c = say (λ _. back_of (append-nil c.push.new.all)) (pass_row [] row.no_field refl refl
+    (pass_row [] row.fields_go_on refl refl (keep (λ vs. c.push.new.all ++ vs.0) (read_as group.symbols (MoreFields ∷ [])
+    (λ vs. c.more.all ++ c.group-next.result ∷ vs.0) c.more.invariant c.group-next.ensures
+    (λ us same vs. ap (λ g. c.more.all ++ g ∷ vs.0) same)) c.push.ensures
+    (λ p vs. ap (λ l. l ++ vs.0) p ∙ append_assoc c.more.all (c.group-next.result ∷ []) vs.0)) (went_on _ c.goes_on.ensures (search rules)))
+    (passed c.pass.ensures c.if-pass.true))
 
 pub more-preserved : goal.more-preserved
-more-preserved c = fields_next c.push.new.self
-    (fields_on c.push.new.self (fields_read c.more.all c.push.new.self c.more.invariant c.in-Ok.ensures
-    c.in_ok-push.ensures.ok) (passed c.args.source.now w.Semicolon c.in-Ok.value.1.now _ c.in-Some.after
-    c.in-Ok-pass.ensures c.in-Some.is)) (not_passed c.args.source.now w.End c.in-Some.after.now _
-    c.in-Ok-pass-2.ensures c.in_default-2.is)
-
-pub returns-in-Err-pass-2 : goal.returns-in-Err-pass-2
-returns-in-Err-pass-2 c = halts_pending (fields_on c.push.new.self
-    (fields_read c.more.all c.push.new.self c.more.invariant c.in-Ok.ensures c.in_ok-push.ensures.ok)
-    (passed c.args.source.now w.Semicolon c.in-Ok.value.1.now _ c.in-Some.after c.in-Ok-pass.ensures c.in-Some.is)) _
-    (halts_short c.args.source.now w.End c.in-Some.after.now _ c.in-Err-pass-2.ensures FieldOrEnd)
-
-pub returns-in-Some-2 : goal.returns-in-Some-2
-returns-in-Some-2 c = fields_up c.push.new.self
-    (fields_on c.push.new.self (fields_read c.more.all c.push.new.self c.more.invariant c.in-Ok.ensures
-    c.in_ok-push.ensures.ok) (passed c.args.source.now w.Semicolon c.in-Ok.value.1.now _ c.in-Some.after
-    c.in-Ok-pass.ensures c.in-Some.is)) (passed c.args.source.now w.End c.in-Some.after.now _ c.in-Some-2.behind
-    c.in-Ok-pass-2.ensures c.in-Some-2.is)
+more-preserved c = let h = not_passed c.pass.ensures c.if-pass.false in
+    name_turn row.next_field refl refl (λ (name, (more, (_, (kind, (groups, _))))).
+    record { names = name ∷ more; kind = kind } ∷ groups) (λ t vs. refl) []
+    (pass_row [] row.fields_go_on refl refl (keep (λ vs. c.push.new.all ++ vs.0) (read_as group.symbols (MoreFields ∷ [])
+    (λ vs. c.more.all ++ c.group-next.result ∷ vs.0) c.more.invariant c.group-next.ensures
+    (λ us same vs. ap (λ g. c.more.all ++ g ∷ vs.0) same)) c.push.ensures
+    (λ p vs. ap (λ l. l ++ vs.0) p ∙ append_assoc c.more.all (c.group-next.result ∷ []) vs.0)) (went_on _ c.goes_on.ensures (search rules)))
+    h.looks (λ fine n. none_if _ (h.differs fine) (none_if _ n refl)) refl

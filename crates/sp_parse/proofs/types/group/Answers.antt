@@ -1,21 +1,12 @@
-use Rattle.std.proofs.Common.{[], ◌∷◌}
+use Rattle.std.proofs.Common.{[], ◌∷◌, ◌∙◌, ap}
 use Rattle.sp_tree.specs.Words as w
-use Rattle.sp_grammar.specs.Symbols.{AToken, AName, MoreNames}
-use Rattle.sp_parse.proofs.Behind.{halts_after}
-use Rattle.sp_parse.proofs.Declares.{halts_longer}
-use Rattle.sp_parse.proofs.Steps.{has_read}
-use Rattle.sp_parse.proofs.Rows.{join_all}
-use Rattle.sp_parse.proofs.ReadTypes.{group_same}
+use Rattle.sp_tree.specs.declared.syntax.SynGroup.{SynGroup}
+use Rattle.sp_grammar.specs.Symbols.{AName, MoreNames, AToken}
+use Rattle.sp_parse.proofs.Pending.{begin, read, read_as, pass}
 use Rattle.sp_parse.proofs.types.group.Goals as goal
 
-pub returns-in-Err : goal.returns-in-Err
-returns-in-Err c = halts_longer c.args.source.now (AName ∷ MoreNames ∷ []) (AToken w.Colon ∷ AName ∷ []) _ _
-    c.in-Err.ensures
-
-pub returns-in-Err-type_name : goal.returns-in-Err-type_name
-returns-in-Err-type_name c = halts_after (AToken w.Colon ∷ AName ∷ []) c.in-Ok.ensures _ c.in-Err-type_name.ensures
-
 pub returns : goal.returns
-returns c = has_read c.in-Ok-type_name.ensures.ready
-    (join_all (AName ∷ MoreNames ∷ []) (AToken w.Colon ∷ AName ∷ []) c.in-Ok.ensures.derives
-    c.in-Ok-type_name.ensures.derives) (group_same c.in-Ok.ensures.value_is c.in-Ok-type_name.ensures.value_is)
+returns c = read (pass (read_as (AName ∷ MoreNames ∷ []) (AToken w.Colon ∷ AName ∷ [])
+    (λ vs. record { names = c.names-names.result; kind = vs.1.0 }) (begin c.requires) c.names-names.ensures
+    (λ us same vs. ap (λ ns. (let g : SynGroup = record { names = ns; kind = vs.1.0 } in g)) same))
+    c.expect.ensures) c.name-kind.ensures
