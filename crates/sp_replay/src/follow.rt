@@ -1,6 +1,6 @@
 //! A run that follows a journal, entry by entry.
 
-ghost use Rattle.std.specs.Prelude.{◌≡◌, ◌≢◌, ℕ, [], Err, MatchBool, MatchOption, IfOk, IfErr, OnOk};
+ghost use Rattle.std.specs.Prelude.{◌≡◌, ◌≢◌, ℕ, [], MatchBool, MatchOption, IfOk, OnOk};
 ghost use Rattle.sp_code.specs.Sound.{IsSound};
 ghost use Rattle.sp_history.specs.OutputHolder.{IsOutputOf};
 ghost use Rattle.sp_kernel.specs.Asks.{IsOpening};
@@ -14,6 +14,7 @@ ghost use Rattle.sp_replay.specs.FollowInvariant.{CannotCome, with_taken};
 ghost use Rattle.sp_replay.specs.Replays.{Replays, ReplayLeadsTo};
 ghost use Rattle.sp_replay.specs.TraceAnswers.{IsAt, IsNowhere};
 
+use crate::have;
 use crate::held::{find, hold, output, pick};
 use crate::replayer::{ReplayError, Replayed};
 use sp_base::{Limits, List, Memory, Text};
@@ -61,7 +62,7 @@ impl FollowedRun {
             kernel,
             held: List::new(alloc),
         };
-        followed.take_ready()?;
+        have!(followed.take_ready());
         Ok(followed)
     }
 
@@ -71,7 +72,7 @@ impl FollowedRun {
         ensures { OnOk result (HoldsAllReady self.new × SameRun self.old.kernel self.new.kernel) }
     {
         while let Some(proc) = self.kernel.take(0) {
-            hold(&mut self.held, proc.number(), proc)?;
+            have!(hold(&mut self.held, proc.number(), proc));
         }
         Ok(())
     }
@@ -118,8 +119,8 @@ impl FollowedRun {
         ensures { OnOk result (HoldsAllReady self.new
             × ((e : _) × EventMade self.old.kernel handed.proc.number e self.new.kernel)) }
     {
-        let taken = self.exchange(code, limits, handed)?;
-        self.keep(taken)?;
+        let taken = have!(self.exchange(code, limits, handed));
+        have!(self.keep(taken));
         self.take_ready()
     }
 
@@ -135,33 +136,37 @@ impl FollowedRun {
         let Some(proc) = pick(&mut self.held, entry.process) else {
             return Ok(false);
         };
-        let handed = turned(proc, code, limits)?;
-        self.hand_in(code, limits, handed)?;
+        let handed = have!(turned(proc, code, limits));
+        have!(self.hand_in(code, limits, handed));
         Ok(is_same(self.kernel.newest(), entry.event))
     }
 
-    /// Follows all entries from the start on, up to the first that can't come next.
+    /// Follows all entries from the start on, up to the first that can't come next: the end and the output after them.
     pub(crate) fn follow_all(
         &mut self,
+        alloc: Global,
         code: &Code,
         limits: &Limits,
         entries: &[Entry],
-    ) -> Result<(), ReplayError>
+    ) -> Result<Replayed, ReplayError>
         requires sound { IsSound code.now }
         requires run { RunsOn self.old.kernel code.now limits.now }
         requires stands { HoldsAllReady self.old }
         requires start { self.old.kernel.journal.entries ≡ [] }
-        ensures stands { OnOk result (HoldsAllReady self.new) }
-        ensures code_run { OnOk result (code_run_of self.new.kernel ≡ code_run_of self.old.kernel) }
-        ensures entries { OnOk result (self.new.kernel.journal.entries ≡ entries.now) }
-        ensures err { IfErr result (λ e. Replays (code_run_of self.old.kernel) entries.now (Err e)) }
+        ensures { Replays (code_run_of self.old.kernel) entries.now result }
     {
         for (index, entry) in entries.iter().enumerate() {
-            if !self.follow(code, limits, *entry)? {
+            let Ok(fits) = self.follow(code, limits, *entry) else {
+                return Err(ReplayError::Memory);
+            };
+            if !fits {
                 return Err(ReplayError::Unfit(index as u64));
             }
         }
-        Ok(())
+        match self.finish(alloc) {
+            Ok(replayed) => Ok(replayed),
+            Err(_) => Err(ReplayError::Memory),
+        }
     }
 
     /// A process that was started and has not ended, or the root, and what it does: who runs is held here, and the
@@ -198,8 +203,8 @@ impl FollowedRun {
             (λ r. ReplayLeadsTo (code_run_of self.now.kernel) self.now.kernel.journal.entries r) }
         ensures at { IfOk result (λ r. IsAt self.now.kernel.journal.entries (system_of self.now.kernel) r) }
     {
-        let end = self.kernel.end()?;
-        let output = Vec::from_slice(alloc, self.output())?;
+        let end = have!(self.kernel.end());
+        let output = have!(Vec::from_slice(alloc, self.output()));
         Ok(Replayed {
             end,
             output: Text::of(output),

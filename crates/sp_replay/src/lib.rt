@@ -21,6 +21,7 @@
 #![tactic(auto)]
 
 mod follow;
+mod have;
 mod held;
 mod replayer;
 mod telling_entry;

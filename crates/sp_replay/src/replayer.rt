@@ -11,6 +11,7 @@ ghost use Rattle.sp_replay.specs.FollowInvariant.{HoldsAllReady, RunsOn};
 ghost use Rattle.sp_replay.specs.Replays.{Replays};
 
 use crate::follow::FollowedRun;
+use crate::have;
 use sp_base::{Limits, Memory, Text};
 use sp_code::Code;
 use sp_journal::{End, Entry, Journal};
@@ -30,7 +31,7 @@ pub struct Replayed {
 }
 
 /// Why a journal is not followed.
-#[derive(Clone, Copy, Debug, PartialEq, Eq, Error)]
+#[derive(Clone, Copy, Debug, Error)]
 pub enum ReplayError {
     /// The entry with this index, counted from 0, is the first that cannot come next: its process does not run there,
     /// or its turn makes another event.
@@ -63,8 +64,9 @@ pub(crate) fn begin(
     ensures run { IfOk result (λ f. RunsOn f.kernel code.now.value limits.now) }
     ensures start { IfOk result (λ f. f.kernel.journal.entries ≡ []) }
 {
-    let root = Proc::root(alloc, code, input)?;
-    let kernel = Kernel::new(alloc, root, Arc::try_clone(code)?, *limits)?;
+    let code_again = have!(Arc::try_clone(code));
+    let root = have!(Proc::root(alloc, code, input));
+    let kernel = have!(Kernel::new(alloc, root, code_again, *limits));
     FollowedRun::start(alloc, kernel)
 }
 
@@ -100,9 +102,10 @@ fn replay_fitting(
     requires limits { AreLimits limits.now }
     ensures { Replays (run_of code.value input.value limits.now) journal.now.entries result }
 {
-    let mut followed = begin(alloc, &code, input, limits)?;
-    followed.follow_all(&code, limits, journal.entries.items())?;
-    Ok(followed.finish(alloc)?)
+    let Ok(mut followed) = begin(alloc, &code, input, limits) else {
+        return Err(ReplayError::Memory);
+    };
+    followed.follow_all(alloc, &code, limits, journal.entries.items())
 }
 
 /// Runs the code on an input along a journal: each entry is the event of the next turn of its process. Each process

@@ -11,6 +11,7 @@ ghost use Rattle.sp_replay.specs.Tellings.{ToldMade};
 ghost use Rattle.sp_replay.specs.Replays.{Replays};
 
 use crate::follow::{FollowedRun, is_same, turned};
+use crate::have;
 use crate::held::pick;
 use crate::replayer::ReplayError;
 use sp_base::{Limits, List, Memory};
@@ -85,7 +86,7 @@ impl FollowedRun {
         ensures { IfOk result (λ w. w ≡ told_of (system_of self.now.kernel)
             (turn_by handed.now.stop handed.now.proc)) }
     {
-        let message = self.message(code, limits, handed)?;
+        let message = have!(self.message(code, limits, handed));
         let instruction = handed.proc.at(&handed.stop);
         Ok(Told {
             instruction,
@@ -109,9 +110,9 @@ impl FollowedRun {
         let Some(proc) = pick(&mut self.held, entry.process) else {
             return Ok(None);
         };
-        let handed = turned(proc, code, limits)?;
-        let told = self.told(code, limits, &handed)?;
-        self.hand_in(code, limits, handed)?;
+        let handed = have!(turned(proc, code, limits));
+        let told = have!(self.told(code, limits, &handed));
+        have!(self.hand_in(code, limits, handed));
         let same = is_same(self.kernel.newest(), entry.event);
         Ok(told_if(same, told))
     }
@@ -137,10 +138,15 @@ impl FollowedRun {
         ensures err { IfErr result (λ e. Replays (code_run_of self.old.kernel) entries.now (Err e)) }
     {
         for (index, entry) in entries.iter().enumerate() {
-            let Some(told) = self.follow_told(code, limits, *entry)? else {
+            let Ok(told) = self.follow_told(code, limits, *entry) else {
+                return Err(ReplayError::Memory);
+            };
+            let Some(told) = told else {
                 return Err(ReplayError::Unfit(index as u64));
             };
-            keep(out, told)?;
+            let Ok(()) = keep(out, told) else {
+                return Err(ReplayError::Memory);
+            };
         }
         Ok(())
     }

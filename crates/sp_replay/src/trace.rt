@@ -45,10 +45,17 @@ pub fn replay_told(
     ensures traces { Traces (run_of code.value input.value limits.now) journal.now.entries result }
     ensures replays { Replays (run_of code.value input.value limits.now) journal.now.entries (replayed_of result) }
 {
-    let mut state = begin(alloc, &code, input, limits)?;
+    let Ok(mut state) = begin(alloc, &code, input, limits) else {
+        return Err(ReplayError::Memory);
+    };
     let mut told = List::new(alloc);
-    state.follow_all_told(&code, limits, journal.entries.items(), &mut told)?;
-    let replayed = state.finish(alloc)?;
+    match state.follow_all_told(&code, limits, journal.entries.items(), &mut told) {
+        Ok(()) => {}
+        Err(error) => return Err(error),
+    }
+    let Ok(replayed) = state.finish(alloc) else {
+        return Err(ReplayError::Memory);
+    };
     Ok(Traced {
         replayed,
         told,

@@ -10,9 +10,9 @@ pub returns-clause-traces : goal.returns-clause-traces
 returns-clause-traces c =
     let f = c.follow_all_told.new.self in
     let ws = c.follow_all_told.new.out in
-    let begun = c.in_ok-state.ensures.code_run in
-    let i = c.in_ok-follow_all_told.ensures in
+    let begun = c.in-Ok.ensures.code_run in
+    let i = c.in-Ok-follow_all_told.ensures in
     traced (run_of c.args.code.value c.args.input.value c.args.limits.now) c.args.journal.now.entries f ws
-    c.in_ok-replayed.replayed (i.code_run ∙ begun) (i.entries ∙ c.items.ensures)
+    c.in-Ok-finish.replayed (i.code_run ∙ begun) (i.entries ∙ c.items.ensures)
     (subst (λ (g : CodeRun). DescribesEntries g f.kernel.journal.entries ws (system_of f.kernel)) begun i.told)
-    c.in_ok-replayed.ensures.at i.stands
+    c.in-Ok-finish.ensures.at i.stands

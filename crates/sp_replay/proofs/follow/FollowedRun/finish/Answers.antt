@@ -13,9 +13,9 @@ pub returns : goal.returns
 returns c =
     let f = c.args.self.now in
     let end = ends_so f.kernel c.requires.follows.come (held_at f.held) c.requires.follows.held c.requires.none_ready
-    c.in_ok-end.end c.in_ok-end.ensures in
+    c.in-Ok.value c.in-Ok.ensures in
     let written = subst (IsOutputOf (system_of f.kernel) c.output.ensures.0)
-    (sym (c.of.ensures ∙ c.in_ok-output.ensures.items)) c.output.ensures.1 in
+    (sym (c.of.ensures ∙ c.in-Ok-from_slice.ensures.items)) c.output.ensures.1 in
     record {
       leads = record {
         system = system_of f.kernel;

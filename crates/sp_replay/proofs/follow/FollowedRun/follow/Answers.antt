@@ -27,18 +27,18 @@ turned-requires-clause-safe c =
 pub hand_in-requires-clause-hand : goal.hand_in-requires-clause-hand
 hand_in-requires-clause-hand c =
     in_hand c.args.self.now (record { kernel = c.args.self.now.kernel; held = c.pick.new.held }) c.args.code.now
-    c.args.limits.now c.args.entry.process c.in-Some.proc c.in_ok-handed.handed c.requires.stands refl
-    (sym c.pick.ensures.proc ∙ c.in-Some.is) c.pick.ensures.others c.in_ok-handed.ensures
+    c.args.limits.now c.args.entry.process c.in-Some.proc c.in-Ok.value c.requires.stands refl
+    (sym c.pick.ensures.proc ∙ c.in-Some.is) c.pick.ensures.others c.in-Ok.ensures
 
 pub newest-requires : goal.newest-requires
-newest-requires c = let (_, (_, event_made)) = c.in_ok-hand_in.ensures in
+newest-requires c = let (_, (_, event_made)) = c.in-Ok-hand_in.ensures in
     (c.args.self.now.kernel.journal.entries, _, event_made.entries)
 
 pub returns : goal.returns
 returns c =
     let x = c.args.self.now.kernel in
-    let (s, (e, event_made)) = c.in_ok-hand_in.ensures in
-    let number : c.in_ok-handed.handed.proc.number ≡ c.args.entry.process = c.in_ok-handed.ensures.keeps.0
+    let (s, (e, event_made)) = c.in-Ok-hand_in.ensures in
+    let number : c.in-Ok.value.proc.number ≡ c.args.entry.process = c.in-Ok.ensures.keeps.0
     ∙ (c.requires.stands.follows.held.each c.args.entry.process c.in-Some.proc
     (sym c.pick.ensures.proc ∙ c.in-Some.is)).number in
     let made : EventMade x c.args.entry.process e c.hand_in.new.self.kernel =

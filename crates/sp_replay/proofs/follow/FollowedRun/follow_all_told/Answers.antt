@@ -20,22 +20,22 @@ loop-index-init c = record {
       c.requires.empty;
 }
 
-pub returns-in_default-clause-err : goal.returns-in_default-clause-err
-returns-in_default-clause-err c =
+pub returns-in_default-told-clause-err : goal.returns-in_default-told-clause-err
+returns-in_default-told-clause-err c =
     let x = c.loop-index.self.kernel in
     let i = c.loop-index.invariant in
     subst (λ (g : CodeRun). IsUnfitAt g c.args.entries.now c.loop-index.index) i.code_run
     (unfit (code_run_of x) c.args.entries.now c.loop-index.index _ (system_of x)
     (at_or c.args.entries.now c.loop-index.index _ c.loop-index-test.true)
     (subst (λ (es : _). IsSystem plain (code_run_of x) es (system_of x)) i.entries (is_system x i.stands.follows.come))
-    (of_none c.in_ok-told.field-0 _ _ c.in_ok-told.ensures (none_of c.in_ok-told.field-0 c.in_default.not-Some)))
+    (of_none c.in-Ok.told _ _ c.in-Ok.ensures (none_of c.in-Ok.told c.in_default-told.not-Some)))
 
 pub loop-index-preserved : goal.loop-index-preserved
 loop-index-preserved c =
     let x = c.loop-index.self.kernel in
     let i = c.loop-index.invariant in
     let y = c.follow_told.new.self.kernel in
-    let r = of_some c.in_ok-told.field-0 _ _ c.in-Some.told c.in_ok-told.ensures c.in-Some.is in
+    let r = of_some c.in-Ok.told _ _ c.in-Some.told c.in-Ok.ensures c.in-Some.is in
     record {
       stands = r.0;
       code_run = r.1.made.code_run ∙ i.code_run;
@@ -43,6 +43,6 @@ loop-index-preserved c =
           c.loop-index-test.true;
       told = subst (λ (ws : List Told). DescribesEntries (code_run_of c.args.self.now.kernel) y.journal.entries ws
           (system_of y))
-          (sym c.in_ok-keep.ensures)
+          (sym c.in-Ok-keep.ensures)
           (told_more (code_run_of c.args.self.now.kernel) x y _ c.in-Some.told c.loop-index.out i.code_run r.1 i.told);
     }

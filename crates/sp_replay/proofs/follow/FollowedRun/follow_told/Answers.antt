@@ -30,24 +30,24 @@ turned-requires-clause-safe c =
 pub told-requires-clause-hand : goal.told-requires-clause-hand
 told-requires-clause-hand c =
     in_hand c.args.self.now (record { kernel = c.args.self.now.kernel; held = c.pick.new.held }) c.args.code.now
-    c.args.limits.now c.args.entry.process c.in-Some.proc c.in_ok-handed.handed c.requires.stands refl
-    (sym c.pick.ensures.proc ∙ c.in-Some.is) c.pick.ensures.others c.in_ok-handed.ensures
+    c.args.limits.now c.args.entry.process c.in-Some.proc c.in-Ok.value c.requires.stands refl
+    (sym c.pick.ensures.proc ∙ c.in-Some.is) c.pick.ensures.others c.in-Ok.ensures
 
 pub hand_in-requires-clause-hand : goal.hand_in-requires-clause-hand
 hand_in-requires-clause-hand c =
     in_hand c.args.self.now (record { kernel = c.args.self.now.kernel; held = c.pick.new.held }) c.args.code.now
-    c.args.limits.now c.args.entry.process c.in-Some.proc c.in_ok-handed.handed c.requires.stands refl
-    (sym c.pick.ensures.proc ∙ c.in-Some.is) c.pick.ensures.others c.in_ok-handed.ensures
+    c.args.limits.now c.args.entry.process c.in-Some.proc c.in-Ok.value c.requires.stands refl
+    (sym c.pick.ensures.proc ∙ c.in-Some.is) c.pick.ensures.others c.in-Ok.ensures
 
 pub newest-requires : goal.newest-requires
-newest-requires c = let (_, (_, event_made)) = c.in_ok-hand_in.ensures in
+newest-requires c = let (_, (_, event_made)) = c.in-Ok-hand_in.ensures in
     (c.args.self.now.kernel.journal.entries, _, event_made.entries)
 
 pub returns : goal.returns
 returns c =
     let x = c.args.self.now.kernel in
-    let (s, (e, event_made)) = c.in_ok-hand_in.ensures in
-    let number : c.in_ok-handed.handed.proc.number ≡ c.args.entry.process = c.in_ok-handed.ensures.keeps.0
+    let (s, (e, event_made)) = c.in-Ok-hand_in.ensures in
+    let number : c.in-Ok.value.proc.number ≡ c.args.entry.process = c.in-Ok.ensures.keeps.0
     ∙ (c.requires.stands.follows.held.each c.args.entry.process c.in-Some.proc
     (sym c.pick.ensures.proc ∙ c.in-Some.is)).number in
     let made : EventMade x c.args.entry.process e c.hand_in.new.self.kernel =
@@ -56,8 +56,8 @@ returns c =
     let out = c.requires.stands.follows.held.each c.args.entry.process c.in-Some.proc
     (sym c.pick.ensures.proc ∙ c.in-Some.is) in
     let all = told_if_same x c.args.code.now c.args.limits.now c.requires.run c.args.entry c.in-Some.proc out
-    c.in_ok-handed.handed c.in_ok-handed.ensures c.is_same-same.result c.in_ok-told.told c.hand_in.new.self
-    c.in_ok-told.ensures
+    c.in-Ok.value c.in-Ok.ensures c.is_same-same.result c.in-Ok-told.value c.hand_in.new.self
+    c.in-Ok-told.ensures
     (compared c.is_same-same.result c.newest.result x c.hand_in.new.self c.args.entry e s made newest
     c.is_same-same.ensures) in
     subst (λ o. MatchOption o (CannotCome x c.args.entry)

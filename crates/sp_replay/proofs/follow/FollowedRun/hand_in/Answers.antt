@@ -9,11 +9,11 @@ use Rattle.sp_replay.proofs.follow.FollowedRun.hand_in.Goals as goal
 
 pub take_ready-requires : goal.take_ready-requires
 take_ready-requires c =
-    let e = c.in_ok-taken.ensures in
-    let k = c.in_ok-keep.ensures in
+    let e = c.in-Ok.ensures in
+    let k = c.in-Ok-keep.ensures in
     follows_same c.exchange.new.self.kernel c.keep.new.self.kernel
-    (with_taken c.in_ok-taken.taken (held_at c.args.self.now.held)) (held_at c.keep.new.self.held) k.kernel
-    (λ q. k.held q ∙ ap (λ h. with_taken c.in_ok-taken.taken (held_at h) q) e.held) e.exchanged.follows
+    (with_taken c.in-Ok.value (held_at c.args.self.now.held)) (held_at c.keep.new.self.held) k.kernel
+    (λ q. k.held q ∙ ap (λ h. with_taken c.in-Ok.value (held_at h) q) e.held) e.exchanged.follows
 
 then_made : {X E : Type 0} (r : Result X E) (x y : Kernel) (p : _) (e : Event) (f : FollowedRun) → EventMade x p e y
     → OnOk r (HoldsAllReady f × SameRun y f.kernel)
@@ -23,6 +23,6 @@ then_made (Err v) x y p e f m s = s
 
 pub returns : goal.returns
 returns c = then_made c.take_ready.result c.args.self.now.kernel c.keep.new.self.kernel c.args.handed.proc.number
-    c.in_ok-taken.ensures.exchanged.event c.take_ready.new.self
-    (subst (EventMade c.args.self.now.kernel c.args.handed.proc.number c.in_ok-taken.ensures.exchanged.event)
-    (sym c.in_ok-keep.ensures.kernel) c.in_ok-taken.ensures.exchanged.made) c.take_ready.ensures
+    c.in-Ok.ensures.exchanged.event c.take_ready.new.self
+    (subst (EventMade c.args.self.now.kernel c.args.handed.proc.number c.in-Ok.ensures.exchanged.event)
+    (sym c.in-Ok-keep.ensures.kernel) c.in-Ok.ensures.exchanged.made) c.take_ready.ensures

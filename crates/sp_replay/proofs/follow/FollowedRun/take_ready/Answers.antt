@@ -20,7 +20,7 @@ loop-proc-preserved c =
     let y = c.take.new.self in
     let n = take_more x y c.loop-proc.self.held c.hold.new.held c.in-Some.proc c.loop-proc.invariant.follows
     (subst (Takes x 0 y) c.in-Some.is c.take.ensures)
-    (λ q. c.in_ok-hold.ensures q ∙ ap (λ n. at_key ◌==◌ n (Some c.in-Some.proc) (held_at c.loop-proc.self.held) q)
+    (λ q. c.in-Ok.ensures q ∙ ap (λ n. at_key ◌==◌ n (Some c.in-Some.proc) (held_at c.loop-proc.self.held) q)
     c.number.ensures) in
     record { follows = n.0; same = same_again c.args.self.now.kernel x y c.loop-proc.invariant.same n.1 }
 
@@ -30,7 +30,7 @@ loop-proc-smaller c =
     let y = c.take.new.self in
     (take_more x y c.loop-proc.self.held c.hold.new.held c.in-Some.proc c.loop-proc.invariant.follows
     (subst (Takes x 0 y) c.in-Some.is c.take.ensures)
-    (λ q. c.in_ok-hold.ensures q ∙ ap (λ n. at_key ◌==◌ n (Some c.in-Some.proc) (held_at c.loop-proc.self.held) q)
+    (λ q. c.in-Ok.ensures q ∙ ap (λ n. at_key ◌==◌ n (Some c.in-Some.proc) (held_at c.loop-proc.self.held) q)
     c.number.ensures)).2
 
 pub returns : goal.returns
