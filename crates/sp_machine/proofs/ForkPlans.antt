@@ -23,7 +23,7 @@ use Rattle.sp_code.specs.Memory.{Frame as PlainFrame, CodeRun}
 use Rattle.sp_code.specs.PlainStore.{plain}
 use Rattle.sp_code.specs.Sound.{CanSplit, run_of}
 use Rattle.sp_code.specs.System.{handing_of, index_by, plan_from, child_or, with_index_frame}
-use Rattle.sp_code.specs.Tables.{child_at}
+use Rattle.sp_code.specs.Tables.{child_at, child_by, first_index, index_of}
 use Rattle.sp_store.specs.Layout.{FramesBelow}
 use Rattle.sp_machine.specs.declared.state.State.{State}
 use Rattle.sp_machine.specs.Children.{index_with_value, handed_to, with_frame, IsBornSo, BornOf, AreBornSo, IsNewborn}
@@ -66,6 +66,18 @@ pub plan_end : (ls : List Layout) (fs : List PlainFrame) (t : ForkTable) (v : �
 plan_end ls fs t v k count found h =
     let none : count - k ≡ 0 = omega (arith, h) in
     ap (λ n. found ++ plan_from ls fs t v k n) none ∙ append-nil found
+
+-- the children of a forall are handed the same, except for the value of their index
+pub alike : (ls : List Layout) (fs : List PlainFrame) (t : ForkTable) (x : ℕ) (h : Handing) (w : ℤ)
+    → index_of t ≡ Some x → h ≡ handed_to ls fs w (child_or (child_at t 0)) → (k : ℕ) (v : ℤ)
+    → record h { index = Some (0, v) } ≡ handed_to ls fs v (child_or (child_at t k))
+alike ls fs t x h w e is k v = ap (λ (y : Handing). record y { index = Some (0, v) }) is ∙ of_children t.children e
+  where
+    of_children : (cs : List ChildTable) → first_index cs ≡ Some x
+        → record (handed_to ls fs w (child_or (child_by cs (first_index cs) 0))) { index = Some (0, v) }
+        ≡ handed_to ls fs v (child_or (child_by cs (first_index cs) k))
+    of_children [] e = absurd (cc e)
+    of_children (c ∷ cs) e = rw e refl
 
 pub length_plan : (ls : List Layout) (fs : List PlainFrame) (t : ForkTable) (v : ℤ) (k n : ℕ)
     → length (plan_from ls fs t v k n) ≡ n

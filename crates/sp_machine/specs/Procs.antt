@@ -2,13 +2,14 @@
 -- A process in memory as the definitions see it, and what one instruction and one turn of it do. Each instruction's
 -- contract here is `StepMatches` of the definition's instruction, and the kernel and the runner cite the turn.
 use Rattle.std.specs.Prelude.{◌≡◌, ◌≢◌, ℕ, ◌+◌, ◌≤◌, ℤ, pos, ◌+ℤ◌, ◌≤ℤ◌, List, Option, Some, None, Bool, not}
-use Rattle.std.specs.Prelude.{if◌then◌else◌, ◌⊎◌, slice_get}
+use Rattle.std.specs.Prelude.{true, false, if◌then◌else◌, ◌⊎◌, slice_get}
 use Rattle.sp_base.specs.declared.fault.Fault.{Fault}
 use Rattle.sp_base.specs.declared.limits.Limits.{Limits}
 use Rattle.sp_cell.specs.declared.spot.Address.{Address}
 use Rattle.sp_cell.specs.Map.{Plain}
 use Rattle.sp_code.specs.declared.code.Parts.{Parts}
 use Rattle.sp_code.specs.declared.instr.Instr.{Instr}
+use Rattle.sp_code.specs.declared.instr.Instr.TheVariants as instr
 use Rattle.sp_code.specs.Machine as m
 pub use Rattle.sp_code.specs.Formals.{HasRoom, BeginsWithFormals, HaveFormals}
 use Rattle.sp_code.specs.Turns.{Turn, Stopped, Faulted, IsTurn, IsSafe}
@@ -67,6 +68,11 @@ abbrev pub equality_step : Bool → State → Parts → Limits → m.StepResult 
 equality_step different p code lim = m.on_equals (entries_of p.stack)
     (λ b st. m.truth_step (memory plain (code_run_of p code lim)) code (if different then not b else b) (p.pc + 1) st
     (memory_of p))
+
+-- whether nothing is left of the line, or of the input
+abbrev pub over_step : (line : Bool) → State → Parts → Limits → m.StepResult (Memory Plain)
+over_step false p code lim = does (Some instr.Eof) p code lim
+over_step true p code lim = does (Some instr.Eoln) p code lim
 
 -- the process keeps its number and its input
 abbrev pub KeepsNumberAndInput : State → State → Type 0

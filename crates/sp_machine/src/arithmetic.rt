@@ -80,14 +80,14 @@ impl State {
             (entries_of self.old.stack) (memory_of self.old)) self.old self.new s) }
         ensures same { KeepsNumberAndInput self.old self.new }
     {
-        match self.stack.pop_number() {
+        match self.stack.top_number() {
             Some(n) => match convert(conversion, n) {
                 Ok(value) => {
-                    have!(self.stack.push(Operand::Number(value)));
+                    self.stack.put(Operand::Number(value));
                     self.pc += 1;
                     Ok(None)
                 }
-                Err(fault) => self.fail(Operand::Number(n), fault),
+                Err(fault) => Ok(Some(Interrupt::Fault(fault))),
             },
             None => unreachable!(),
         }

@@ -1,7 +1,7 @@
 //! Forks: what a process hands to its children, and how the children begin.
 
 ghost use Rattle.std.specs.Prelude.{◌≡◌, ℕ, ◌+◌, ◌<◌, ◌≤◌, IfOk, OnOk, OnErr, IsSome, pos, ◌+ℤ◌, ◌≤ℤ◌, length, get_or};
-ghost use Rattle.std.specs.Prelude.{take, slice_get, ◌≢◌};
+ghost use Rattle.std.specs.Prelude.{take, ◌≢◌, ℤ, Some, IfSome};
 ghost use Rattle.std.specs.Option.{option_copied};
 ghost use Rattle.sp_cell.specs.declared.spot.Handing.{Handing};
 ghost use Rattle.sp_cell.specs.Map.{Plain};
@@ -10,10 +10,10 @@ ghost use Rattle.sp_cell.specs.Frame.{least_above, frames};
 ghost use Rattle.sp_code.specs.PlainStore.{plain};
 ghost use Rattle.sp_code.specs.Sound.{HasDistinctBlocks, CanSplit};
 ghost use Rattle.sp_code.specs.System.{place_of, first_number, spot_by, spot_in, spot_from, spot_of, spots_of};
-ghost use Rattle.sp_code.specs.System.{plan_from, child_or, table_or};
+ghost use Rattle.sp_code.specs.System.{plan_from, child_or};
 ghost use Rattle.sp_code.specs.Tables.{child_at};
 ghost use Rattle.sp_store.specs.Layout.{FramesBelow};
-ghost use Rattle.sp_machine.specs.Children.{handed_to, with_frame, IsBornSo, AreBornSo, AreNewborn, plan_by};
+ghost use Rattle.sp_machine.specs.Children.{handed_to, with_frame, IsBornSo, AreBornSo, AreNewborn};
 ghost use Rattle.sp_machine.specs.declared.state.State.{State};
 ghost use Rattle.sp_machine.specs.Frames.{frame_of, home_of, plain_frames};
 ghost use Rattle.sp_machine.specs.Seen.{IsSeen};
@@ -239,6 +239,66 @@ fn handing_of(
     }
 }
 
+/// What each child of a forall is handed, except for the value of its index: they are all handed the same, so it is
+/// looked for once. None for a parallel.
+#[tactic(auto, using(crate::proofs::ForkPlans::alike))]
+fn handed_alike(
+    alloc: Global,
+    frames: &Frames,
+    code: &Code,
+    seen: &Option<BTreeMap<u32, Spot>>,
+    table: &ForkTable,
+) -> Result<Option<Handing>, Memory>
+    requires blocks { HasDistinctBlocks code.now.layouts }
+    requires seen { IsSeen code.now.layouts frames.now seen.now }
+    ensures { IfOk result (λ found. IfSome found (λ h. (k : ℕ) (v : ℤ) → record h { index = Some (0, v) }
+        ≡ handed_to code.now.layouts frames.now v (child_or (child_at table.now k)))) }
+{
+    match table.index() {
+        Some(_) => {
+            let child = table.child(0);
+            let handing = have!(handing_of(alloc, frames, code, seen, 0, child));
+            Ok(Some(handing))
+        }
+        None => Ok(None),
+    }
+}
+
+/// What one child is handed: the same as all others, with this value of the index, where they are handed alike.
+fn handing_at(
+    alloc: Global,
+    frames: &Frames,
+    code: &Code,
+    seen: &Option<BTreeMap<u32, Spot>>,
+    alike: &Option<Handing>,
+    table: &ForkTable,
+    value: i64,
+    number: u32,
+) -> Result<Handing, Memory>
+    requires blocks { HasDistinctBlocks code.now.layouts }
+    requires seen { IsSeen code.now.layouts frames.now seen.now }
+    requires alike { IfSome alike.now (λ h. (k : ℕ) (v : ℤ) → record h { index = Some (0, v) }
+        ≡ handed_to code.now.layouts frames.now v (child_or (child_at table.now k))) }
+    ensures { IfOk result (λ h. h ≡ handed_to code.now.layouts frames.now value
+        (child_or (child_at table.now number))) }
+{
+    match alike {
+        Some(handing) => {
+            let moved = have!(Vec::from_slice(alloc, handing.moved.items()));
+            let shared = have!(Vec::from_slice(alloc, handing.shared.items()));
+            Ok(Handing {
+                moved: List::of(moved),
+                shared: List::of(shared),
+                index: Some((0, value)),
+            })
+        }
+        None => {
+            let child = table.child(u64::from(number));
+            handing_of(alloc, frames, code, seen, value, child)
+        }
+    }
+}
+
 impl State {
     /// What the children of the fork are handed at which the process stopped.
     #[tactic(auto, using(crate::proofs::ForkPlans::plan_more, crate::proofs::ForkPlans::plan_end))]
@@ -250,11 +310,13 @@ impl State {
         let alloc = *self.text.allocator();
         let seen = have!(seen_by(alloc, &self.frames, code, table, count));
         let seen = &seen;
+        let alike = have!(handed_alike(alloc, &self.frames, code, seen, table));
+        let alike = &alike;
         let mut plan = List::new(alloc);
         for k in 0..count {
             let value = self.first + i64::from(k);
-            let child = table.child(u64::from(k));
-            let handing = have!(handing_of(alloc, &self.frames, code, seen, value, child));
+            let frames = &self.frames;
+            let handing = have!(handing_at(alloc, frames, code, seen, alike, table, value, k));
             plan.push(handing)?;
         }
         Ok(plan)
@@ -353,7 +415,7 @@ impl State {
     }
 
     /// The children of the fork at which the process stopped, with the numbers from this one on.
-    fn split_by(
+    pub(crate) fn split_by(
         &mut self,
         code: &Code,
         table: &ForkTable,
@@ -380,35 +442,6 @@ impl State {
         let stores = have!(self.store.split(&plan));
         give_stores(&mut children, stores);
         Ok(List::of(children))
-    }
-
-    /// The children of the fork at which the process stopped.
-    pub(crate) fn split(
-        &mut self,
-        code: &Code,
-        count: u32,
-        number: u32,
-    ) -> Result<List<Proc>, Memory>
-        requires blocks { HasDistinctBlocks code.now.layouts }
-        requires values { (self.old.first +ℤ pos count) ≤ℤ pos 9223372036854775808 }
-        requires deeper { self.old.depth + 1 ≤ 4294967295 }
-        requires numbers { number + count ≤ 4294967295 }
-        requires can { CanSplit self.old.store (plan_by code.now self.old count) }
-        ensures children { IfOk result (λ cs. AreNewborn code.now self.old
-            (table_or (slice_get code.now.forks self.old.table)) number count cs) }
-        ensures parent { OnOk result (self.new
-            ≡ record self.old { store = plain.handed self.old.store (plan_by code.now self.old count) }) }
-        ensures err { OnErr result (self.new ≡ self.old) }
-    {
-        match code.table(self.table) {
-            Some(table) => self.split_by(code, table, count, number),
-            None => {
-                let table = ForkTable {
-                    children: List::new(*self.text.allocator()),
-                };
-                self.split_by(code, &table, count, number)
-            }
-        }
     }
 }
 

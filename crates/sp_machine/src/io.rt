@@ -5,13 +5,13 @@ ghost use Rattle.std.specs.Prelude.{if◌then◌else◌};
 ghost use Rattle.sp_tree.specs.Items.{right_justified};
 ghost use Rattle.sp_cell.specs.declared.cell.Cell.TheVariants.{Ordinal};
 ghost use Rattle.sp_cell.specs.Map.{HasCells};
-ghost use Rattle.sp_code.specs.Machine.{Stuck, reads, writes, writes_wide};
+ghost use Rattle.sp_code.specs.Machine.{Stuck, reads, writes, writes_wide, prints};
 ghost use Rattle.sp_code.specs.Memory.{memory, is_held, left_after, position_in, position_at, or_zero, put_cell};
 ghost use Rattle.sp_code.specs.PlainStore.{plain};
 ghost use Rattle.sp_code.specs.declared.instr.Instr.TheVariants as instr;
 ghost use Rattle.sp_values.specs.ReadResults.{read_result_of};
 ghost use Rattle.sp_machine.specs.StackEntries.{entries_of};
-ghost use Rattle.sp_machine.specs.Procs.{does, CameBy, KeepsNumberAndInput, code_run_of, memory_of};
+ghost use Rattle.sp_machine.specs.Procs.{does, over_step, CameBy, KeepsNumberAndInput, code_run_of, memory_of};
 ghost use Rattle.sp_machine.specs.Texts.{item_in, text_of, is_cut, Emits};
 
 use crate::have;
@@ -266,37 +266,24 @@ impl State {
         Ok(None)
     }
 
-    // Whether nothing is left of the input.
-    pub(crate) fn is_input_over(
+    // Whether nothing is left of the line, or of the input.
+    pub(crate) fn is_over(
         &mut self,
+        line: bool,
         code: &Code,
         limits: &Limits,
     ) -> Result<Option<Interrupt>, Memory>
         requires next { self.old.pc + 1 < 4294967296 }
-        requires safe { does (Some instr.Eof) self.old code.now limits.now ≢ Stuck }
-        ensures came { IfOk result (λ s. CameBy (does (Some instr.Eof) self.old code.now limits.now) self.old self.new
-            s) }
+        requires safe { over_step line self.old code.now limits.now ≢ Stuck }
+        ensures came { IfOk result (λ s. CameBy (over_step line self.old code.now limits.now) self.old self.new s) }
         ensures same { KeepsNumberAndInput self.old self.new }
     {
-        let over = self.left().len() == 0;
-        have!(self.stack.push(Operand::Number(truth_of(over))));
-        self.pc += 1;
-        Ok(None)
-    }
-
-    // Whether nothing is left of the line.
-    pub(crate) fn is_line_over(
-        &mut self,
-        code: &Code,
-        limits: &Limits,
-    ) -> Result<Option<Interrupt>, Memory>
-        requires next { self.old.pc + 1 < 4294967296 }
-        requires safe { does (Some instr.Eoln) self.old code.now limits.now ≢ Stuck }
-        ensures came { IfOk result (λ s. CameBy (does (Some instr.Eoln) self.old code.now limits.now) self.old self.new
-            s) }
-        ensures same { KeepsNumberAndInput self.old self.new }
-    {
-        let over = is_at_line_end(self.left());
+        let left = self.left();
+        let over = if line {
+            is_at_line_end(left)
+        } else {
+            left.is_empty()
+        };
         have!(self.stack.push(Operand::Number(truth_of(over))));
         self.pc += 1;
         Ok(None)
@@ -381,6 +368,29 @@ impl State {
         }
     }
 
+    // Writes bytes.
+    pub(crate) fn print(
+        &mut self,
+        text: &[u8],
+        code: &Code,
+        limits: &Limits,
+    ) -> Result<Option<Interrupt>, Memory>
+        requires next { self.old.pc + 1 < 4294967296 }
+        requires safe { prints (memory plain (code_run_of self.old code.now limits.now)) code.now text.now
+            (self.old.pc + 1)
+            (entries_of self.old.stack) (memory_of self.old) ≢ Stuck }
+        ensures came { IfOk result (λ s. CameBy
+            (prints (memory plain (code_run_of self.old code.now limits.now)) code.now text.now (self.old.pc + 1)
+            (entries_of self.old.stack) (memory_of self.old)) self.old self.new s) }
+        ensures same { KeepsNumberAndInput self.old self.new }
+    {
+        if !have!(emit(&mut self.store, 0, text, limits)) {
+            return Ok(Some(Interrupt::Fault(Fault::F16)));
+        }
+        self.pc += 1;
+        Ok(None)
+    }
+
     // Writes a text.
     pub(crate) fn write_text(
         &mut self,
@@ -395,13 +405,7 @@ impl State {
         ensures same { KeepsNumberAndInput self.old self.new }
     {
         match code.text(number) {
-            Some(text) => {
-                if !have!(emit(&mut self.store, 0, text.bytes(), limits)) {
-                    return Ok(Some(Interrupt::Fault(Fault::F16)));
-                }
-                self.pc += 1;
-                Ok(None)
-            }
+            Some(text) => self.print(text.bytes(), code, limits),
             None => unreachable!(),
         }
     }
@@ -441,24 +445,5 @@ impl State {
             },
             None => unreachable!(),
         }
-    }
-
-    // Writes a line feed.
-    pub(crate) fn new_line(
-        &mut self,
-        code: &Code,
-        limits: &Limits,
-    ) -> Result<Option<Interrupt>, Memory>
-        requires next { self.old.pc + 1 < 4294967296 }
-        requires safe { does (Some instr.Writeln) self.old code.now limits.now ≢ Stuck }
-        ensures came { IfOk result (λ s. CameBy (does (Some instr.Writeln) self.old code.now limits.now) self.old
-            self.new s) }
-        ensures same { KeepsNumberAndInput self.old self.new }
-    {
-        if !have!(emit(&mut self.store, 0, b"\n", limits)) {
-            return Ok(Some(Interrupt::Fault(Fault::F16)));
-        }
-        self.pc += 1;
-        Ok(None)
     }
 }

@@ -20,7 +20,7 @@ use crate::stack::Stack;
 use crate::state::{State, Stop};
 use sp_base::{Limits, List, Memory, Text};
 use sp_cell::{Address, Cell, Spot};
-use sp_code::Code;
+use sp_code::{Code, ForkTable};
 use sp_store::Store;
 use std::alloc::Global;
 use std::marker::Model;
@@ -59,15 +59,16 @@ pub enum Answer {
 impl Proc {
     /// Process 0 of a run of the code on an input. It has the frame of the program, and is at its first instruction.
     /// All cells of that frame are taken here: who calls it asks `first_fits` before.
+    #[tactic(auto, using(crate::proofs::LayoutLookups::few_sizes))]
     pub fn root(alloc: Global, code: &Code, input: Arc<Text>) -> Result<Proc, Memory>
         requires { HasDistinctBlocks code.now.layouts }
         ensures config { IfOk result (λ p. config_of p ≡ start_of code.now input.value) }
         ensures same { IfOk result (λ p. (p.number ≡ 0) × (p.input ≡ input)) }
     {
-        let state = have!(State::root(alloc, code, input));
-        match Proc::boxed(alloc, state) {
-            Ok(proc) => Ok(proc),
-            Err(e) => Err(e),
+        let _parts = code.parts();
+        match layout_of(code, 0) {
+            Some(layout) => Proc::begin(alloc, layout.entry, layout.sizes.items(), input),
+            None => Proc::begin(alloc, 0, &[], input),
         }
     }
 
@@ -129,11 +130,23 @@ impl Proc {
     }
 
     /// The process gets what it waits for: a channel or a message goes to its target.
+    #[tactic(auto, using(sp_code::proofs::StoreLaws::cells_same, sp_cell::proofs::Laws::piece_of_own))]
     pub fn resume(&mut self, answer: Answer)
         requires { CanResume answer self.old }
         ensures { self.new ≡ state_after_answer answer self.old }
     {
-        self.state.resume(answer);
+        let state = &mut *self.state;
+        match answer {
+            Answer::Opened(channel) => match state
+                .store
+                .store(state.target, Cell::Channel(channel))
+            {
+                Ok(()) => {}
+                Err(_) => unreachable!(),
+            },
+            Answer::Received(cells) => state.store.put(state.target, &cells),
+            Answer::Sent | Answer::Joined => {}
+        }
     }
 
     /// The children of the fork at which the process stopped, with the numbers from `number` on. What the fork's table
@@ -150,7 +163,15 @@ impl Proc {
             ≡ record self.old { store = plain.handed self.old.store (plan_by code.now self.old count) }) }
         ensures err { OnErr result (self.new ≡ self.old) }
     {
-        self.state.split(code, count, number)
+        match code.table(self.state.table) {
+            Some(table) => self.state.split_by(code, table, count, number),
+            None => {
+                let table = ForkTable {
+                    children: List::new(*self.state.text.allocator()),
+                };
+                self.state.split_by(code, &table, count, number)
+            }
+        }
     }
 
     /// Takes back from a child that has ended what moved to it.
@@ -159,54 +180,14 @@ impl Proc {
         ensures { self.new ≡ record self.old { store = plain.joined self.old.store child.store } }
     {
         let Proc { state } = child;
-        self.state.join(Box::into_inner(state));
+        let State { store, .. } = Box::into_inner(state);
+        self.state.store.join(store);
     }
 }
 
 impl Proc {
-    /// A process with this state.
-    pub(crate) fn boxed(alloc: Global, state: State) -> Result<Proc, Memory>
-        ensures { IfOk result (λ p. p ≡ state) }
-    {
-        Ok(Proc {
-            state: Box::new(alloc, state)?,
-        })
-    }
-}
-
-impl Proc {
-    /// All that it is.
-    pub(crate) fn state(&self) -> &State
-        ensures { result.now ≡ self.now }
-    {
-        &self.state
-    }
-
-    /// Puts another store in place of its own.
-    pub(crate) fn put_store(&mut self, store: Store)
-        ensures { self.new ≡ record self.old { store = store } }
-    {
-        self.state.store = store;
-    }
-}
-
-impl State {
-    /// The state of process 0.
-    #[tactic(auto, using(crate::proofs::LayoutLookups::few_sizes))]
-    fn root(alloc: Global, code: &Code, input: Arc<Text>) -> Result<State, Memory>
-        requires { HasDistinctBlocks code.now.layouts }
-        ensures config { IfOk result (λ p. config_of p ≡ start_of code.now input.value) }
-        ensures same { IfOk result (λ p. (p.number ≡ 0) × (p.input ≡ input)) }
-    {
-        let _parts = code.parts();
-        match layout_of(code, 0) {
-            Some(layout) => State::begin(alloc, layout.entry, layout.sizes.items(), input),
-            None => State::begin(alloc, 0, &[], input),
-        }
-    }
-
     /// Process 0 at an instruction, with the program's frame.
-    fn begin(alloc: Global, entry: u32, sizes: &[u32], input: Arc<Text>) -> Result<State, Memory>
+    fn begin(alloc: Global, entry: u32, sizes: &[u32], input: Arc<Text>) -> Result<Proc, Memory>
         requires { length sizes.now ≤ 4294967294 }
         ensures config { IfOk result (λ p. config_of p
             ≡ At entry [] (record {
@@ -233,7 +214,7 @@ impl State {
             },
         ));
         let store = have!(Store::root(alloc, sizes));
-        Ok(State {
+        let state = State {
             number: 0,
             pc: entry,
             stack: Stack::new(alloc),
@@ -255,29 +236,32 @@ impl State {
             first: 0,
             text: Vec::new(alloc),
             stopped: Stop::End,
+        };
+        Proc::boxed(alloc, state)
+    }
+
+    /// A process with this state.
+    pub(crate) fn boxed(alloc: Global, state: State) -> Result<Proc, Memory>
+        ensures { IfOk result (λ p. p ≡ state) }
+    {
+        Ok(Proc {
+            state: Box::new(alloc, state)?,
         })
     }
+}
 
-    #[tactic(auto, using(sp_code::proofs::StoreLaws::cells_same, sp_cell::proofs::Laws::piece_of_own))]
-    fn resume(&mut self, answer: Answer)
-        requires { CanResume answer self.old }
-        ensures { self.new ≡ state_after_answer answer self.old }
+impl Proc {
+    /// All that it is.
+    pub(crate) fn state(&self) -> &State
+        ensures { result.now ≡ self.now }
     {
-        match answer {
-            Answer::Opened(channel) => match self.store.store(self.target, Cell::Channel(channel)) {
-                Ok(()) => {}
-                Err(_) => unreachable!(),
-            },
-            Answer::Received(cells) => self.store.put(self.target, &cells),
-            Answer::Sent | Answer::Joined => {}
-        }
+        &self.state
     }
 
-    fn join(&mut self, child: State)
-        requires { CanJoin self.old.store child.store }
-        ensures { self.new ≡ record self.old { store = plain.joined self.old.store child.store } }
+    /// Puts another store in place of its own.
+    pub(crate) fn put_store(&mut self, store: Store)
+        ensures { self.new ≡ record self.old { store = store } }
     {
-        let State { store, .. } = child;
-        self.store.join(store);
+        self.state.store = store;
     }
 }

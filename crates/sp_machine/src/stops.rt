@@ -142,28 +142,28 @@ impl State {
                     return Ok(Some(Interrupt::Fault(Fault::F11)));
                 }
                 let count = count_children(forks);
-                self.stop_at_fork(table, count);
+                self.stop_at_fork(table, 0, count);
                 Ok(Some(Interrupt::Stop))
             }
             None => unreachable!(),
         }
     }
 
-    /// Stops at a fork of so many children, each with its own table.
-    fn stop_at_fork(&mut self, table: u32, count: u64)
+    /// Stops at a fork of so many children, of which the first has this value.
+    fn stop_at_fork(&mut self, table: u32, first: i64, count: u64)
         requires next { self.old.pc + 1 < 4294967296 }
         requires deeper { self.old.depth + 1 ≤ 4294967295 }
-        requires values { (pos 0 +ℤ pos count) ≤ℤ pos 9223372036854775808 }
-        ensures stop { StopIs self.new.stopped self.new (Forks table (pos 0) count) }
+        requires values { (first +ℤ pos count) ≤ℤ pos 9223372036854775808 }
+        ensures stop { StopIs self.new.stopped self.new (Forks table first count) }
         ensures config { config_of self.new ≡ At (self.old.pc + 1) (entries_of self.old.stack) (memory_of self.old) }
         ensures same { KeepsNumberAndInput self.old self.new }
     {
         self.table = table;
-        self.first = 0;
+        self.first = first;
         self.pc += 1;
         self.stopped = Stop::Fork {
             table,
-            first: 0,
+            first,
             count,
         };
     }
@@ -181,6 +181,7 @@ impl State {
             self.new s) }
         ensures same { KeepsNumberAndInput self.old self.new }
     {
+        let most = limits.depth;
         match self.stack.pop_number() {
             Some(last) => match self.stack.pop_number() {
                 Some(first) => {
@@ -188,7 +189,7 @@ impl State {
                         self.pc += 1;
                         return Ok(None);
                     }
-                    if self.depth >= limits.depth {
+                    if self.depth >= most {
                         return self.fail_both(
                             Operand::Number(first),
                             Operand::Number(last),
@@ -196,14 +197,7 @@ impl State {
                         );
                     }
                     let count = count_values(first, last);
-                    self.table = table;
-                    self.first = first;
-                    self.pc += 1;
-                    self.stopped = Stop::Fork {
-                        table,
-                        first,
-                        count,
-                    };
+                    self.stop_at_fork(table, first, count);
                     Ok(Some(Interrupt::Stop))
                 }
                 None => unreachable!(),

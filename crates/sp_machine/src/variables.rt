@@ -16,8 +16,12 @@ use sp_code::Code;
 fn beyond(offset: u32, place: u64, size: u32) -> Option<u32>
     ensures { MatchOption result (4294967296 ≤ offset + place * size) (λ r. r ≡ offset + place * size) }
 {
-    let cells = place.checked_mul(u64::from(size))?;
-    let all = cells.checked_add(u64::from(offset))?;
+    let Some(cells) = place.checked_mul(u64::from(size)) else {
+        return None;
+    };
+    let Some(all) = cells.checked_add(u64::from(offset)) else {
+        return None;
+    };
     u32::try_from(all).ok()
 }
 
@@ -111,14 +115,16 @@ impl State {
             self.new s) }
         ensures same { KeepsNumberAndInput self.old self.new }
     {
-        let Some(at) = self.stack.pop_pointer() else {
+        let Some(at) = self.stack.top_pointer() else {
             unreachable!()
         };
         let Some(offset) = at.offset.checked_add(cells) else {
             unreachable!()
         };
         let spot = at.spot;
-        self.push_on(Operand::Pointer(Address { spot, offset }))
+        self.stack.put(Operand::Pointer(Address { spot, offset }));
+        self.pc += 1;
+        Ok(None)
     }
 
     // The ordinal at an address.
@@ -155,12 +161,16 @@ impl State {
             s) }
         ensures same { KeepsNumberAndInput self.old self.new }
     {
-        let Some(at) = self.stack.pop_pointer() else {
+        let Some(at) = self.stack.top_pointer() else {
             unreachable!()
         };
         match self.store.load(at) {
-            Cell::Channel(channel) => self.push_on(Operand::Channel(channel)),
-            Cell::Undefined | Cell::Ordinal(_) => self.fail(Operand::Pointer(at), Fault::F5),
+            Cell::Channel(channel) => {
+                self.stack.put(Operand::Channel(channel));
+                self.pc += 1;
+                Ok(None)
+            }
+            Cell::Undefined | Cell::Ordinal(_) => Ok(Some(Interrupt::Fault(Fault::F5))),
         }
     }
 
