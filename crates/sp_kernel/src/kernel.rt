@@ -65,7 +65,6 @@ pub enum Seen {
 }
 
 /// The processes of a run by their numbers, the queue of those that are ready, the channels and the journal.
-#[derive(Drop)]
 pub struct Kernel {
     pub(crate) slots: List<Slot>,
     // The parent of each process; the first has none.
@@ -82,6 +81,26 @@ pub struct Kernel {
     pub(crate) limits: Limits,
     // The first process at its start, for contracts alone.
     pub(crate) root: Snapshot<Proc>,
+}
+
+// By hand, so that it is proved once, here, and not in each crate that drops a kernel.
+impl Drop for Kernel {
+    fn drop(self) {
+        let Kernel {
+            slots: _,
+            parents: _,
+            ready: _,
+            out: _,
+            channels: _,
+            journal: _,
+            entries: _,
+            faulted: _,
+            abandons: _,
+            code: _,
+            limits: _,
+            root: _,
+        } = self;
+    }
 }
 
 impl Kernel {
@@ -460,7 +479,20 @@ impl Kernel {
     pub(crate) fn into_journal(self) -> Journal
         ensures { result ≡ self.journal }
     {
-        let Kernel { journal, .. } = self;
+        let Kernel {
+            slots: _,
+            parents: _,
+            ready: _,
+            out: _,
+            channels: _,
+            journal,
+            entries: _,
+            faulted: _,
+            abandons: _,
+            code: _,
+            limits: _,
+            root: _,
+        } = self;
         journal
     }
 }

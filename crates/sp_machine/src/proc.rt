@@ -27,9 +27,15 @@ use std::marker::Model;
 use std::sync::Arc;
 
 /// A process: its state behind one box, so that it is handed on as one word. Contracts see the state.
-#[derive(Drop)]
 pub struct Proc {
     state: Box<State>,
+}
+
+// By hand, so that it is proved once, here, and not in each crate that drops a process.
+impl Drop for Proc {
+    fn drop(self) {
+        let Proc { state: _ } = self;
+    }
 }
 
 impl Model for Proc {
