@@ -14,7 +14,7 @@ use std::marker::Model;
 use std::mem;
 
 /// A `Vec` that contracts see as the list of its items.
-#[derive(Debug, Drop)]
+#[derive(Drop)]
 pub struct List<T> {
     inner: Vec<T>,
 }

@@ -18,7 +18,7 @@ use std::hash::{Hash, Hasher};
 use std::marker::Model;
 
 /// Bytes.
-#[derive(Debug, Drop)]
+#[derive(Drop)]
 pub struct Text {
     inner: Vec<u8>,
 }

@@ -1,7 +1,7 @@
 //! The smallest part of a variable: one cell.
 
 /// One cell of a variable. A boolean, a character or an enumerated value is kept as its ordinal number.
-#[derive(Clone, Copy, Debug, PartialEq, Eq)]
+#[derive(Clone, Copy, PartialEq, Eq)]
 pub enum Cell {
     /// Nothing was assigned yet.
     Undefined,

@@ -10,7 +10,7 @@ use std::alloc::Global;
 use std::marker::Model;
 
 /// The cells of one variable, which contracts see as a list. There are fewer than 2^32.
-#[derive(Debug, Drop)]
+#[derive(Drop)]
 pub struct Piece {
     inner: Vec<Cell>,
 }

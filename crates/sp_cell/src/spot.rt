@@ -3,7 +3,7 @@
 use sp_base::List;
 
 /// A variable of a frame. Spots are ordered by frame and then by variable.
-#[derive(Clone, Copy, Debug, PartialEq, Eq, PartialOrd, Ord)]
+#[derive(Clone, Copy, PartialEq, Eq, PartialOrd, Ord)]
 pub struct Spot {
     /// The number of the frame in its store.
     pub frame: u64,
@@ -12,7 +12,7 @@ pub struct Spot {
 }
 
 /// A cell of a variable.
-#[derive(Clone, Copy, Debug, PartialEq, Eq)]
+#[derive(Clone, Copy)]
 pub struct Address {
     pub spot: Spot,
     /// The number of the cell in the variable's piece, from 0.
@@ -20,7 +20,7 @@ pub struct Address {
 }
 
 /// What one child is handed at a fork.
-#[derive(Debug, Drop)]
+#[derive(Drop)]
 pub struct Handing {
     /// The variables that the child may change. They move to it until it is joined.
     pub moved: List<Spot>,

@@ -16,7 +16,7 @@ pub const MAX_CODE: usize = 1_048_576;
 pub const MAX_FRAME: usize = 4_294_967_294;
 
 /// How a block takes a parameter, and the cells of the parameter's type.
-#[derive(Clone, Copy, Debug)]
+#[derive(Clone, Copy)]
 pub enum Formal {
     /// By value: so many cells.
     Value(u32),
@@ -27,7 +27,7 @@ pub enum Formal {
 /// The frame of a block. It has the parameters first, in order, then the result where the block has one, then the local
 /// variables. The program's frame begins with the input as variable 0 and the output as variable 1, which are not
 /// listed.
-#[derive(Debug, Drop)]
+#[derive(Drop)]
 pub struct Layout {
     /// The number of the block.
     pub block: u32,
@@ -60,7 +60,7 @@ impl Layout {
 }
 
 /// What one child of a fork begins with. Variables have their numbers in the tree.
-#[derive(Debug, Drop)]
+#[derive(Drop)]
 pub struct ChildTable {
     /// The number of its first instruction.
     pub entry: u32,
@@ -73,7 +73,7 @@ pub struct ChildTable {
 }
 
 /// The children of a `parallel`, or the one child that each value of a `forall` gets.
-#[derive(Debug, Drop)]
+#[derive(Drop)]
 pub struct ForkTable {
     pub children: List<ChildTable>,
 }
@@ -102,7 +102,7 @@ impl ForkTable {
 }
 
 /// The parts that code is made of.
-#[derive(Debug, Drop)]
+#[derive(Drop)]
 pub struct Parts {
     pub instrs: List<Instr>,
     pub layouts: List<Layout>,
@@ -127,7 +127,6 @@ impl Parts {
 }
 
 /// Code for the stack machine. It never is larger than `Parts::keeps_sizes` says.
-#[derive(Debug)]
 pub struct Code {
     parts: Parts,
 }

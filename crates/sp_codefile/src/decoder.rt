@@ -21,7 +21,7 @@ use std::alloc::Global;
 use thiserror::Error;
 
 /// Why bytes are not read as code.
-#[derive(Clone, Copy, Debug, PartialEq, Eq, Error)]
+#[derive(Clone, Copy, Debug, Error)]
 pub enum DecodeError {
     /// This line, counted from 1, is the first with which the lines begin no code's text, or the next line, which is
     /// missing.

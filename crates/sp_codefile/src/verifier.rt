@@ -64,7 +64,7 @@ pub enum VRule {
 }
 
 /// Why code is not verified.
-#[derive(Clone, Copy, Debug, PartialEq, Eq, Error)]
+#[derive(Clone, Copy, Debug, Error)]
 pub enum Rejected {
     /// This is the first broken rule, and the least instruction at which it is broken.
     #[error("rule {0:?} is broken at instruction {1}")]
@@ -83,7 +83,7 @@ impl From<Memory> for Rejected {
 }
 
 /// Code that breaks no rule.
-#[derive(Debug, Drop)]
+#[derive(Drop)]
 pub struct Verified {
     code: Code,
 }

@@ -25,7 +25,7 @@ use std::alloc::Global;
 use thiserror::Error;
 
 /// Why there is no code.
-#[derive(Clone, Copy, Debug, PartialEq, Eq, Error)]
+#[derive(Clone, Copy, Debug, Error)]
 pub enum GenError {
     /// The code would have more than 1,048,576 instructions: so many, or 4,294,967,295 where they are more.
     #[error("code too long")]

@@ -36,7 +36,7 @@ use std::snapshot::Snapshot;
 use std::sync::Arc;
 
 /// How a run stands.
-#[derive(Clone, Copy, Debug, PartialEq, Eq)]
+#[derive(Clone, Copy)]
 pub enum Standing {
     Running,
     /// The root has ended.
@@ -50,7 +50,7 @@ pub enum Standing {
 }
 
 /// What a process does that the kernel has.
-#[derive(Clone, Copy, Debug, PartialEq, Eq)]
+#[derive(Clone, Copy)]
 pub enum Seen {
     Running,
     /// It waits to send, or to receive, on this channel.

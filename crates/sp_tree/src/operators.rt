@@ -1,7 +1,7 @@
 //! The operators and standard functions, which the syntax tree and the checked tree share.
 
 /// An operator before one operand.
-#[derive(Clone, Copy, Debug, PartialEq, Eq)]
+#[derive(Clone, Copy, PartialEq, Eq)]
 pub enum UnaryOp {
     /// `+`, on integers.
     Plus,
@@ -12,7 +12,7 @@ pub enum UnaryOp {
 }
 
 /// An operator between two operands.
-#[derive(Clone, Copy, Debug, PartialEq, Eq)]
+#[derive(Clone, Copy, PartialEq, Eq)]
 pub enum BinaryOp {
     /// `=`, on two values of one ordinal type or two channels of one type.
     Eq,
@@ -43,7 +43,7 @@ pub enum BinaryOp {
 }
 
 /// A function that every program may call (ISO 7185).
-#[derive(Clone, Copy, Debug, PartialEq, Eq)]
+#[derive(Clone, Copy, PartialEq, Eq)]
 pub enum StandardFn {
     /// The absolute value of an integer.
     Abs,
