@@ -1,7 +1,13 @@
 -- The numbers that fit, one after the other.
 use Rattle.std.proofs.Common.{◌≡◌, ℕ, zero, suc, ◌<◌, ◌≤◌, ◌-◌, ◌+◌, ◌*◌, ◌^◌, List, [], ◌∷◌, ◌++◌, Bool, true, false}
-use Rattle.std.proofs.Common.{if◌then◌else◌, refl, sym, ap, ◌∙◌, arith, append_assoc, append-nil}
+use Rattle.std.proofs.Common.{Result, Ok, Err, IfOk, if◌then◌else◌, refl, sym, ap, ◌∙◌, arith, append_assoc, append-nil}
 use Rattle.sp_generate.specs.Handings.{fitting_numbers}
+
+-- the list that is made, where what is written is this unless the writer is lost
+pub listed : {E : Type 0} {lost : Bool} {items goal : List ℕ} (r : Result (List ℕ) E)
+    → IfOk r (λ xs. (lost ≡ false) × (xs ≡ items)) → (lost ≡ false → items ≡ goal) → IfOk r (λ xs. xs ≡ goal)
+listed (Ok xs) h e = h.1 ∙ e h.0
+listed (Err x) h e = h
 
 -- none of these fits
 pub nothing_fits : (f : ℕ → Bool) (x n : ℕ) → ((y : ℕ) → x ≤ y → f y ≡ false) → fitting_numbers f x n ≡ []

@@ -12,6 +12,7 @@ use crate::code_buffer::CodeBuffer;
 use crate::code_context::CodeContext;
 use crate::frames::frame;
 use crate::levels::Scope;
+use crate::lists::list_of;
 use crate::single::size;
 use crate::statement_context::StatementContext;
 use crate::statements::put_statement;
@@ -19,6 +20,7 @@ use sp_base::{List, Memory};
 use sp_code::{Formal, Instr, Layout};
 use sp_tree::{Block, Checked, Role};
 use sp_varsets::Sets;
+use sp_writer::Writer;
 use std::alloc::Global;
 
 /// The cells of a variable in its frame.
@@ -38,11 +40,11 @@ fn cells_of(g: &CodeContext, x: u32) -> u32
 fn cells_in(g: &CodeContext, xs: &[u32]) -> Result<List<u32>, Memory>
     ensures { IfOk result (λ ys. ys ≡ cells_in (plain_program g.now) xs.now) }
 {
-    let mut out = Vec::new(g.alloc);
+    let mut out = Writer::new(g.alloc);
     for x in xs {
-        out.push(cells_of(g, *x))?;
+        out.put(cells_of(g, *x));
     }
-    Ok(List::of(out))
+    list_of(out)
 }
 
 /// A parameter of a role, whose type has so many cells.
@@ -70,11 +72,11 @@ fn formal_by(g: &CodeContext, x: u32) -> Formal
 fn formals_in(g: &CodeContext, xs: &[u32]) -> Result<List<Formal>, Memory>
     ensures { IfOk result (λ ys. ys ≡ formals_in (plain_program g.now) xs.now) }
 {
-    let mut out = Vec::new(g.alloc);
+    let mut out = Writer::new(g.alloc);
     for x in xs {
-        out.push(formal_by(g, *x))?;
+        out.put(formal_by(g, *x));
     }
-    Ok(List::of(out))
+    list_of(out)
 }
 
 /// The layout of a block whose code begins at `entry`.

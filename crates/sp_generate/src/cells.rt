@@ -4,10 +4,12 @@ ghost use Rattle.std.specs.Prelude.{◌≡◌, ◌+◌, ◌*◌, List, map, sum,
 ghost use Rattle.sp_tree.specs.Cells.{count, fields_size, size_by, sizes};
 ghost use Rattle.sp_generate.specs.CodeTables.{offsets_from, offsets_by};
 
+use crate::lists::list_of;
 use crate::numbers::sum;
 use crate::single::number_at;
 use sp_base::{List, Memory, Text};
 use sp_tree::KindOf;
+use sp_writer::Writer;
 use std::alloc::Global;
 
 /// How many elements an array has.
@@ -84,13 +86,13 @@ fn offsets_from(
 ) -> Result<List<u32>, Memory>
     ensures { IfOk result (λ xs. xs ≡ offsets_from cells.now 0 fields.now) }
 {
-    let mut out = Vec::new(alloc);
+    let mut out = Writer::new(alloc);
     let mut n = 0;
     for f in fields {
-        out.push(n)?;
+        out.put(n);
         n = sum(n, number_at(cells, f.1))?;
     }
-    Ok(List::of(out))
+    list_of(out)
 }
 
 /// Where the fields of a record type begin.
@@ -111,10 +113,10 @@ pub fn table_offsets(
 ) -> Result<List<List<u32>>, Memory>
     ensures { IfOk result (λ xs. xs ≡ map (offsets_by cells.now) kinds.now) }
 {
-    let mut out = Vec::new(alloc);
+    let mut out = Writer::new(alloc);
     for k in kinds {
         let offsets = offsets_by(alloc, cells, k)?;
-        out.push(offsets)?;
+        out.put(offsets);
     }
-    Ok(List::of(out))
+    list_of(out)
 }

@@ -1,15 +1,18 @@
 //! The frames of blocks, and where variables stand in them.
 
-ghost use Rattle.std.specs.Prelude.{◌≡◌, ◌==◌, ◌&&◌, ◌++◌, map, slice_get, Some, IfOk, OnOk};
+ghost use Rattle.std.specs.Prelude.{◌≡◌, ◌==◌, ◌&&◌, map, slice_get, Some, IfOk};
 ghost use Rattle.sp_tree.specs.Bare.{without_places, bare_block, variable_of};
 ghost use Rattle.sp_tree.specs.CheckedOf.{program_of, block_of};
 ghost use Rattle.sp_tree.specs.Cells.{variables_of};
 ghost use Rattle.sp_code.specs.Scopes.{is_local, locals_among, parameters_of, frame_of, index_among, slot_in};
+ghost use Rattle.sp_writer.specs.Adds.{Adds};
 ghost use Rattle.sp_generate.specs.CodeTables.{slots_of};
 
+use crate::lists::list_of;
 use crate::numbers::narrow;
 use sp_base::{List, Memory};
 use sp_tree::{Block, Checked, Role, Variable};
+use sp_writer::Writer;
 use std::alloc::Global;
 
 fn is_local(role: Role) -> bool
@@ -21,26 +24,25 @@ fn is_local(role: Role) -> bool
     }
 }
 
-/// The parameters of a block in order, then its result.
-fn parameters(alloc: Global, k: &Block) -> Result<Vec<u32>, Memory>
-    ensures { IfOk result (λ xs. xs.items ≡ parameters_of (Some (bare_block (block_of k.now)))) }
+/// Puts the parameters of a block in order, then its result.
+fn put_parameters(out: &mut Writer<u32>, k: &Block)
+    ensures { Adds out.old out.new (parameters_of (Some (bare_block (block_of k.now)))) }
 {
-    let mut out = Vec::from_slice(alloc, k.formals.items())?;
+    out.extend(k.formals.items());
     if let Some(answer) = k.answer {
-        out.push(answer)?;
+        out.put(answer);
     }
-    Ok(out)
 }
 
-/// The parameters of the block of this number.
+/// Puts the parameters of the block of this number.
 #[tactic(auto, using(crate::proofs::Tables::block_at, crate::proofs::Tables::no_block))]
-fn parameters_in(alloc: Global, checked: &Checked, b: u32) -> Result<Vec<u32>, Memory>
-    ensures { IfOk result
-        (λ xs. xs.items ≡ parameters_of (slice_get (without_places (program_of checked.now)).blocks b)) }
+fn put_parameters_of(out: &mut Writer<u32>, checked: &Checked, b: u32)
+    ensures { Adds out.old out.new
+        (parameters_of (slice_get (without_places (program_of checked.now)).blocks b)) }
 {
     match checked.blocks.get(b as usize) {
-        None => Ok(Vec::new(alloc)),
-        Some(k) => parameters(alloc, k),
+        None => {}
+        Some(k) => put_parameters(out, k),
     }
 }
 
@@ -51,28 +53,30 @@ fn is_own(b: u32, v: &Variable) -> bool
     v.block == b && is_local(v.role)
 }
 
-/// The local variables of a block, behind its parameters.
+/// Puts the local variables of a block.
 #[tactic(auto, using(crate::proofs::Locals::own_step, crate::proofs::Locals::other_step))]
-fn put_locals(out: &mut Vec<u32>, variables: &[Variable], b: u32) -> Result<(), Memory>
-    ensures { OnOk result (out.new.items ≡ out.old.items
-        ++ locals_among (variables_of b 0 (map variable_of variables.now))) }
+fn put_locals(out: &mut Writer<u32>, variables: &[Variable], b: u32)
+    ensures { Adds out.old out.new (locals_among (variables_of b 0 (map variable_of variables.now))) }
 {
+    if variables.len() > 4_294_967_296 {
+        out.lose();
+        return;
+    }
     for (x, v) in variables.iter().enumerate() {
         if is_own(b, v) {
-            let x = narrow(x)?;
-            out.push(x)?;
+            out.put(x as u32);
         }
     }
-    Ok(())
 }
 
 /// The variables of a block's frame: the parameters, the result, the local variables.
 pub fn frame(alloc: Global, checked: &Checked, b: u32) -> Result<Vec<u32>, Memory>
     ensures { IfOk result (λ xs. xs.items ≡ frame_of (without_places (program_of checked.now)) b) }
 {
-    let mut out = parameters_in(alloc, checked, b)?;
-    put_locals(&mut out, checked.variables.items(), b)?;
-    Ok(out)
+    let mut out = Writer::new(alloc);
+    put_parameters_of(&mut out, checked, b);
+    put_locals(&mut out, checked.variables.items(), b);
+    out.finish()
 }
 
 /// The place of x among these, counted from n; behind all where it is none of them.
@@ -105,11 +109,11 @@ fn slot_in(alloc: Global, checked: &Checked, b: u32, x: u32) -> Result<u32, Memo
 pub fn slots_of(alloc: Global, checked: &Checked) -> Result<List<u32>, Memory>
     ensures { IfOk result (λ xs. xs ≡ slots_of (without_places (program_of checked.now))) }
 {
-    let mut out = Vec::new(alloc);
+    let mut out = Writer::new(alloc);
     for (x, v) in checked.variables.items().iter().enumerate() {
         let x = narrow(x)?;
         let slot = slot_in(alloc, checked, v.block, x)?;
-        out.push(slot)?;
+        out.put(slot);
     }
-    Ok(List::of(out))
+    list_of(out)
 }

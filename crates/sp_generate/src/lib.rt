@@ -45,6 +45,7 @@ mod frames;
 mod handings;
 mod law;
 mod levels;
+mod lists;
 mod numbers;
 mod program;
 mod room;

@@ -33,6 +33,7 @@ use crate::statement_context::StatementContext;
 use sp_base::{List, Memory, Text};
 use sp_code::{ChildTable, ForkTable, Instr};
 use sp_tree::{Arm, Expr, Form, Stmt, Var};
+use sp_writer::Writer;
 
 /// A statement.
 #[cycle(statement)]
@@ -341,10 +342,10 @@ fn index_table(
 fn inside(context: &StatementContext, x: u32) -> Result<Vec<Scope>, Memory>
     ensures { IfOk result (λ inner. inner.items ≡ scope.Index x ∷ context.now.scopes.now) }
 {
-    let mut inner = Vec::new(context.program.alloc);
-    inner.push(Scope::Index(x))?;
-    inner.extend_from_slice(context.scopes)?;
-    Ok(inner)
+    let mut inner = Writer::new(context.program.alloc);
+    inner.put(Scope::Index(x));
+    inner.extend(context.scopes);
+    inner.finish()
 }
 
 /// The element statement of a forall, inside the scope of its index.

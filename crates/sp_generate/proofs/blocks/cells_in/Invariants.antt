@@ -1,7 +1,8 @@
-use Rattle.std.proofs.Common.{◌≡◌, ◌++◌, drop}
+use Rattle.std.proofs.Common.{◌≡◌, false, ◌++◌, drop}
 use Rattle.sp_generate.specs.Views.{plain_program, cells_in}
 use Rattle.sp_generate.proofs.blocks.cells_in.Given as goal
 
 abbrev pub invariant-loop-x : goal.invariant-loop-x
-invariant-loop-x l = l.out.items ++ cells_in (plain_program l.g) (drop l.x-index l.xs)
+invariant-loop-x l = l.out.is_lost ≡ false
+    → l.out.items.items ++ cells_in (plain_program l.g) (drop l.x-index l.xs)
     ≡ cells_in (plain_program l.g) l.xs

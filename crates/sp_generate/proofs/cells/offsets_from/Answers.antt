@@ -1,9 +1,0 @@
-use Rattle.std.proofs.Common.{arith}
-use Rattle.std.proofs.lemmas.Grind.{common_steps}
-use Rattle.sp_generate.proofs.cells.offsets_from.Goals as goal
-
-pub loop-f-preserved : goal.loop-f-preserved
-loop-f-preserved c = grind (arith, common_steps)
-
-pub returns : goal.returns
-returns c = grind (arith, common_steps)
