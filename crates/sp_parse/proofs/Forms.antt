@@ -1,6 +1,6 @@
 -- How statements begin, and how the direction of a loop is read.
 use Rattle.std.proofs.Common.{◌≡◌, ℕ, suc, ◌<◌, ◌≤◌, Bool, true, false, cond, List, [], ◌∷◌, ◌++◌, Option, Some, None}
-use Rattle.std.proofs.Common.{refl, sym as back_of, ap, ◌∙◌, subst, arith}
+use Rattle.std.proofs.Common.{drop, refl, sym as back_of, ap, ◌∙◌, subst}
 use Rattle.sp_base.specs.declared.rule.Rule.TheVariants as rule
 use Rattle.sp_tree.specs.declared.token.Token.{Token}
 use Rattle.sp_tree.specs.declared.token.Kind.{Kind}
@@ -45,15 +45,10 @@ by_name : {A : Type 0} (b : Bool) (x : A) (o : Option A) → is_some (cond b (So
 by_name true x o h n = refl
 by_name false x o h n = absurd (let y : true ≡ false = back_of h ∙ ap is_some n in cc)
 
-abbrev pub word_forms : (d : ℕ) → List (RowEntry (FormRow d))
-word_forms d = row_entry _ _ row.form_begin ∷ row_entry _ _ row.form_if ∷ row_entry _ _ row.form_while
-    ∷ row_entry _ _ row.form_repeat ∷ row_entry _ _ row.form_for ∷ row_entry _ _ row.form_case
-    ∷ row_entry _ _ row.form_parallel ∷ row_entry _ _ row.form_forall ∷ row_entry _ _ row.form_assume ∷ []
-
 pub name_form : (t : Token) (b : Bool) → BeginsForm t b → b ≡ true
-    → NoneIs (word_forms 0) t.kind → t.kind ≡ kind.Name
+    → NoneIs (drop 1 (form_rows 0)) t.kind → t.kind ≡ kind.Name
 name_form t b h e n = back_of (kind_is-true kind.Name t.kind
-    (by_name (kind_is kind.Name t.kind) _ _ (h 0 ∙ e) (none_at (word_forms 0) t.kind n)))
+    (by_name (kind_is kind.Name t.kind) _ _ (h 0 ∙ e) (none_at (drop 1 (form_rows 0)) t.kind n)))
 
 direction_row : (t : Token) → kind_is w.Downto t.kind ≡ false → look (rows sym.ADirection) t.kind
     ≡ cond (kind_is w.To t.kind) (Some (row_entry w.To [] row.upward)) None

@@ -4,6 +4,7 @@ mod Rows
 mod Pending
 mod Looking
 mod ReadNames
+mod Lists
 mod Turns
 mod Forms
 mod ReadHeadings

@@ -1,16 +1,16 @@
 -- How the first token is looked at.
-use Rattle.std.proofs.Common.{◌≡◌, ℕ, ◌<◌, ◌≤◌, true, false, List, [], ◌∷◌, length, Option, Some, None, refl}
+use Rattle.std.proofs.Common.{◌≡◌, ◌<◌, ◌≤◌, true, false, List, [], ◌∷◌, length, Some, refl}
 use Rattle.std.proofs.Common.{sym as back_of, ap, ◌∙◌, subst, arith, slice_index_or}
 use Rattle.sp_base.specs.declared.halt.Halt.{Halt}
 use Rattle.sp_base.specs.declared.halt.Halt.TheVariants as halt
 use Rattle.sp_base.specs.declared.rule.Rule.TheVariants as rule
 use Rattle.sp_tree.specs.declared.token.Token.{Token}
 use Rattle.sp_tree.specs.declared.token.Kind.{Kind}
-use Rattle.sp_grammar.specs.Symbols.{Symbol, AToken}
+use Rattle.sp_grammar.specs.Symbols.{AToken}
 use Rattle.sp_grammar.specs.Table.{row_entry, rows, look, kind_is, token}
 use Rattle.sp_parse.specs.declared.source.Source.{Source}
 use Rattle.sp_parse.specs.declared.source.Tokens.{Tokens}
-use Rattle.sp_parse.specs.Reads.{TokenFits, TokensFit, HasTokens, breaks, Ends, Looks, Skips, Fails, Takes, Differs}
+use Rattle.sp_parse.specs.Reads.{TokensFit, HasTokens, breaks, Looks, Skips, Fails, Takes, Differs}
 use Rattle.sp_parse.specs.Reads.{Expects, no_kind, first_failure, behind}
 use Rattle.sp_parse.proofs.Steps.{step_takes, step_fails, step_ends, look_token, kind_is-same, kind_is-other}
 use Rattle.sp_parse.proofs.Pending.{ends_by, ends_failed, has_failed}

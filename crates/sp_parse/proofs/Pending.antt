@@ -1,5 +1,5 @@
 -- What is read and what is still pending: how a reading goes on.
-use Rattle.std.proofs.Common.{◌≡◌, ℕ, ◌≤◌, Bool, true, false, cond, List, [], ◌∷◌, ◌++◌, length, Option, Some, None}
+use Rattle.std.proofs.Common.{◌≡◌, ℕ, Bool, true, false, cond, List, [], ◌∷◌, ◌++◌, length, Option, Some, None}
 use Rattle.std.proofs.Common.{refl, sym as back_of, ap, ◌∙◌, subst, arith, append_assoc}
 use Rattle.sp_base.specs.declared.halt.Halt.{Halt}
 use Rattle.sp_base.specs.declared.halt.Halt.TheVariants as halt
@@ -10,14 +10,14 @@ use Rattle.sp_tree.specs.Breaches.{nesting}
 use Rattle.sp_grammar.specs.Symbols.{Symbol, Value, Values, split, part, AToken}
 use Rattle.sp_grammar.specs.Table.{Row, row_entry, rows, look, gap, build, kind_is, token}
 use Rattle.sp_grammar.specs.Machine.{allows}
-use Rattle.sp_grammar.specs.Derives.{PartMayBegin as MayBegin, Derives, takes, skips, DerivesAll, none, and}
-use Rattle.sp_grammar.proofs.From.{kind_is-true}
+use Rattle.sp_grammar.specs.Derives.{PartMayBegin as MayBegin, Derives, skips, DerivesAll, none, and}
 use Rattle.sp_parse.specs.declared.source.Source.{Source}
 use Rattle.sp_parse.specs.declared.source.Tokens.{Tokens}
-use Rattle.sp_parse.specs.Reads.{IsNestable, HasTokens, breaks, EndsBy, Ends, Pending, Looks, Skips, Fails, Takes, Differs}
+use Rattle.sp_parse.specs.Reads.{IsNestable, HasTokens, breaks, EndsBy, Ends, Pending, Looks, Skips, Fails, Takes}
+use Rattle.sp_parse.specs.Reads.{Differs}
 use Rattle.sp_parse.specs.Reads.{Passes, Expects, Closes, GoesOn, Keeps, no_kind, first_failure, behind}
 use Rattle.sp_parse.proofs.Steps.{take, step_takes, step_skips, step_fails, step_ends, look_token, kind_is-same}
-use Rattle.sp_parse.proofs.Rows.{join, split_join, join_all, clash}
+use Rattle.sp_parse.proofs.Rows.{join, join_all, clash}
 
 -- where a failure stays the same, and the machine goes on alike without one
 pub ends_by : (source : Source) (o other : Option Halt) (ts us : List Token) (p q : List Symbol) (r : Option Refusal)
@@ -34,13 +34,6 @@ pub ends_failed : (source : Source) (o other : Option Halt) (f : Refusal) (ts us
 ends_failed source None other f ts us p q r same e h = e refl ∙ subst (λ o. EndsBy source o us q r) same h
 ends_failed source (Some halt.Memory) other f ts us p q r same e h = subst (λ o. EndsBy source o us q r) same h
 ends_failed source (Some (halt.Refused g)) other f ts us p q r same e h = subst (λ o. EndsBy source o us q r) same h
-
--- where memory is refused
-pub ends_lost : (source : Source) (o other : Option Halt) (ts us : List Token) (p q : List Symbol)
-    (r : Option Refusal) → other ≡ first_failure o halt.Memory → EndsBy source other us q r → EndsBy source o ts p r
-ends_lost source None other ts us p q r same h = absurd (subst (λ o. EndsBy source o us q r) same h)
-ends_lost source (Some halt.Memory) other ts us p q r same h = subst (λ o. EndsBy source o us q r) same h
-ends_lost source (Some (halt.Refused f)) other ts us p q r same h = subst (λ o. EndsBy source o us q r) same h
 
 -- a reading that fails has failed
 pub has_failed : {A : Type 0} (o other : Option Halt) (e : Halt) → other ≡ first_failure o e → other ≡ None → A
@@ -234,7 +227,8 @@ module _ {V : Type 0} {source : Source} {l : List Symbol} {of : Values l → V} 
         let j = a.derives mid_fine in (
           j.0,
           λ r vs d. j.1 r (v, vs) (and (subst (λ ts. Derives source.text.now IsNestable s ts new.rest.now v) same
-              (subst (λ ts. Derives source.text.now IsNestable s ts ts v) (back_of begins) (skips t (absent fine) g))) d),
+              (subst (λ ts. Derives source.text.now IsNestable s ts ts v) (back_of begins) (skips t (absent fine) g)))
+              d),
         );
     leads = λ q r h. a.leads q r (b.leads s (m ++ q) r (ends_by source new.failed new.failed new.rest.now new.rest.now
         (s ∷ m ++ q) (m ++ q) r refl
@@ -338,7 +332,8 @@ module _ {V : Type 0} {source : Source} {l : List Symbol} {of : Values l → V} 
           λ r vs d.
               let i = split_all p m d in
               j.1 r (build source.text.now row t (split p m vs).0, (split p m vs).1)
-              (and (takes_by row found (subst (λ p. MayBegin IsNestable p (t ∷ new.rest.now)) (back_of whole) tt) same all i.1)
+              (and (takes_by row found (subst (λ p. MayBegin IsNestable p (t ∷ new.rest.now)) (back_of whole) tt) same
+              all i.1)
               i.2),
         );
     leads = λ q r x. a.leads q r (ends_by source mid.failed mid.failed mid.rest.now mid.rest.now (s ∷ m ++ q)

@@ -1,5 +1,5 @@
 -- How formal parameters are read.
-use Rattle.std.proofs.Common.{◌≡◌, Bool, true, false, List, [], ◌∷◌, Some, refl, ap}
+use Rattle.std.proofs.Common.{Bool, true, false, [], ◌∷◌, refl, ap}
 use Rattle.sp_tree.specs.declared.syntax.SynFormal.{SynFormal}
 use Rattle.sp_tree.specs.declared.syntax.SynGroup.{SynGroup}
 use Rattle.sp_tree.specs.Words as w
@@ -9,7 +9,7 @@ use Rattle.sp_parse.specs.declared.source.Source.{Source}
 use Rattle.sp_parse.specs.declared.source.Tokens.{Tokens}
 use Rattle.sp_parse.specs.BlockProductions.{group}
 use Rattle.sp_parse.specs.Productions.{single, itself}
-use Rattle.sp_parse.specs.Reads.{HasTokens, Pending, Passes, Parses}
+use Rattle.sp_parse.specs.Reads.{HasTokens, Passes, Parses}
 use Rattle.sp_parse.proofs.Pending.{begin, read_as, pass_row}
 use Rattle.sp_parse.proofs.Turns.{name_turn, none_if}
 

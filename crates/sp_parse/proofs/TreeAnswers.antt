@@ -24,7 +24,8 @@ use Rattle.sp_grammar.proofs.Firsts.{first_broken, spells, none_broken}
 use Rattle.sp_grammar.specs.Derives.{none}
 use Rattle.sp_parse.specs.declared.source.Source.{Source}
 use Rattle.sp_parse.specs.declared.source.Tokens.{Tokens}
-use Rattle.sp_parse.specs.Reads.{IsNestable, HasTokens, breaks, refused_by, EndsBy, Pending, Fails, Finishes, first_failure}
+use Rattle.sp_parse.specs.Reads.{IsNestable, HasTokens, breaks, refused_by, EndsBy, Pending, Fails, Finishes}
+use Rattle.sp_parse.specs.Reads.{first_failure}
 use Rattle.sp_parse.specs.Parses.{SpellsWell, Parsed}
 use Rattle.sp_parse.proofs.Pending.{ends_failed, has_failed, head}
 use Rattle.sp_parse.proofs.Looking.{no_tokens}

@@ -1,18 +1,13 @@
 -- Symbols that have the rows of others: an expression is a simple one and a relation, a term is factors, and so on.
-use Rattle.std.proofs.Common.{◌≡◌, ℕ, suc, ◌<◌, ◌≤◌, Bool, true, false, cond, List, [], ◌∷◌, ◌++◌, map, Option, Some}
-use Rattle.std.proofs.Common.{None, length, refl, sym as back_of, ap, ◌∙◌, subst, arith}
+use Rattle.std.proofs.Common.{◌≡◌, ℕ, suc, ◌<◌, Bool, true, false, cond, List, [], ◌∷◌, ◌++◌, map, Option, Some}
+use Rattle.std.proofs.Common.{None, length, refl, sym as back_of, ap, ◌∙◌, subst}
 use Rattle.sp_tree.specs.declared.token.Token.{Token}
 use Rattle.sp_tree.specs.declared.token.Kind.{Kind}
 use Rattle.sp_tree.specs.declared.token.Kind.TheVariants as kind
 use Rattle.sp_tree.specs.declared.operators.UnaryOp.{UnaryOp}
 use Rattle.sp_tree.specs.declared.operators.UnaryOp.TheVariants as unary
 use Rattle.sp_tree.specs.declared.operators.BinaryOp.{BinaryOp}
-use Rattle.sp_base.specs.declared.place.Place.{Place}
-use Rattle.sp_tree.specs.declared.syntax.SynPart.{SynPart}
 use Rattle.sp_tree.specs.declared.syntax.SynConst.{SynConst}
-use Rattle.sp_tree.specs.SyntaxOf as syntax
-use Rattle.sp_tree.specs.SyntaxOf.{part_of, parts as laid}
-use Rattle.sp_tree.specs.Grammar.{with_part_first}
 use Rattle.sp_tree.specs.Words as w
 use Rattle.sp_tree.specs.PlainSyntax as tree
 use Rattle.sp_tree.specs.Grammar as g
@@ -23,7 +18,8 @@ use Rattle.sp_grammar.specs.Symbols.{Symbol, Value, Values, split, part}
 use Rattle.sp_grammar.specs.Table as row
 use Rattle.sp_grammar.specs.Table.{FactorRow, SimpleRow, SelectorRow, ConstantRow, PartsRow, Row, RowEntry, row_entry}
 use Rattle.sp_grammar.specs.Table.{rows, look, kind_is, build, gap, factor_rows, simple_rows, selector_rows}
-use Rattle.sp_grammar.specs.Table.{constant_rows, parts_rows, factor_value, simple_value, selector_value, constant_value}
+use Rattle.sp_grammar.specs.Table.{constant_rows, parts_rows, factor_value, simple_value, selector_value}
+use Rattle.sp_grammar.specs.Table.{constant_value}
 use Rattle.sp_grammar.specs.Machine.{allows}
 use Rattle.sp_grammar.specs.Derives.{PartMayBegin as MayBegin, Derives, takes, skips, DerivesAll, none, and}
 use Rattle.sp_grammar.proofs.From.{kind_is-true}
@@ -33,60 +29,12 @@ use Rattle.sp_parse.specs.declared.source.Tokens.{Tokens}
 use Rattle.sp_parse.specs.Reads.{IsNestable, breaks, Pending, Looks, Skips, Differs}
 use Rattle.sp_parse.specs.Operators.{IsSign, IsRelation, IsAddition, IsMultiplication, is_some}
 use Rattle.sp_parse.specs.ExpressionProductions.{term}
-use Rattle.sp_parse.specs.Trees.{lay, and_parts}
 use Rattle.sp_parse.proofs.Steps.{step_takes, step_fails, step_ends, below}
 use Rattle.sp_parse.proofs.Rows.{look_map, after_two, split_join, copy_leads, copy_derives, copied_leads}
 use Rattle.sp_parse.proofs.Rows.{copied_derives, bare_leads, bare_derives, loose_leads, loose_derives, lifted, some_of}
 use Rattle.sp_parse.proofs.Rows.{none_of}
 use Rattle.sp_parse.proofs.Pending.{begin, read, go_on, look_at, take_row, turn, turn_at, took, some_kind, head}
 use Rattle.sp_parse.proofs.Pending.{takes_by}
-
--- lists of the plain tree
-pub lay_push : {A B M : Type 0} (cons : B → M → M) (f : A → B) (xs : List A) (x : A) (more : M)
-    → lay cons (map f (xs ++ x ∷ [])) more ≡ lay cons (map f xs) (cons (f x) more)
-lay_push cons f [] x more = refl
-lay_push cons f (y ∷ xs) x more = ap (cons (f y)) (lay_push cons f xs x more)
-
-pub lay_selectors : (ss : List tree.Selector) → lay tree.Select ss tree.Whole ≡ syntax.selectors ss
-lay_selectors [] = refl
-lay_selectors (s ∷ ss) = ap (tree.Select s) (lay_selectors ss)
-
-pub lay_arguments : (args : List tree.Argument) → lay tree.AndArgument args tree.NoArgument ≡ syntax.arguments args
-lay_arguments [] = refl
-lay_arguments (a ∷ rest) = ap (tree.AndArgument a) (lay_arguments rest)
-
-pub lay_statements : (all : List tree.Statement) → lay tree.AndThen all tree.NoStatement ≡ syntax.statements all
-lay_statements [] = refl
-lay_statements (s ∷ rest) = ap (tree.AndThen s) (lay_statements rest)
-
-pub lay_arms : (all : List tree.Arm) → lay tree.Or all tree.NoArm ≡ syntax.arms all
-lay_arms [] = refl
-lay_arms (a ∷ rest) = ap (tree.Or a) (lay_arms rest)
-
-pub lay_branches : (all : List tree.Statements) → lay tree.Beside all tree.NoBranch ≡ syntax.branches all
-lay_branches [] = refl
-lay_branches (a ∷ rest) = ap (tree.Beside a) (lay_branches rest)
-
-pub lay_parts : (ps : List tree.Part) → lay tree.Declare ps tree.NoPart ≡ laid ps
-lay_parts [] = refl
-lay_parts (p ∷ ps) = ap (tree.Declare p) (lay_parts ps)
-
-pub part_behind : (ps : List SynPart) (p : SynPart) (b : tree.Block)
-    → and_parts (ps ++ p ∷ []) b ≡ and_parts ps (with_part_first (part_of p) b)
-part_behind ps p b = ap (λ l. (let r : tree.Block = record { parts = l; body = b.body } in r))
-    (lay_push tree.Declare part_of ps p b.parts)
-
--- a block of declarations and statements
-pub block_same : (at : Place) (all : List SynPart) {ss us : tree.Statements} → ss ≡ us
-    → (let b : tree.Block = record { parts = laid (map part_of all); body = tree.Does at (tree.Sequence ss) } in b)
-    ≡ and_parts all (record { parts = tree.NoPart; body = tree.Does at (tree.Sequence us) })
-block_same at all {ss} {us} q = ap (λ ps.
-    (let b : tree.Block = record { parts = ps; body = tree.Does at (tree.Sequence ss) } in b))
-    (back_of (lay_parts (map part_of all)))
-    ∙ ap (λ ss. (let b : tree.Block = record {
-      parts = lay tree.Declare (map part_of all) tree.NoPart;
-      body = tree.Does at (tree.Sequence ss);
-    } in b)) q
 
 -- what holds of the token that was looked at holds of the first one
 pub first_same : {source : Source} {old new : Tokens} {t s : Token} {u : List Token} (P : Token → Type 0) → P t
@@ -95,12 +43,6 @@ first_same {t = t} {s = s} P h a fine e =
     let (_, _, (v, begins)) = a.same fine in
     let same : t ≡ s = cc (begins, e) in
     subst P same h
-
--- the rows of declarations
-abbrev pub section_rows : (d : ℕ) → List (RowEntry (Row (sym.Parts d)))
-section_rows d = row_entry _ _ (row.parts row.parts_const) ∷ row_entry _ _ (row.parts row.parts_type)
-    ∷ row_entry _ _ (row.parts row.parts_var) ∷ row_entry _ _ (row.parts row.parts_procedure)
-    ∷ row_entry _ _ (row.parts row.parts_function) ∷ []
 
 -- neither of two kinds comes first
 pub neither : {source : Source} {old mid new : Tokens} {j k : Kind} (a : Differs source j old mid)
@@ -147,14 +89,16 @@ module _ {V : Type 0} {source : Source} {l : List Symbol} {of : Values l → V} 
       {t : Token} {o : BinaryOp} → Pending source l of (sym.ARelation d ∷ m) gives old mid → Looks source mid seen t
       → IsRelation t (Some o) → Skips source seen new
       → Pending source l of (sym.ASimple d ∷ m) (λ vs. gives ((λ a. g.binary_at_left o a vs.0), vs.1)) old new
-  relation_on d {m = m} {t = t} a b (k, is, same) c = take_row m (row.relation is) (look_relation d is) refl tt same (look_at a b)
+  relation_on d {m = m} {t = t} a b (k, is, same) c = take_row m (row.relation is) (look_relation d is) refl tt same
+      (look_at a b)
       (took (some_kind t (sym.ARelation d) (row.relation is) (look_relation d is) refl same) b c)
 
   pub term_on : (d : ℕ) {m : List Symbol} {gives : Values (sym.MoreTerms d ∷ m) → V} {old mid seen new : Tokens}
       {t : Token} {o : BinaryOp} → Pending source l of (sym.MoreTerms d ∷ m) gives old mid → Looks source mid seen t
       → IsAddition t (Some o) → Skips source seen new → Pending source l of (sym.ATerm d ∷ sym.MoreTerms d ∷ m)
       (λ vs. gives ((λ a. vs.1.0 (g.binary_at_left o a vs.0)), vs.1.1)) old new
-  term_on d {m = m} {t = t} a b (k, is, same) c = take_row m (row.next_term is) (look_adding d is) refl tt same (look_at a b)
+  term_on d {m = m} {t = t} a b (k, is, same) c = take_row m (row.next_term is) (look_adding d is) refl tt same
+      (look_at a b)
       (took (some_kind t (sym.MoreTerms d) (row.next_term is) (look_adding d is) refl same) b c)
 
   pub factor_on : (d : ℕ) {m : List Symbol} {gives : Values (sym.MoreFactors d ∷ m) → V} {old mid seen new : Tokens}
@@ -426,16 +370,19 @@ module _ (source : Source) where
       → breaks source ts (sym.ABlock d ∷ q) ≡ breaks source ts (sym.Parts (suc d) ∷ q)
   block_leads d [] h q = step_ends source (sym.ABlock d) q ∙ back_of (step_ends source (sym.Parts (suc d)) q)
   block_leads d (t ∷ ts) h q =
-      bare_leads source (PartsRow (suc d)) (sym.ABlock d) (sym.Parts (suc d)) (λ e. row.block e.row) (λ e. row.parts e.row) t ts
+      bare_leads source (PartsRow (suc d)) (sym.ABlock d) (sym.Parts (suc d)) (λ e. row.block e.row) (λ e. row.parts
+      e.row) t ts
       (look (parts_rows (suc d)) t.kind)
       (look_map (λ e. row_entry e.key e.left (row.block e.row)) (λ e. refl) (parts_rows (suc d)) t.kind)
       (look_map (λ e. row_entry e.key e.left (row.parts e.row)) (λ e. refl) (parts_rows (suc d)) t.kind)
       refl refl (below d nesting h) refl q
 
   block_derives : (d : ℕ) {ts r : List Token} {b : tree.Block} → d < nesting
-      → Derives source.text.now IsNestable (sym.Parts (suc d)) ts r b → Derives source.text.now IsNestable (sym.ABlock d) ts r b
+      → Derives source.text.now IsNestable (sym.Parts (suc d)) ts r b → Derives source.text.now IsNestable (sym.ABlock
+      d) ts r b
   block_derives d {ts = t ∷ ts} {r} h x =
-      bare_derives source (PartsRow (suc d)) (sym.ABlock d) (sym.Parts (suc d)) (λ e. row.block e.row) (λ e. row.parts e.row)
+      bare_derives source (PartsRow (suc d)) (sym.ABlock d) (sym.Parts (suc d)) (λ e. row.block e.row) (λ e. row.parts
+      e.row)
       (λ b. b) (λ e t us. refl) t ts r (look (parts_rows (suc d)) t.kind)
       (look_map (λ e. row_entry e.key e.left (row.block e.row)) (λ e. refl) (parts_rows (suc d)) t.kind)
       (look_map (λ e. row_entry e.key e.left (row.parts e.row)) (λ e. refl) (parts_rows (suc d)) t.kind)

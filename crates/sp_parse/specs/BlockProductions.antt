@@ -6,7 +6,6 @@
 use Rattle.std.specs.Prelude.{ℕ, List, [], ◌∷◌, Some, None}
 use Rattle.sp_tree.specs.declared.token.Kind.{Kind}
 use Rattle.sp_tree.specs.declared.syntax.Name.{Name}
-use Rattle.sp_tree.specs.declared.syntax.SynConst.{SynConst}
 use Rattle.sp_tree.specs.declared.syntax.SynKind.{SynKind}
 use Rattle.sp_tree.specs.declared.syntax.SynKind.TheVariants as kinds
 use Rattle.sp_tree.specs.declared.syntax.SynFormal.{SynFormal}
@@ -15,7 +14,7 @@ use Rattle.sp_tree.specs.declared.syntax.SynPart.{SynPart}
 use Rattle.sp_tree.specs.Words as w
 use Rattle.sp_tree.specs.PlainSyntax as tree
 use Rattle.sp_tree.specs.Grammar.{with_part_first}
-use Rattle.sp_grammar.specs.Symbols.{AToken, AName, AHeading, MoreNames, AConstant, AType, MoreFields, AFormal}
+use Rattle.sp_grammar.specs.Symbols.{AToken, AName, MoreNames, AConstant, AType, MoreFields, AFormal}
 use Rattle.sp_grammar.specs.Symbols.{MoreFormals, Formals, ABlock, MoreConstants, MoreTypes, MoreVariables}
 use Rattle.sp_parse.specs.Productions.{Production, production}
 use Rattle.sp_parse.specs.Trees.{and_parts}

@@ -2,16 +2,16 @@
 -- The productions of statements, for the contracts of the parser of statements: under each line of the grammar its
 -- symbols and the statement that they make. `d` says inside how many parts what stands in the statement lies, and `at`
 -- is the place of the statement's first token, which is read before.
-use Rattle.std.specs.Prelude.{ℕ, Bool, List, [], ◌∷◌}
+use Rattle.std.specs.Prelude.{ℕ, List, [], ◌∷◌}
 use Rattle.sp_base.specs.declared.place.Place.{Place}
 use Rattle.sp_tree.specs.declared.syntax.Name.{Name}
 use Rattle.sp_tree.specs.declared.syntax.SynConst.{SynConst}
 use Rattle.sp_tree.specs.Words as w
-use Rattle.sp_tree.specs.PlainSyntax.{Expression, Statement, Statements, Arm, Arms, Branches, Does, Assign, Sequence}
-use Rattle.sp_tree.specs.PlainSyntax.{If, While, Repeat, Case, For, Parallel, Forall, Assume, Entire, AndThen, On, Or}
+use Rattle.sp_tree.specs.PlainSyntax.{Statement, Statements, Arms, Does}
+use Rattle.sp_tree.specs.PlainSyntax.{If, While, Repeat, Case, For, Parallel, Forall, AndThen, On, Or}
 use Rattle.sp_tree.specs.PlainSyntax.{Beside}
 use Rattle.sp_grammar.specs.Symbols.{AToken, AName, AConstant, AStatement, AfterName, AnElse, MoreStatements}
-use Rattle.sp_grammar.specs.Symbols.{MoreBranches, MoreLabels, MoreArms, ADirection, AnExpression, Selectors}
+use Rattle.sp_grammar.specs.Symbols.{MoreBranches, MoreLabels, MoreArms, ADirection, AnExpression}
 use Rattle.sp_parse.specs.Productions.{Production, production}
 
 -- sequence = statement { ";" statement }

@@ -1,8 +1,7 @@
-use Rattle.std.proofs.Common.{[], Some, None, true, false, ap, refl, ◌∙◌}
+use Rattle.std.proofs.Common.{[], None, true, false, ap, refl, ◌∙◌}
 use Rattle.sp_tree.specs.declared.token.Kind.TheVariants as kind
 use Rattle.sp_tree.specs.Words as w
 use Rattle.sp_tree.specs.declared.syntax.SynConst.{SynConst}
-use Rattle.sp_tree.specs.declared.syntax.SynValue.{SynValue}
 use Rattle.sp_tree.specs.declared.syntax.SynValue.TheVariants as value
 use Rattle.sp_grammar.specs.Symbols.{AConstant}
 use Rattle.sp_grammar.specs.Table as row
@@ -14,11 +13,13 @@ use Rattle.sp_parse.proofs.constants.constant.Goals as goal
 
 pub returns-then-is : goal.returns-then-is
 returns-then-is c = read (row_at [] (row.constant row.constant_plus) refl refl refl tt
-    (kind_at c.look-first.result w.Plus c.is.ensures c.if-is.true) (begin c.requires) c.look-first.ensures c.skip.ensures) c.value.ensures
+    (kind_at c.look-first.result w.Plus c.is.ensures c.if-is.true) (begin c.requires) c.look-first.ensures
+    c.skip.ensures) c.value.ensures
 
 pub returns-then-is-2 : goal.returns-then-is-2
 returns-then-is-2 c = read (row_at [] (row.constant row.constant_minus) refl refl refl tt
-    (kind_at c.look-first.result w.Minus c.is-2.ensures c.if-is-2.true) (begin c.requires) c.look-first.ensures c.skip.ensures) c.value-then-is-2.ensures
+    (kind_at c.look-first.result w.Minus c.is-2.ensures c.if-is-2.true) (begin c.requires) c.look-first.ensures
+    c.skip.ensures) c.value-then-is-2.ensures
 
 pub returns-in-Number : goal.returns-in-Number
 returns-in-Number c = say (λ _. c.unsigned.ensures ∙ ap (λ v. (let x : SynConst =
@@ -29,14 +30,16 @@ returns-in-Number c = say (λ _. c.unsigned.ensures ∙ ap (λ v. (let x : SynCo
 pub returns-in-Name : goal.returns-in-Name
 returns-in-Name c = say (λ _. c.unsigned-in-Name.ensures)
     (keep (λ _. record { at = c.look-first.result.at; negative = None; value = value.Named c.made-name.result })
-    (row_at [] (row.constant row.constant_name) refl refl refl tt c.in-Name.is (begin c.requires) c.look-first.ensures c.skip.ensures) c.made-name.ensures
+    (row_at [] (row.constant row.constant_name) refl refl refl tt c.in-Name.is (begin c.requires) c.look-first.ensures
+    c.skip.ensures) c.made-name.ensures
     (λ p _. ap (λ v. (let x : SynConst = record { at = c.look-first.result.at; negative = None; value = value.Named v }
     in x)) (is_made _ _ p c.name_at.ensures)))
 
 pub returns-in-Text : goal.returns-in-Text
 returns-in-Text c = say (λ _. c.unsigned-in-Text.ensures)
     (keep (λ _. record { at = c.look-first.result.at; negative = None; value = value.Quoted c.made-text.result })
-    (row_at [] (row.constant row.constant_text) refl refl refl tt c.in-Text.is (begin c.requires) c.look-first.ensures c.skip.ensures) c.made-text.ensures
+    (row_at [] (row.constant row.constant_text) refl refl refl tt c.in-Text.is (begin c.requires) c.look-first.ensures
+    c.skip.ensures) c.made-text.ensures
     (λ p _. ap (λ v. (let x : SynConst = record { at = c.look-first.result.at; negative = None; value = value.Quoted v }
     in x)) (is_made _ _ p c.quoted_at.ensures)))
 

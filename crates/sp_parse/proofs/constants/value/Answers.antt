@@ -10,11 +10,13 @@ use Rattle.sp_parse.proofs.ReadNames.{is_made}
 use Rattle.sp_parse.proofs.constants.value.Goals as goal
 
 pub returns-in-Number : goal.returns-in-Number
-returns-in-Number c = say (λ _. ap value.Number c.number_at.ensures) (row_at [] row.value_number refl refl refl tt c.in-Number.is
+returns-in-Number c = say (λ _. ap value.Number c.number_at.ensures) (row_at [] row.value_number refl refl refl tt
+    c.in-Number.is
     (begin c.requires) c.look-first.ensures c.skip.ensures)
 
 pub returns-in-Name : goal.returns-in-Name
-returns-in-Name c = keep (λ _. value.Named c.made.result) (row_at [] row.value_name refl refl refl tt c.in-Name.is (begin c.requires)
+returns-in-Name c = keep (λ _. value.Named c.made.result) (row_at [] row.value_name refl refl refl tt c.in-Name.is
+    (begin c.requires)
     c.look-first.ensures c.skip.ensures) c.made.ensures (λ p _. ap value.Named (is_made _ _ p c.name_at.ensures))
 
 pub returns-in_default : goal.returns-in_default

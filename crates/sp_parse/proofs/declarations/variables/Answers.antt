@@ -8,9 +8,10 @@ use Rattle.sp_grammar.specs.Table as row
 use Rattle.sp_grammar.specs.Table.{RowEntry, PartsRow, row_entry, look, parts_rows}
 use Rattle.sp_parse.specs.BlockProductions.{group}
 use Rattle.sp_parse.specs.Trees.{and_parts}
-use Rattle.sp_parse.proofs.Pending.{begin, read, read_as, keep, pass}
+use Rattle.sp_parse.proofs.Lists.{part_behind}
+use Rattle.sp_parse.proofs.Pending.{begin, read_as, keep, pass}
 use Rattle.sp_parse.proofs.Rows.{kind_at, other_at}
-use Rattle.sp_parse.proofs.Turns.{name_turn_at, parts_turn, part_behind}
+use Rattle.sp_parse.proofs.Turns.{name_turn_at, parts_turn}
 use Rattle.sp_parse.proofs.declarations.variables.Goals as goal
 
 pub more-init : goal.more-init
@@ -20,8 +21,10 @@ pub group-of-requires : goal.group-of-requires
 group-of-requires c = (c.more.invariant 0).ready
 
 pub more-preserved : goal.more-preserved
-more-preserved c = λ d. name_turn_at row.next_variable refl refl (λ (name, (more, (_, (kind, (_, (behind, _)))))). with_part_first (tree.Var (name ∷ more) kind) behind)
-    (λ t vs. refl) [] (keep (λ vs. and_parts c.push.new.all vs.0) (pass (read_as group.symbols (AToken w.Semicolon ∷ MoreVariables d ∷ [])
+more-preserved c = λ d. name_turn_at row.next_variable refl refl (λ (name, (more, (_, (kind, (_, (behind, _)))))).
+    with_part_first (tree.Var (name ∷ more) kind) behind)
+    (λ t vs. refl) [] (keep (λ vs. and_parts c.push.new.all vs.0) (pass (read_as group.symbols (AToken w.Semicolon ∷
+    MoreVariables d ∷ [])
     (λ vs. and_parts c.more.all (with_part_first (tree.Var c.group-of.result.names c.group-of.result.kind) vs.1.0))
     (c.more.invariant d) c.group-of.ensures
     (λ us same vs. ap (λ g. and_parts c.more.all (with_part_first (tree.Var g.names g.kind) vs.1.0)) same))
@@ -31,7 +34,8 @@ more-preserved c = λ d. name_turn_at row.next_variable refl refl (λ (name, (mo
     c.look-next.ensures (kind_at c.look-next.result kind.Name c.is.ensures (search rules)) refl
 
 pub returns-then-not-is : goal.returns-then-not-is
-returns-then-not-is c = λ d. parts_turn d (λ e. row.after_variables e.row) (λ b. b) (λ e t us. refl) [] (keep (λ vs. and_parts c.push.new.all vs.0) (pass (read_as group.symbols (AToken w.Semicolon ∷ MoreVariables d ∷ [])
+returns-then-not-is c = λ d. parts_turn d (λ e. row.after_variables e.row) (λ b. b) (λ e t us. refl) [] (keep (λ vs.
+    and_parts c.push.new.all vs.0) (pass (read_as group.symbols (AToken w.Semicolon ∷ MoreVariables d ∷ [])
     (λ vs. and_parts c.more.all (with_part_first (tree.Var c.group-of.result.names c.group-of.result.kind) vs.1.0))
     (c.more.invariant d) c.group-of.ensures
     (λ us same vs. ap (λ g. and_parts c.more.all (with_part_first (tree.Var g.names g.kind) vs.1.0)) same))

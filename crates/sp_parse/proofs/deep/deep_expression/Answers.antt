@@ -8,5 +8,6 @@ use Rattle.sp_parse.proofs.deep.deep_expression.Goals as goal
 
 pub returns : goal.returns
 returns c = λ d h. fail_at _ (begin c.requires) c.look-first.ensures (λ u q. deep_at c.args.source.now (AnExpression d)
-    c.look-first.result u c.begins_simple.result (expression_rows c.look-first.result c.begins_simple.result c.begins_simple.ensures d)
+    c.look-first.result u c.begins_simple.result (expression_rows c.look-first.result c.begins_simple.result
+    c.begins_simple.ensures d)
     (above d nesting h) refl q) refl c.why.ensures c.fail.ensures

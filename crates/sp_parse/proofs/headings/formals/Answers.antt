@@ -1,4 +1,4 @@
-use Rattle.std.proofs.Common.{[], ◌∙◌, ap, refl}
+use Rattle.std.proofs.Common.{[], refl}
 use Rattle.sp_grammar.specs.Table as row
 use Rattle.sp_parse.specs.BlockProductions.{formals}
 use Rattle.sp_parse.proofs.Pending.{begin, say, go_on, pass_row, leave_at, passed, not_passed}
@@ -6,7 +6,8 @@ use Rattle.sp_parse.proofs.Turns.{none_if}
 use Rattle.sp_parse.proofs.headings.formals.Goals as goal
 
 pub returns-then-pass : goal.returns-then-pass
-returns-then-pass c = go_on (pass_row [] row.formals refl refl (begin c.requires) (passed c.pass.ensures c.if-pass.true))
+returns-then-pass c = go_on (pass_row [] row.formals refl refl (begin c.requires) (passed c.pass.ensures
+    c.if-pass.true))
     c.some_formals.ensures (λ us. refl)
 
 pub returns : goal.returns

@@ -12,10 +12,13 @@ more-init c = say (λ (formal, (more, _)). ap (λ l. l ++ formal ∷ more) c.new
 pub returns-then-not-goes_on : goal.returns-then-not-goes_on
 returns-then-not-goes_on c = say (λ _. back_of (append-nil c.push.new.all)) (close [] row.formals_end refl refl
     (λ t n. ap (λ x. cond (kind_is w.Close t.kind) (Some (row_entry _ _ row.formals_end))
-    (cond x (Some (row_entry _ _ row.next_formal)) None)) n) (λ t. refl) (keep (λ vs. c.push.new.all ++ vs.0) (read c.more.invariant c.formal-next.ensures) c.push.ensures
+    (cond x (Some (row_entry _ _ row.next_formal)) None)) n) (λ t. refl) (keep (λ vs. c.push.new.all ++ vs.0) (read
+    c.more.invariant c.formal-next.ensures) c.push.ensures
     (λ p vs. ap (λ l. l ++ vs.0) p ∙ append_assoc c.more.all (c.formal-next.result ∷ []) vs.0))
     (closed c.goes_on.ensures (search rules)))
 
 pub more-preserved : goal.more-preserved
-more-preserved c = pass_row [] row.next_formal refl refl (keep (λ vs. c.push.new.all ++ vs.0) (read c.more.invariant c.formal-next.ensures) c.push.ensures
-    (λ p vs. ap (λ l. l ++ vs.0) p ∙ append_assoc c.more.all (c.formal-next.result ∷ []) vs.0)) (went_on _ c.goes_on.ensures (search rules))
+more-preserved c = pass_row [] row.next_formal refl refl (keep (λ vs. c.push.new.all ++ vs.0) (read c.more.invariant
+    c.formal-next.ensures) c.push.ensures
+    (λ p vs. ap (λ l. l ++ vs.0) p ∙ append_assoc c.more.all (c.formal-next.result ∷ []) vs.0)) (went_on _
+    c.goes_on.ensures (search rules))

@@ -12,10 +12,13 @@ more-init c = say (λ (label, (labels, _)). ap (λ l. l ++ label ∷ labels) c.n
 pub returns-then-not-goes_on : goal.returns-then-not-goes_on
 returns-then-not-goes_on c = say (λ _. back_of (append-nil c.push.new.all)) (close [] row.labels_end refl refl
     (λ t n. ap (λ x. cond (kind_is w.Colon t.kind) (Some (row_entry _ _ row.labels_end))
-    (cond x (Some (row_entry _ _ row.next_label)) None)) n) (λ t. refl) (keep (λ vs. c.push.new.all ++ vs.0) (read c.more.invariant c.constant-next.ensures) c.push.ensures
+    (cond x (Some (row_entry _ _ row.next_label)) None)) n) (λ t. refl) (keep (λ vs. c.push.new.all ++ vs.0) (read
+    c.more.invariant c.constant-next.ensures) c.push.ensures
     (λ p vs. ap (λ l. l ++ vs.0) p ∙ append_assoc c.more.all (c.constant-next.result ∷ []) vs.0))
     (closed c.goes_on.ensures (search rules)))
 
 pub more-preserved : goal.more-preserved
-more-preserved c = pass_row [] row.next_label refl refl (keep (λ vs. c.push.new.all ++ vs.0) (read c.more.invariant c.constant-next.ensures) c.push.ensures
-    (λ p vs. ap (λ l. l ++ vs.0) p ∙ append_assoc c.more.all (c.constant-next.result ∷ []) vs.0)) (went_on _ c.goes_on.ensures (search rules))
+more-preserved c = pass_row [] row.next_label refl refl (keep (λ vs. c.push.new.all ++ vs.0) (read c.more.invariant
+    c.constant-next.ensures) c.push.ensures
+    (λ p vs. ap (λ l. l ++ vs.0) p ∙ append_assoc c.more.all (c.constant-next.result ∷ []) vs.0)) (went_on _
+    c.goes_on.ensures (search rules))

@@ -1,4 +1,4 @@
-use Rattle.std.proofs.Common.{[], ◌∷◌, ◌∙◌, ap}
+use Rattle.std.proofs.Common.{[], ◌∷◌, ap}
 use Rattle.sp_tree.specs.Words as w
 use Rattle.sp_tree.specs.declared.syntax.SynGroup.{SynGroup}
 use Rattle.sp_grammar.specs.Symbols.{AName, MoreNames, AToken}

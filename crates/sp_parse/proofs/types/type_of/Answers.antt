@@ -14,23 +14,29 @@ use Rattle.sp_parse.proofs.types.type_of.Goals as goal
 
 pub returns-then-is : goal.returns-then-is
 returns-then-is c = keep (λ _. kinds.Alias c.made.result) (row_at [] row.alias refl refl refl tt
-    (kind_at c.look-first.result kind.Name c.is.ensures c.if-is.true) (begin c.requires) c.look-first.ensures c.skip.ensures) c.made.ensures (λ p _. ap kinds.Alias (is_made _ _ p c.name_at.ensures))
+    (kind_at c.look-first.result kind.Name c.is.ensures c.if-is.true) (begin c.requires) c.look-first.ensures
+    c.skip.ensures) c.made.ensures (λ p _. ap kinds.Alias (is_made _ _ p c.name_at.ensures))
 
 pub returns-then-is-2 : goal.returns-then-is-2
 returns-then-is-2 c = read_as listed_names.symbols [] (λ _. kinds.Enumeration c.listed.result)
-    (row_at [] row.enumeration refl refl refl tt (kind_at c.look-first.result w.Open c.is-2.ensures c.if-is-2.true) (begin c.requires) c.look-first.ensures c.skip.ensures) c.listed.ensures
+    (row_at [] row.enumeration refl refl refl tt (kind_at c.look-first.result w.Open c.is-2.ensures c.if-is-2.true)
+    (begin c.requires) c.look-first.ensures c.skip.ensures) c.listed.ensures
     (λ us same _. ap kinds.Enumeration same)
 
 pub returns-then-is-3 : goal.returns-then-is-3
-returns-then-is-3 c = go_on (row_at [] row.array refl refl refl tt (kind_at c.look-first.result w.Array c.is-3.ensures c.if-is-3.true) (begin c.requires) c.look-first.ensures c.skip.ensures) c.array.ensures (λ us. refl)
+returns-then-is-3 c = go_on (row_at [] row.array refl refl refl tt (kind_at c.look-first.result w.Array c.is-3.ensures
+    c.if-is-3.true) (begin c.requires) c.look-first.ensures c.skip.ensures) c.array.ensures (λ us. refl)
 
 pub returns-then-is-4 : goal.returns-then-is-4
 returns-then-is-4 c = read_as fields.symbols [] (λ _. kinds.Record c.fields.result)
-    (row_at [] row.fields refl refl refl tt (kind_at c.look-first.result w.Record c.is-4.ensures c.if-is-4.true) (begin c.requires) c.look-first.ensures c.skip.ensures) c.fields.ensures
+    (row_at [] row.fields refl refl refl tt (kind_at c.look-first.result w.Record c.is-4.ensures c.if-is-4.true)
+    (begin c.requires) c.look-first.ensures c.skip.ensures) c.fields.ensures
     (λ us same _. ap kinds.Record same)
 
 pub returns-then-is-5 : goal.returns-then-is-5
-returns-then-is-5 c = go_on (row_at [] row.channel refl refl refl tt (kind_at c.look-first.result w.Times c.is-5.ensures c.if-is-5.true) (begin c.requires) c.look-first.ensures c.skip.ensures) c.channel.ensures (λ us. refl)
+returns-then-is-5 c = go_on (row_at [] row.channel refl refl refl tt (kind_at c.look-first.result w.Times
+    c.is-5.ensures c.if-is-5.true) (begin c.requires) c.look-first.ensures c.skip.ensures) c.channel.ensures (λ us.
+    refl)
 
 pub returns : goal.returns
 returns c = fail_at _ (begin c.requires) c.look-first.ensures (λ u q. step_fails c.args.source.now AType
@@ -40,7 +46,14 @@ returns c = fail_at _ (begin c.requires) c.look-first.ensures (λ u q. step_fail
         other_at c.look-first.result w.Open c.is-2.ensures c.if-is-2.false,
         (
           other_at c.look-first.result w.Array c.is-3.ensures c.if-is-3.false,
-          (other_at c.look-first.result w.Record c.is-4.ensures c.if-is-4.false, (other_at c.look-first.result w.Times c.is-5.ensures c.if-is-5.false, tt)),
+          (
+            other_at c.look-first.result w.Record c.is-4.ensures c.if-is-4.false,
+            (
+              other_at c.look-first.result w.Times
+                  c.is-5.ensures c.if-is-5.false,
+              tt,
+            ),
+          ),
         ),
       ),
     )) refl q)
