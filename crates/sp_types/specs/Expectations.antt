@@ -1,7 +1,7 @@
 -- None of this belongs to what the program promises: it is for contracts between crates.
--- What the places of statements ask of an expression, with the rule at each: one name for nine rules of TypeRules.antt.
+-- What a place asks of an expression, with the rule at it: one name for thirteen rules of TypeRules.antt.
 -- What is read, written or opened: one name for three lists of CheckedTree.antt.
-use Rattle.std.specs.Prelude.{ℕ, nat_eq, not, Bool, false, List, Option, Some, None}
+use Rattle.std.specs.Prelude.{ℕ, nat_eq, not, Bool, ◌||◌, false, List, Option, Some, None}
 use Rattle.std.specs.List.{list_any}
 use Rattle.sp_base.specs.declared.place.Place.{Place}
 use Rattle.sp_base.specs.declared.rule.Rule.{Rule}
@@ -18,7 +18,8 @@ use Rattle.sp_types.specs.Tables.{Env}
 use Rattle.sp_types.specs.TypeRules.{boolean, is_readable, is_writable, ordinal, channel, differ, messages}
 use Rattle.sp_types.specs.TypeRules.{condition_rule}
 use Rattle.sp_types.specs.TypeRules.{assign_rule, read_rule, write_rule, channel_rule, message_rule, range_rule}
-use Rattle.sp_types.specs.TypeRules.{limit_rule, selector_rule}
+use Rattle.sp_types.specs.TypeRules.{limit_rule, selector_rule, unary_rule, unary_takes, left_rule, right_rule}
+use Rattle.sp_types.specs.TypeRules.{binary_takes, standard_rule, standard_takes}
 use Rattle.sp_types.specs.Firsts.{read_first, write_first, channel_first}
 use Rattle.sp_types.specs.CheckedTree.{argument_variable, write_form, reads, writes, opens}
 
@@ -33,6 +34,10 @@ wanted_rule env (wanted.Message c) at k = message_rule env at c k
 wanted_rule env wanted.Range at k = range_rule env at k
 wanted_rule env (wanted.Limit v) at k = limit_rule at v k
 wanted_rule env wanted.Selector at k = selector_rule env at k
+wanted_rule env (wanted.Operand op) at k = unary_rule op at k
+wanted_rule env (wanted.Left op) at k = left_rule env op at k
+wanted_rule env (wanted.Right op left) at k = right_rule env op at left k
+wanted_rule env (wanted.Parameter f) at k = standard_rule env f at k
 
 -- the row of that rule
 abbrev pub wanted_row : Wanted → Rule
@@ -42,6 +47,9 @@ wanted_row (wanted.Message c) = rule.Y9
 wanted_row wanted.Range = rule.Y10
 wanted_row (wanted.Limit v) = rule.Y10
 wanted_row wanted.Selector = rule.Y11
+wanted_row (wanted.Operand op) = rule.Y1
+wanted_row (wanted.Left op) = rule.Y1
+wanted_row (wanted.Right op left) = rule.Y1
 wanted_row _ = rule.Y8
 
 -- a type that is not among the message types of a channel
@@ -60,6 +68,10 @@ misfits env (wanted.Message c) k = refuses (messages env c) k
 misfits env wanted.Range k = not (ordinal env k)
 misfits env (wanted.Limit v) k = differ v (Some k)
 misfits env wanted.Selector k = not (ordinal env k)
+misfits env (wanted.Operand op) k = not (nat_eq (unary_takes op) k)
+misfits env (wanted.Left op) k = not (binary_takes env op k)
+misfits env (wanted.Right op left) k = not (binary_takes env op k) || differ left (Some k)
+misfits env (wanted.Parameter f) k = not (standard_takes env f k)
 
 -- what is read, written or opened as one statement, of one argument and of all
 abbrev pub part_form : Env → Part → Argument → c.Form

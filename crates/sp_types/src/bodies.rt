@@ -1,6 +1,6 @@
 //! The number of each block's first statement: numbers go by the order of the text.
 
-ghost use Rattle.std.specs.Prelude.{◌≡◌, ◌∷◌, [], map, Ok};
+ghost use Rattle.std.specs.Prelude.{◌≡◌, map, Ok};
 ghost use Rattle.sp_tree.specs.PhaseResults.{Answers};
 ghost use Rattle.sp_tree.specs.NamedOf.{block_of};
 ghost use Rattle.sp_types.specs.TypeWalk.{bodies, is_earlier, count_before};
@@ -29,20 +29,15 @@ fn earlier(a: Place, b: Place) -> bool
     a.line < b.line || (a.line == b.line && a.column < b.column)
 }
 
-/// How many statements there are with those of a part that begins before a place, and without those of any other.
-fn count_with(k: u32, at: Place, b: &(Place, u32)) -> Result<u32, Halt>
-    ensures { Answers result (Ok (count_before k at (b.now ∷ []))) }
-{
-    if earlier(b.0, at) { sum(k, b.1) } else { Ok(k) }
-}
-
 /// How many statements stand in the parts that begin before a place.
 pub fn count_before(at: Place, bodies: &[(Place, u32)]) -> Result<u32, Halt>
     ensures { Answers result (Ok (count_before 0 at bodies.now)) }
 {
     let mut k = 0;
     for b in bodies {
-        k = have!(count_with(k, at, b));
+        if earlier(b.0, at) {
+            k = have!(sum(k, b.1));
+        }
     }
     Ok(k)
 }

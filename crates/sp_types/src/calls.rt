@@ -10,15 +10,13 @@ ghost use Rattle.sp_types.specs.Tables.{char_of};
 ghost use Rattle.sp_types.specs.TypeFirst.{at_node};
 ghost use Rattle.sp_types.specs.TypeRules.{write_rule};
 ghost use Rattle.sp_types.specs.TypeWalk.{place};
-ghost use Rattle.sp_types.specs.Firsts.{expression_first, read_first, written_first, width_first, write_first};
-ghost use Rattle.sp_types.specs.Firsts.{channel_first, each_first};
-ghost use Rattle.sp_types.specs.CheckedTree.{checked_expression, target, argument_variable, checked_width};
+ghost use Rattle.sp_types.specs.Firsts.{expression_first, written_first, width_first, write_first, each_first};
+ghost use Rattle.sp_types.specs.CheckedTree.{checked_expression, target, checked_width};
 ghost use Rattle.sp_types.specs.CheckedTree.{write_text_form, write_value_form, write_form};
 ghost use Rattle.sp_types.specs.Expectations.{part_form, part_forms, part_first};
 
-use crate::checks::{type_wanted, type_width};
-use crate::expressions::place_of;
-use crate::rules::Wanted;
+use crate::expressions::{type_expression, type_wanted};
+use crate::rules::{Wanted, width_rule};
 use crate::tables::Tables;
 use crate::values::char_of;
 use sp_base::{List, Place, Text};
@@ -32,36 +30,12 @@ pub fn target(alloc: Global, e: Expr) -> Var
     let (at, _, form) = e.parts();
     match form {
         ExprForm::Read(v) => v,
-        _ => no_variable(alloc, at),
+        _ => Var {
+            variable: 0,
+            at,
+            selectors: List::new(alloc),
+        },
     }
-}
-
-fn no_variable(alloc: Global, at: Place) -> Var
-    ensures { checked.variable_of result ≡ c.Entire 0 at c.Whole }
-{
-    Var {
-        variable: 0,
-        at,
-        selectors: List::new(alloc),
-    }
-}
-
-fn type_read(alloc: Global, t: &Tables, walk: &mut Walk, a: NamedArg) -> Form
-    ensures { Keeps walk.old walk.new (read_first t.now (argument_of a) walk.old.first)
-        (checked.statement_form_of result ≡ c.ReadValue (argument_variable t.now (argument_of a))) }
-{
-    let NamedArg { value, width: _ } = a;
-    let e = type_wanted(alloc, t, walk, value, Wanted::Read);
-    Form::ReadValue(target(alloc, e.tree))
-}
-
-fn type_open(alloc: Global, t: &Tables, walk: &mut Walk, a: NamedArg) -> Form
-    ensures { Keeps walk.old walk.new (channel_first t.now (argument_of a) walk.old.first)
-        (checked.statement_form_of result ≡ c.Open (argument_variable t.now (argument_of a))) }
-{
-    let NamedArg { value, width: _ } = a;
-    let e = type_wanted(alloc, t, walk, value, Wanted::Channel);
-    Form::Open(target(alloc, e.tree))
 }
 
 fn type_width_of(
@@ -76,7 +50,11 @@ fn type_width_of(
 {
     match w {
         None => None,
-        Some(e) => Some(type_width(alloc, t, walk, e, at).tree),
+        Some(e) => {
+            let e = type_expression(alloc, t, walk, e);
+            walk.note(width_rule(at, e.kind));
+            Some(e.tree)
+        }
     }
 }
 
@@ -123,7 +101,7 @@ fn type_write(alloc: Global, t: &Tables, walk: &mut Walk, a: NamedArg) -> Form
         (checked.statement_form_of result ≡ write_form t.now (argument_of a)) }
 {
     let NamedArg { value, width } = a;
-    let at = place_of(&value);
+    let at = value.at;
     let w = type_width_of(alloc, t, walk, width, at);
     type_written(alloc, t, walk, value, w)
 }
@@ -141,9 +119,17 @@ fn type_part(alloc: Global, t: &Tables, walk: &mut Walk, part: Part, a: NamedArg
         (checked.statement_form_of result ≡ part_form t.now part (argument_of a)) }
 {
     match part {
-        Part::Read => type_read(alloc, t, walk, a),
+        Part::Read => {
+            let NamedArg { value, width: _ } = a;
+            let e = type_wanted(alloc, t, walk, value, Wanted::Read);
+            Form::ReadValue(target(alloc, e.tree))
+        }
         Part::Write => type_write(alloc, t, walk, a),
-        Part::Open => type_open(alloc, t, walk, a),
+        Part::Open => {
+            let NamedArg { value, width: _ } = a;
+            let e = type_wanted(alloc, t, walk, value, Wanted::Channel);
+            Form::Open(target(alloc, e.tree))
+        }
     }
 }
 

@@ -1,32 +1,21 @@
 //! The constants of a `case` statement, and the rules at them.
 
-ghost use Rattle.std.specs.Prelude.{◌≡◌, map, Ok, []};
+ghost use Rattle.std.specs.Prelude.{map, Ok, []};
 ghost use Rattle.sp_tree.specs.PhaseResults.{Answers};
 ghost use Rattle.sp_tree.specs.NamedOf.{arms, arm_of};
-ghost use Rattle.sp_types.specs.TypeRules.{repeat_rule};
 ghost use Rattle.sp_types.specs.TypeWalk.{with_constant, with_constants, constant_lists};
 ghost use Rattle.sp_types.specs.Firsts.{choice_first, choices_first, lists_first};
 ghost use Rattle.sp_types.specs.CheckedTree.{constant_numbers};
 
 use crate::have;
-use crate::rules::choice_rule;
+use crate::rules::differ;
 use crate::seen::Seen;
 use crate::signed_constants::{const_rule, const_value};
 use crate::tables::{Ordinal, Tables, ordinal_kind};
 use crate::values::number_or;
-use sp_base::{Halt, List, Place, Rule};
+use sp_base::{Halt, List, Rule};
 use sp_tree::{FirstRefusal, NamedArm, NamedConst, breaks_if, earlier_refusal};
 use std::alloc::Global;
-
-/// Y12 at a constant of a `case` statement, behind others.
-fn repeat_rule(at: Place, before: &Seen, o: Option<Ordinal>) -> FirstRefusal
-    ensures { result ≡ repeat_rule at before.now o }
-{
-    match o {
-        None => None,
-        Some(o) => breaks_if(Rule::Y12, at, before.contains(o)),
-    }
-}
 
 /// One more constant behind others.
 fn with_constant(o: Option<Ordinal>, before: Seen) -> Result<Seen, Halt>
@@ -51,9 +40,13 @@ fn check_choice(
     let known = t.constants.items();
     let long = have!(const_rule(known, c));
     let o = have!(const_value(known, c));
-    let other = choice_rule(c.at, k, ordinal_kind(o));
+    let other = breaks_if(Rule::Y11, c.at, differ(k, ordinal_kind(o)));
     let first = earlier_refusal(earlier_refusal(first, long), other);
-    Ok(earlier_refusal(first, repeat_rule(c.at, before, o)))
+    let again = match o {
+        None => false,
+        Some(o) => before.contains(o),
+    };
+    Ok(earlier_refusal(first, breaks_if(Rule::Y12, c.at, again)))
 }
 
 /// The constants of one choice, behind those of others.

@@ -2,7 +2,7 @@
 
 ghost use Rattle.std.specs.Prelude.{◌≡◌, ◌∷◌, [], drop, ◌++◌, Ok, OnOk};
 ghost use Rattle.sp_tree.specs.PhaseResults.{Answers, earlier_refusal};
-ghost use Rattle.sp_types.specs.TypeRules.{const_rule, bounds_rule, cells_rule, frame_rule, frame_cells};
+ghost use Rattle.sp_types.specs.TypeRules.{const_rule, bounds_rule, frame_rule, frame_cells};
 ghost use Rattle.sp_types.specs.Tables.{const_value};
 ghost use Rattle.sp_types.specs.TypeWalk.{place_by, places_of};
 ghost use Rattle.sp_types.specs.DeclarationFirsts.{constants_first, bounds_first, kinds_first, cells_first};
@@ -145,18 +145,12 @@ pub fn places_of(alloc: Global, kinds: &[NamedKind]) -> Result<List<Place>, Halt
     Ok(List::of(out))
 }
 
-fn cells_rule(at: Place, cells: u32) -> FirstRefusal
-    ensures { result ≡ cells_rule at cells }
-{
-    breaks_if(Rule::L3, at, MOST_CELLS < cells)
-}
-
 fn check_cells_at(at: Place, cells: &[u32], i: usize, first: FirstRefusal) -> FirstRefusal
     ensures { result ≡ cells_first (at ∷ []) (drop i cells.now) first }
 {
     match cells.get(i) {
         None => first,
-        Some(n) => earlier_refusal(first, cells_rule(at, *n)),
+        Some(cells) => earlier_refusal(first, breaks_if(Rule::L3, at, MOST_CELLS < *cells)),
     }
 }
 

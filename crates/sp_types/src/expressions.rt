@@ -1,6 +1,6 @@
 //! The pass over expressions, which consumes the tree and gives tree, type and first broken rule at once.
 
-ghost use Rattle.std.specs.Prelude.{◌≡◌, map, option_map, None, Some};
+ghost use Rattle.std.specs.Prelude.{◌≡◌, map, None};
 ghost use Rattle.sp_tree.specs.NamedOf.{expression_of, expression_form_of, variable_of, selector_of, argument_of};
 ghost use Rattle.sp_tree.specs.NamedOf.{arguments, selectors};
 ghost use Rattle.sp_tree.specs.PlainNamed.{Quoted};
@@ -14,23 +14,23 @@ ghost use Rattle.sp_types.specs.Kinds.{argument_kind};
 ghost use Rattle.sp_types.specs.Firsts.{expression_first, form_first, variable_first, selectors_first, selector_first};
 ghost use Rattle.sp_types.specs.Firsts.{actuals_first, actual_first, standard_first, parameter_first};
 ghost use Rattle.sp_types.specs.TypeFirst.{at_node};
-ghost use Rattle.sp_types.specs.TypeRules.{standard_rule, unary_rule, unary_takes, left_rule, right_rule, binary_gives};
+ghost use Rattle.sp_types.specs.Expectations.{wanted_rule};
 ghost use Rattle.sp_types.specs.CheckedTree.{checked_expression, checked_form, checked_variable, checked_selectors};
 ghost use Rattle.sp_types.specs.CheckedTree.{checked_selector, checked_actuals, checked_actual, checked_arguments};
-ghost use Rattle.sp_types.specs.CheckedTree.{checked_argument, variable_actual, actual_for_role};
+ghost use Rattle.sp_types.specs.CheckedTree.{checked_argument, actual_for_role};
 ghost use Rattle.sp_types.specs.TypeWalk.{is_variable, place, formal, formals_behind, formal_role};
 
 use crate::pass_results::Typed;
 use crate::rules::{
-    actual_rule, binary_gives, element, index_rule, left_rule, right_rule, standard_gives,
-    standard_rule, text_rule, unary_rule, unary_takes,
+    Wanted, actual_rule, binary_gives, element, index_rule, standard_gives, unary_takes,
+    wanted_rule,
 };
 use crate::tables::{Tables, ordinal_kind};
-use crate::values::{char_of, field, field_rule, integer, number_or, numbered_field, or_zero};
-use sp_base::{Boxed, List, Place, Text};
+use crate::values::{char_of, integer, number_or, or_zero, type_field};
+use sp_base::{List, Place, Rule, Text};
 use sp_tree::{
     Actual, BinaryOp, Expr, ExprForm, NamedArg, NamedExpr, NamedExprForm, NamedSelector, NamedVar,
-    Role, Selector, StandardFn, UnaryOp, Var, Walk,
+    Role, Selector, StandardFn, UnaryOp, Var, Walk, breaks_if,
 };
 use std::alloc::Global;
 
@@ -52,22 +52,24 @@ pub fn type_expression(alloc: Global, t: &Tables, walk: &mut Walk, e: NamedExpr)
     }
 }
 
+/// An expression that has to be what its place asks for.
 #[cycle(expression)]
-fn type_boxed(
+pub fn type_wanted(
     alloc: Global,
     t: &Tables,
     walk: &mut Walk,
-    e: Boxed<NamedExpr>,
-) -> Typed<Option<Boxed<Expr>>>
-    ensures { Types (option_map checked.expression_of) walk.old walk.new result
-        (Some (checked_expression t.now (expression_of e)))
-        (expression_kind t.now (expression_of e)) (expression_first t.now (expression_of e) walk.old.first) }
+    e: NamedExpr,
+    wanted: Wanted,
+) -> Typed<Expr>
+    ensures { Types checked.expression_of walk.old walk.new result (checked_expression t.now (expression_of e))
+        (expression_kind t.now (expression_of e))
+        (at_node (wanted_rule t.now wanted (place (expression_of e)) (expression_kind t.now (expression_of e)))
+        (expression_first t.now (expression_of e) walk.old.first)) }
 {
-    let Typed { tree, kind } = type_expression(alloc, t, walk, e.into_inner());
-    Typed {
-        tree: walk.boxed(alloc, tree),
-        kind,
-    }
+    let at = e.at;
+    let e = type_expression(alloc, t, walk, e);
+    walk.note(wanted_rule(t, wanted, at, e.kind));
+    e
 }
 
 #[cycle(expression)]
@@ -101,13 +103,10 @@ fn type_form(
                 kind,
             }
         }
-        NamedExprForm::Call(f, name, args) => {
-            let tree = type_actuals(alloc, t, walk, args, t.formals(f));
-            Typed {
-                tree: ExprForm::Call(f, name, tree),
-                kind: t.answer_kind(f),
-            }
-        }
+        NamedExprForm::Call(f, name, args) => Typed {
+            tree: ExprForm::Call(f, name, type_actuals(alloc, t, walk, args, t.formals(f))),
+            kind: t.answer_kind(f),
+        },
         NamedExprForm::Standard(f, args) => {
             let Typed { tree, kind } = type_standard(alloc, t, walk, args, f);
             Typed {
@@ -115,47 +114,49 @@ fn type_form(
                 kind: standard_gives(t, f, kind),
             }
         }
-        NamedExprForm::Unary(op, a) => type_unary(alloc, t, walk, a, op),
-        NamedExprForm::Binary(op, a, b) => {
-            let a = type_left(alloc, t, walk, a, op);
-            let b = type_right(alloc, t, walk, b, a.kind, op);
+        NamedExprForm::Unary(op, a) => {
+            let a = type_wanted(alloc, t, walk, a.into_inner(), Wanted::Operand(op));
             Typed {
-                tree: binary(op, a.tree, b.tree),
+                tree: unary(alloc, walk, op, a.tree),
+                kind: Some(unary_takes(op)),
+            }
+        }
+        NamedExprForm::Binary(op, a, b) => {
+            let a = a.into_inner();
+            let b = b.into_inner();
+            let left = type_wanted(alloc, t, walk, a, Wanted::Left(op));
+            let right = type_wanted(alloc, t, walk, b, Wanted::Right(op, left.kind));
+            Typed {
+                tree: binary(alloc, walk, op, left.tree, right.tree),
                 kind: Some(binary_gives(op)),
             }
         }
     }
 }
 
-/// An operand under its operator. If it is missing, the walk is lost, and this is no answer.
-fn unary(op: UnaryOp, a: Option<Boxed<Expr>>) -> ExprForm
-    ensures { (x : c.Expression) → option_map checked.expression_of a ≡ Some x
-        → checked.expression_form_of result ≡ c.Unary op x }
+/// An operand under its operator. Where there is no box for it, the walk is lost, and this is no answer.
+fn unary(alloc: Global, walk: &mut Walk, op: UnaryOp, a: Expr) -> ExprForm
+    ensures { Keeps walk.old walk.new walk.old.first
+        (checked.expression_form_of result ≡ c.Unary op (checked.expression_of a)) }
 {
-    match a {
+    match walk.boxed(alloc, a) {
         Some(a) => ExprForm::Unary(op, a),
         None => ExprForm::Number(0),
     }
 }
 
 /// Both operands, in the same way.
-fn binary(op: BinaryOp, a: Option<Boxed<Expr>>, b: Option<Boxed<Expr>>) -> ExprForm
-    ensures { (x y : c.Expression) → option_map checked.expression_of a ≡ Some x
-        → option_map checked.expression_of b ≡ Some y → checked.expression_form_of result ≡ c.Binary op x y }
+fn binary(alloc: Global, walk: &mut Walk, op: BinaryOp, a: Expr, b: Expr) -> ExprForm
+    ensures { Keeps walk.old walk.new walk.old.first
+        (checked.expression_form_of result ≡ c.Binary op (checked.expression_of a) (checked.expression_of b)) }
 {
-    match a {
-        Some(a) => match b {
+    match walk.boxed(alloc, a) {
+        Some(a) => match walk.boxed(alloc, b) {
             Some(b) => ExprForm::Binary(op, a, b),
             None => ExprForm::Unary(UnaryOp::Plus, a),
         },
-        None => unary(UnaryOp::Plus, b),
+        None => unary(alloc, walk, UnaryOp::Plus, b),
     }
-}
-
-pub fn place_of(e: &NamedExpr) -> Place
-    ensures { result ≡ place (expression_of e.now) }
-{
-    e.at
 }
 
 fn type_text(walk: &mut Walk, text: &Text, at: Place) -> Typed<ExprForm>
@@ -164,74 +165,11 @@ fn type_text(walk: &mut Walk, text: &Text, at: Place) -> Typed<ExprForm>
         (form_first env at (Quoted text.now) walk.old.first) }
 {
     let o = char_of(text);
-    walk.note(text_rule(at, text));
+    walk.note(breaks_if(Rule::Y14, at, text.bytes().len() != 1));
     Typed {
         tree: ExprForm::Number(number_or(0, o)),
         kind: ordinal_kind(o),
     }
-}
-
-#[cycle(expression)]
-fn type_unary(
-    alloc: Global,
-    t: &Tables,
-    walk: &mut Walk,
-    a: Boxed<NamedExpr>,
-    op: UnaryOp,
-) -> Typed<ExprForm>
-    ensures { Types checked.expression_form_of walk.old walk.new result
-        (c.Unary op (checked_expression t.now (expression_of a))) (Some (unary_takes op))
-        (at_node (unary_rule op (place (expression_of a)) (expression_kind t.now (expression_of a)))
-        (expression_first t.now (expression_of a) walk.old.first)) }
-{
-    let at = place_of(a.get());
-    let e = type_boxed(alloc, t, walk, a);
-    walk.note(unary_rule(op, at, e.kind));
-    Typed {
-        tree: unary(op, e.tree),
-        kind: Some(unary_takes(op)),
-    }
-}
-
-/// The left operand.
-#[cycle(expression)]
-fn type_left(
-    alloc: Global,
-    t: &Tables,
-    walk: &mut Walk,
-    a: Boxed<NamedExpr>,
-    op: BinaryOp,
-) -> Typed<Option<Boxed<Expr>>>
-    ensures { Types (option_map checked.expression_of) walk.old walk.new result
-        (Some (checked_expression t.now (expression_of a))) (expression_kind t.now (expression_of a))
-        (at_node (left_rule t.now op (place (expression_of a)) (expression_kind t.now (expression_of a)))
-        (expression_first t.now (expression_of a) walk.old.first)) }
-{
-    let at = place_of(a.get());
-    let e = type_boxed(alloc, t, walk, a);
-    walk.note(left_rule(t, op, at, e.kind));
-    e
-}
-
-/// The right operand, behind the left, which has this type.
-#[cycle(expression)]
-fn type_right(
-    alloc: Global,
-    t: &Tables,
-    walk: &mut Walk,
-    b: Boxed<NamedExpr>,
-    left: Option<u32>,
-    op: BinaryOp,
-) -> Typed<Option<Boxed<Expr>>>
-    ensures { Types (option_map checked.expression_of) walk.old walk.new result
-        (Some (checked_expression t.now (expression_of b))) (expression_kind t.now (expression_of b))
-        (at_node (right_rule t.now op (place (expression_of b)) left (expression_kind t.now (expression_of b)))
-        (expression_first t.now (expression_of b) walk.old.first)) }
-{
-    let at = place_of(b.get());
-    let e = type_boxed(alloc, t, walk, b);
-    walk.note(right_rule(t, op, at, left, e.kind));
-    e
 }
 
 /// A variable with its selectors.
@@ -308,10 +246,10 @@ fn type_selector(
             }
         }
         NamedSelector::Field(name) => {
-            walk.note(field_rule(t, at, kind, &name));
+            let Typed { tree, kind } = type_field(t, walk, at, kind, &name);
             Typed {
-                tree: Selector::Field(walk.number(numbered_field(t, kind, &name))),
-                kind: field(t, kind, &name),
+                tree: Selector::Field(tree),
+                kind,
             }
         }
     }
@@ -367,23 +305,18 @@ fn is_variable(e: &NamedExpr) -> bool
     }
 }
 
-/// An expression as a variable parameter.
-fn referenced(e: Expr) -> Actual
-    ensures { checked.actual_of result ≡ variable_actual (checked.expression_of e) }
-{
-    let (at, kind, form) = e.parts();
-    match form {
-        ExprForm::Read(v) => Actual::Reference(v),
-        form => Actual::Value(Expr { at, kind, form }),
-    }
-}
-
 /// An actual parameter, by the role of the formal.
 fn passed(role: Option<Role>, e: Expr) -> Actual
     ensures { checked.actual_of result ≡ actual_for_role role (checked.expression_of e) }
 {
     match role {
-        Some(Role::Reference) => referenced(e),
+        Some(Role::Reference) => {
+            let (at, kind, form) = e.parts();
+            match form {
+                ExprForm::Read(v) => Actual::Reference(v),
+                form => Actual::Value(Expr { at, kind, form }),
+            }
+        }
         _ => Actual::Value(e),
     }
 }
@@ -441,24 +374,5 @@ fn type_parameter(
         (argument_kind t.now (argument_of a)) (parameter_first t.now f (argument_of a) walk.old.first) }
 {
     let NamedArg { value, width: _ } = a;
-    type_operand(alloc, t, walk, value, f)
-}
-
-#[cycle(expression)]
-fn type_operand(
-    alloc: Global,
-    t: &Tables,
-    walk: &mut Walk,
-    e: NamedExpr,
-    f: StandardFn,
-) -> Typed<Expr>
-    ensures { Types checked.expression_of walk.old walk.new result (checked_expression t.now (expression_of e))
-        (expression_kind t.now (expression_of e))
-        (at_node (standard_rule t.now f (place (expression_of e)) (expression_kind t.now (expression_of e)))
-        (expression_first t.now (expression_of e) walk.old.first)) }
-{
-    let at = place_of(&e);
-    let e = type_expression(alloc, t, walk, e);
-    walk.note(standard_rule(t, f, at, e.kind));
-    e
+    type_wanted(alloc, t, walk, value, Wanted::Parameter(f))
 }

@@ -2,7 +2,7 @@
 
 ghost use Rattle.std.specs.Prelude.{◌≡◌, ◌++◌, ◌∷◌, [], map, List, Ok, OnOk};
 ghost use Rattle.sp_tree.specs.PhaseResults.{Answers};
-ghost use Rattle.sp_types.specs.Tables.{are_wrong, are_bounds, fields_by, type_or, array_of, type_number, kinds_by};
+ghost use Rattle.sp_types.specs.Tables.{are_wrong, are_bounds, fields_by, array_of, type_number, kinds_by};
 ghost use Rattle.sp_types.specs.Tables.{kinds_from};
 
 use crate::have;
@@ -43,15 +43,6 @@ fn are_bounds(known: &[Option<Ordinal>], a: &NamedConst, b: &NamedConst) -> Resu
     )
 }
 
-fn type_or(other: u32, o: Option<Ordinal>) -> u32
-    ensures { result ≡ type_or other o }
-{
-    match o {
-        None => other,
-        Some(o) => o.kind,
-    }
-}
-
 /// An array. One whose bounds have a fault has no elements.
 fn array_of(
     known: &[Option<Ordinal>],
@@ -63,7 +54,10 @@ fn array_of(
 {
     let low = have!(const_value(known, a));
     let high = have!(const_value(known, b));
-    let index = type_or(0, low);
+    let index = match low {
+        None => 0,
+        Some(o) => o.kind,
+    };
     if have!(are_bounds(known, a, b)) {
         Ok(KindOf::Array {
             low: number_or(1, low),

@@ -23,9 +23,8 @@
 //!   the first broken rule so far.
 //! - `Walk` of `sp_tree` is what the pass carries: the first broken rule, and whether memory was refused. A pass that
 //!   was refused memory is lost: it goes on to its end and lets nothing go on the way, and what it gives is no answer.
-//! - `src/rules.rt` has the rules in code. `src/expressions.rt` and `statements.rt` are the pass, with `checks.rt` for
-//!   an expression at its place, `calls.rt` and `performs.rt` for calls, `choices.rt` and `seen.rt` for the constants
-//!   of a `case`.
+//! - `src/rules.rt` has the rules in code. `src/expressions.rt` and `statements.rt` are the pass, with `calls.rt` and
+//!   `performs.rt` for calls, `choices.rt` and `seen.rt` for the constants of a `case`.
 //! - `src/numbers.rt`, `signed_constants.rt`, `constants.rt`, `kinds.rt` and `program_tables.rt` make the tables of
 //!   what is declared, with `field_table.rt` for what is looked up in a type; `declarations.rt` has the rules there,
 //!   with `sizes.rt` for cells.
@@ -59,7 +58,6 @@
 mod blocks;
 mod bodies;
 mod calls;
-mod checks;
 mod choices;
 mod constants;
 mod declarations;

@@ -2,8 +2,8 @@
 
 ghost use Rattle.std.specs.Prelude.{◌≡◌, false, map, Ok};
 ghost use Rattle.std.specs.Vec.Iter.{into_iter_items};
-ghost use Rattle.sp_tree.specs.NamedOf.{variable_of, expression_of, argument_of, arguments};
-ghost use Rattle.sp_tree.specs.PlainNamed.{Assign, Call, Perform};
+ghost use Rattle.sp_tree.specs.NamedOf.{argument_of, arguments};
+ghost use Rattle.sp_tree.specs.PlainNamed.{Perform};
 ghost use Rattle.sp_tree.specs.Carried.{Keeps};
 ghost use Rattle.sp_types.specs.Types.{Types};
 ghost use Rattle.sp_tree.specs.CheckedOf as checked;
@@ -12,7 +12,7 @@ ghost use Rattle.sp_types.specs.Firsts.{channel_first, statement_form_first, per
 ghost use Rattle.sp_types.specs.Firsts.{messages_first};
 ghost use Rattle.sp_types.specs.Kinds.{argument_kind};
 ghost use Rattle.sp_types.specs.TypeWalk.{form_after};
-ghost use Rattle.sp_types.specs.CheckedTree.{argument_variable, argument_variables, checked_argument};
+ghost use Rattle.sp_types.specs.CheckedTree.{argument_variables, checked_argument};
 ghost use Rattle.sp_types.specs.CheckedTree.{checked_arguments, checked_statement_form, receive_forms, send_forms};
 ghost use Rattle.sp_types.specs.CheckedTree.{singles, numbered_statements, expanded_form};
 ghost use Rattle.sp_types.specs.Expectations.{part_forms, part_first};
@@ -20,55 +20,18 @@ ghost use Rattle.sp_tree.specs.declared.meaning.StandardProcedure.TheVariants as
 ghost use Rattle.sp_tree.specs.PhaseResults.{AnswersAs};
 
 use crate::calls::{Part, target, type_parts};
-use crate::checks::type_wanted;
-use crate::expressions::{type_actuals, type_variable};
+use crate::expressions::type_wanted;
 use crate::have;
 use crate::pass_results::Typed;
 use crate::rules::Wanted;
 use crate::statement_counts::{parts_count, sum};
 use crate::tables::Tables;
 use sp_base::{Halt, List, Place};
-use sp_tree::{Expr, Form, NamedArg, NamedExpr, NamedVar, StandardProcedure, Stmt, Var, Walk};
+use sp_tree::{Expr, Form, NamedArg, StandardProcedure, Stmt, Var, Walk};
 use std::alloc::Global;
 use std::vec::IntoIter;
 
-/// An assignment.
-pub fn type_assign(
-    alloc: Global,
-    t: &Tables,
-    walk: &mut Walk,
-    v: NamedVar,
-    e: NamedExpr,
-    at: Place,
-) -> Form
-    ensures { Keeps walk.old walk.new
-        (statement_form_first t.now (Assign (variable_of v) (expression_of e)) walk.old.first)
-        (checked.statement_form_of result
-        ≡ checked_statement_form t.now at (Assign (variable_of v) (expression_of e))) }
-{
-    let v = type_variable(alloc, t, walk, v);
-    let e = type_wanted(alloc, t, walk, e, Wanted::Assigned(v.kind));
-    Form::Assign(v.tree, e.tree)
-}
-
-/// A call of a procedure.
-pub fn type_call(
-    alloc: Global,
-    t: &Tables,
-    walk: &mut Walk,
-    f: u32,
-    args: List<NamedArg>,
-    at: Place,
-) -> Form
-    ensures { Keeps walk.old walk.new
-        (statement_form_first t.now (Call f (arguments (map argument_of args))) walk.old.first)
-        (checked.statement_form_of result
-        ≡ checked_statement_form t.now at (Call f (arguments (map argument_of args)))) }
-{
-    Form::Call(f, type_actuals(alloc, t, walk, args, t.formals(f)))
-}
-
-/// What is sent on a channel of a type.
+/// What is sent on a channel of a type, or received.
 fn type_value(alloc: Global, t: &Tables, walk: &mut Walk, a: NamedArg, kind: Option<u32>) -> Expr
     ensures { Keeps walk.old walk.new (message_first t.now kind (argument_of a) walk.old.first)
         (checked.expression_of result ≡ checked_argument t.now (argument_of a)) }
@@ -76,15 +39,6 @@ fn type_value(alloc: Global, t: &Tables, walk: &mut Walk, a: NamedArg, kind: Opt
     let NamedArg { value, width: _ } = a;
     let e = type_wanted(alloc, t, walk, value, Wanted::Message(kind));
     e.tree
-}
-
-/// What is received on a channel of a type.
-fn type_received(alloc: Global, t: &Tables, walk: &mut Walk, a: NamedArg, kind: Option<u32>) -> Var
-    ensures { Keeps walk.old walk.new (message_first t.now kind (argument_of a) walk.old.first)
-        (checked.variable_of result ≡ argument_variable t.now (argument_of a)) }
-{
-    let e = type_value(alloc, t, walk, a, kind);
-    target(alloc, e)
 }
 
 /// All that is sent on a channel of a type.
@@ -123,8 +77,8 @@ fn type_variables(
 {
     let mut out = Vec::new(alloc);
     for x in xs {
-        let y = type_received(alloc, t, walk, x, kind);
-        walk.push(&mut out, y);
+        let y = type_value(alloc, t, walk, x, kind);
+        walk.push(&mut out, target(alloc, y));
     }
     List::of(out)
 }
@@ -326,30 +280,6 @@ fn type_writeln(alloc: Global, t: &Tables, walk: &mut Walk, args: List<NamedArg>
     found(walk, expanded(alloc, t.next, at, List::of(forms)))
 }
 
-/// A call of a standard procedure, as the single statements that it stands for.
-fn type_call_of_standard(
-    alloc: Global,
-    t: &Tables,
-    walk: &mut Walk,
-    p: StandardProcedure,
-    args: List<NamedArg>,
-    at: Place,
-) -> Form
-    ensures { Keeps walk.old walk.new (perform_first t.now p (arguments (map argument_of args)) walk.old.first)
-        (checked.statement_form_of result
-        ≡ expanded_form t.now.next at (singles t.now p (arguments (map argument_of args)))) }
-{
-    match p {
-        StandardProcedure::Read => type_each(alloc, t, walk, Part::Read, args, at),
-        StandardProcedure::Readln => type_readln(alloc, t, walk, args, at),
-        StandardProcedure::Write => type_each(alloc, t, walk, Part::Write, args, at),
-        StandardProcedure::Writeln => type_writeln(alloc, t, walk, args, at),
-        StandardProcedure::Open => type_each(alloc, t, walk, Part::Open, args, at),
-        StandardProcedure::Send => type_send(alloc, t, walk, args, at),
-        StandardProcedure::Receive => type_receive(alloc, t, walk, args, at),
-    }
-}
-
 /// A call of a standard procedure. Its single statements have the next numbers, unless there is one alone.
 pub fn type_perform(
     alloc: Global,
@@ -366,7 +296,15 @@ pub fn type_perform(
     ensures after { walk.new.is_lost ≡ false → t.new ≡ form_after t.old (Perform p (arguments (map argument_of args))) }
 {
     let count = walk.number(parts_count(p, args.items()));
-    let form = type_call_of_standard(alloc, t, walk, p, args, at);
+    let form = match p {
+        StandardProcedure::Read => type_each(alloc, t, walk, Part::Read, args, at),
+        StandardProcedure::Readln => type_readln(alloc, t, walk, args, at),
+        StandardProcedure::Write => type_each(alloc, t, walk, Part::Write, args, at),
+        StandardProcedure::Writeln => type_writeln(alloc, t, walk, args, at),
+        StandardProcedure::Open => type_each(alloc, t, walk, Part::Open, args, at),
+        StandardProcedure::Send => type_send(alloc, t, walk, args, at),
+        StandardProcedure::Receive => type_receive(alloc, t, walk, args, at),
+    };
     walk.after(t.count(count));
     form
 }

@@ -1,21 +1,15 @@
 //! The rules of types in code, each at one node, by the types of its parts.
 
 ghost use Rattle.std.specs.Prelude.{◌≡◌};
-ghost use Rattle.std.specs.Option.{option_copied};
-ghost use Rattle.sp_types.specs.Tables.{kind_at};
-ghost use Rattle.sp_types.specs.TypeRules.{is_ordinal, is_channel, ordinal, differ, unary_takes, binary_takes};
-ghost use Rattle.sp_types.specs.TypeRules.{binary_gives, unary_rule, left_rule, right_rule, index_kind_rule};
-ghost use Rattle.sp_types.specs.TypeRules.{index_rule, messages, choice_rule};
-ghost use Rattle.sp_types.specs.TypeRules.{actual_rule, standard_takes, standard_rule, width_rule, answer_rule};
-ghost use Rattle.sp_types.specs.TypeRules.{text_rule};
-ghost use Rattle.sp_types.specs.Expectations.{wanted_row, refuses, misfits, wanted_rule};
-ghost use Rattle.sp_types.specs.Kinds.{element_in, element, if_ordinal, standard_gives};
+ghost use Rattle.sp_types.specs.TypeRules.{ordinal, channel, differ, unary_takes, binary_takes};
+ghost use Rattle.sp_types.specs.TypeRules.{binary_gives, standard_takes};
+ghost use Rattle.sp_types.specs.TypeRules.{index_rule, actual_rule, width_rule, answer_rule};
+ghost use Rattle.sp_types.specs.Expectations.{wanted_row, misfits, wanted_rule};
+ghost use Rattle.sp_types.specs.Kinds.{element, standard_gives};
 
 use crate::tables::Tables;
-use sp_base::{Place, Rule, Text};
-use sp_tree::{
-    BinaryOp, FirstRefusal, KindOf, Role, StandardFn, UnaryOp, breaks, breaks_if, earlier_refusal,
-};
+use sp_base::{Place, Rule};
+use sp_tree::{BinaryOp, FirstRefusal, KindOf, Role, StandardFn, UnaryOp, breaks, breaks_if};
 
 const INTEGER: u32 = 0;
 
@@ -23,10 +17,11 @@ const BOOLEAN: u32 = 1;
 
 const CHAR: u32 = 2;
 
-fn is_ordinal(k: Option<&KindOf>) -> bool
-    ensures { result ≡ is_ordinal (option_copied k.entry) }
+/// Whether the type with this number is ordinal.
+pub fn ordinal(t: &Tables, k: u32) -> bool
+    ensures { result ≡ ordinal t.now k }
 {
-    match k {
+    match t.kind_at(k) {
         None => false,
         Some(KindOf::Integer) => true,
         Some(KindOf::Boolean) => true,
@@ -36,21 +31,15 @@ fn is_ordinal(k: Option<&KindOf>) -> bool
     }
 }
 
-fn is_channel(k: Option<&KindOf>) -> bool
-    ensures { result ≡ is_channel (option_copied k.entry) }
+/// Whether it is a type of channels.
+fn channel(t: &Tables, k: u32) -> bool
+    ensures { result ≡ channel t.now k }
 {
-    match k {
+    match t.kind_at(k) {
         None => false,
         Some(KindOf::Channel(_)) => true,
         Some(_) => false,
     }
-}
-
-/// Whether the type with this number is ordinal.
-pub fn ordinal(t: &Tables, k: u32) -> bool
-    ensures { result ≡ ordinal t.now k }
-{
-    is_ordinal(t.kind_at(k))
 }
 
 /// Whether two types are known and are different.
@@ -81,7 +70,7 @@ fn binary_takes(t: &Tables, op: BinaryOp, k: u32) -> bool
     ensures { result ≡ binary_takes t.now op k }
 {
     match op {
-        BinaryOp::Eq | BinaryOp::Ne => ordinal(t, k) || is_channel(t.kind_at(k)),
+        BinaryOp::Eq | BinaryOp::Ne => ordinal(t, k) || channel(t, k),
         BinaryOp::Lt | BinaryOp::Le | BinaryOp::Gt | BinaryOp::Ge => ordinal(t, k),
         BinaryOp::Add | BinaryOp::Sub | BinaryOp::Mul | BinaryOp::Div | BinaryOp::Mod => {
             k == INTEGER
@@ -102,55 +91,6 @@ pub fn binary_gives(op: BinaryOp) -> u32
     }
 }
 
-/// Y1 at the operand of a sign or of `not`.
-pub fn unary_rule(op: UnaryOp, at: Place, k: Option<u32>) -> FirstRefusal
-    ensures { result ≡ unary_rule op at k }
-{
-    match k {
-        None => None,
-        Some(k) => breaks_if(Rule::Y1, at, unary_takes(op) != k),
-    }
-}
-
-/// Y1 at a left operand.
-pub fn left_rule(t: &Tables, op: BinaryOp, at: Place, k: Option<u32>) -> FirstRefusal
-    ensures { result ≡ left_rule t.now op at k }
-{
-    match k {
-        None => None,
-        Some(k) => breaks_if(Rule::Y1, at, !binary_takes(t, op, k)),
-    }
-}
-
-/// Y1 at a right operand.
-pub fn right_rule(
-    t: &Tables,
-    op: BinaryOp,
-    at: Place,
-    left: Option<u32>,
-    k: Option<u32>,
-) -> FirstRefusal
-    ensures { result ≡ right_rule t.now op at left k }
-{
-    earlier_refusal(
-        left_rule(t, op, at, k),
-        breaks_if(Rule::Y1, at, differ(left, k)),
-    )
-}
-
-fn index_kind_rule(at: Place, index_at: Place, i: Option<u32>, k: Option<&KindOf>) -> FirstRefusal
-    ensures { result ≡ index_kind_rule at index_at i (option_copied k.entry) }
-{
-    match k {
-        None => None,
-        Some(KindOf::Array { index, .. }) => match i {
-            None => None,
-            Some(i) => breaks_if(Rule::Y2, index_at, *index != i),
-        },
-        Some(_) => breaks(Rule::Y2, at),
-    }
-}
-
 /// Y2 at an index, by the type of what it selects in.
 pub fn index_rule(
     t: &Tables,
@@ -163,23 +103,14 @@ pub fn index_rule(
 {
     match k {
         None => None,
-        Some(k) => index_kind_rule(at, index_at, i, t.kind_at(k)),
-    }
-}
-
-fn element_in(i: Option<u32>, k: Option<&KindOf>) -> Option<u32>
-    ensures { result ≡ element_in i (option_copied k.entry) }
-{
-    match k {
-        None => None,
-        Some(KindOf::Array { index, element, .. }) => {
-            if differ(Some(*index), i) {
-                None
-            } else {
-                Some(*element)
-            }
-        }
-        Some(_) => None,
+        Some(k) => match t.kind_at(k) {
+            None => None,
+            Some(KindOf::Array { index, .. }) => match i {
+                None => None,
+                Some(i) => breaks_if(Rule::Y2, index_at, *index != i),
+            },
+            Some(_) => breaks(Rule::Y2, at),
+        },
     }
 }
 
@@ -189,7 +120,17 @@ pub fn element(t: &Tables, k: Option<u32>, i: Option<u32>) -> Option<u32>
 {
     match k {
         None => None,
-        Some(k) => element_in(i, t.kind_at(k)),
+        Some(k) => match t.kind_at(k) {
+            None => None,
+            Some(KindOf::Array { index, element, .. }) => {
+                if differ(Some(*index), i) {
+                    None
+                } else {
+                    Some(*element)
+                }
+            }
+            Some(_) => None,
+        },
     }
 }
 
@@ -220,25 +161,6 @@ fn standard_takes(t: &Tables, f: StandardFn, k: u32) -> bool
     }
 }
 
-/// Y8 at the parameter of a standard function.
-pub fn standard_rule(t: &Tables, f: StandardFn, at: Place, k: Option<u32>) -> FirstRefusal
-    ensures { result ≡ standard_rule t.now f at k }
-{
-    match k {
-        None => None,
-        Some(k) => breaks_if(Rule::Y8, at, !standard_takes(t, f, k)),
-    }
-}
-
-fn if_ordinal(t: &Tables, k: Option<u32>) -> Option<u32>
-    ensures { result ≡ if_ordinal t.now k }
-{
-    match k {
-        None => None,
-        Some(k) => { if ordinal(t, k) { Some(k) } else { None } }
-    }
-}
-
 /// The type that a standard function gives, by that of its parameter.
 pub fn standard_gives(t: &Tables, f: StandardFn, k: Option<u32>) -> Option<u32>
     ensures { result ≡ standard_gives t.now f k }
@@ -249,14 +171,16 @@ pub fn standard_gives(t: &Tables, f: StandardFn, k: Option<u32>) -> Option<u32>
         StandardFn::Odd => Some(BOOLEAN),
         StandardFn::Ord => Some(INTEGER),
         StandardFn::Chr => Some(CHAR),
-        StandardFn::Succ => if_ordinal(t, k),
-        StandardFn::Pred => if_ordinal(t, k),
+        StandardFn::Succ | StandardFn::Pred => match k {
+            None => None,
+            Some(k) => { if ordinal(t, k) { Some(k) } else { None } }
+        },
         StandardFn::Eof => Some(BOOLEAN),
         StandardFn::Eoln => Some(BOOLEAN),
     }
 }
 
-/// What a place of a statement asks of an expression.
+/// What a place asks of an expression.
 #[derive(Clone, Copy)]
 pub enum Wanted {
     /// A boolean: Y4.
@@ -277,6 +201,14 @@ pub enum Wanted {
     Limit(Option<u32>),
     /// An ordinal: Y11.
     Selector,
+    /// What a sign or `not` takes: Y1.
+    Operand(UnaryOp),
+    /// What an operator takes: Y1.
+    Left(BinaryOp),
+    /// The same, and the type of the left operand: Y1.
+    Right(BinaryOp, Option<u32>),
+    /// What a standard function takes: Y8.
+    Parameter(StandardFn),
 }
 
 fn wanted_row(wanted: Wanted) -> Rule
@@ -292,19 +224,10 @@ fn wanted_row(wanted: Wanted) -> Rule
         Wanted::Range => Rule::Y10,
         Wanted::Limit(_) => Rule::Y10,
         Wanted::Selector => Rule::Y11,
-    }
-}
-
-/// Whether messages of a type do not go on a channel of a type.
-fn refuses(t: &Tables, channel: Option<u32>, k: u32) -> bool
-    ensures { result ≡ refuses (messages t.now channel) k }
-{
-    match channel {
-        None => false,
-        Some(c) => match t.takes(c, k) {
-            None => false,
-            Some(takes) => !takes,
-        },
+        Wanted::Operand(_) => Rule::Y1,
+        Wanted::Left(_) => Rule::Y1,
+        Wanted::Right(_, _) => Rule::Y1,
+        Wanted::Parameter(_) => Rule::Y8,
     }
 }
 
@@ -317,11 +240,19 @@ fn misfits(t: &Tables, wanted: Wanted, k: u32) -> bool
         Wanted::Assigned(v) => differ(v, Some(k)),
         Wanted::Read => !(k == INTEGER || k == CHAR),
         Wanted::Written => !(k == INTEGER || (k == CHAR || k == BOOLEAN)),
-        Wanted::Channel => !is_channel(t.kind_at(k)),
-        Wanted::Message(c) => refuses(t, c, k),
+        Wanted::Channel => !channel(t, k),
+        Wanted::Message(None) => false,
+        Wanted::Message(Some(c)) => match t.takes(c, k) {
+            None => false,
+            Some(takes) => !takes,
+        },
         Wanted::Range => !ordinal(t, k),
         Wanted::Limit(v) => differ(v, Some(k)),
         Wanted::Selector => !ordinal(t, k),
+        Wanted::Operand(op) => unary_takes(op) != k,
+        Wanted::Left(op) => !binary_takes(t, op, k),
+        Wanted::Right(op, left) => !binary_takes(t, op, k) || differ(left, Some(k)),
+        Wanted::Parameter(f) => !standard_takes(t, f, k),
     }
 }
 
@@ -344,20 +275,6 @@ pub fn width_rule(at: Place, k: Option<u32>) -> FirstRefusal
         None => None,
         Some(k) => breaks_if(Rule::Y8, at, INTEGER != k),
     }
-}
-
-/// Y11 at a constant.
-pub fn choice_rule(at: Place, selector: Option<u32>, k: Option<u32>) -> FirstRefusal
-    ensures { result ≡ choice_rule at selector k }
-{
-    breaks_if(Rule::Y11, at, differ(selector, k))
-}
-
-/// Y14 at a text in an expression.
-pub fn text_rule(at: Place, t: &Text) -> FirstRefusal
-    ensures { result ≡ text_rule at t.now }
-{
-    breaks_if(Rule::Y14, at, t.bytes().len() != 1)
 }
 
 /// Y14 at the type of a result.

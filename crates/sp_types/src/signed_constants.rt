@@ -1,8 +1,7 @@
 //! Constants as they are written: type and number of each, with its sign.
 
-ghost use Rattle.std.specs.Prelude.{◌≡◌, neg_ℤ, true, Some, Ok};
+ghost use Rattle.std.specs.Prelude.{◌≡◌, Ok};
 ghost use Rattle.sp_tree.specs.PhaseResults.{Answers};
-ghost use Rattle.sp_tree.specs.declared.named.NamedValue.TheVariants as given;
 ghost use Rattle.sp_types.specs.Tables.{value_by, signed_value, const_value, is_long, has_wrong_sign};
 ghost use Rattle.sp_types.specs.TypeRules.{const_rule};
 
@@ -11,15 +10,6 @@ use crate::tables::Ordinal;
 use crate::values::{char_of, integer};
 use sp_base::{Halt, Rule};
 use sp_tree::{FirstRefusal, NamedConst, NamedValue, breaks_if};
-
-fn entry(known: &[Option<Ordinal>], k: u32) -> Option<Ordinal>
-    ensures { result ≡ value_by known.now (given.Constant k) }
-{
-    match known.get(k as usize) {
-        None => None,
-        Some(o) => *o,
-    }
-}
 
 /// A constant without its sign.
 pub fn value_by(known: &[Option<Ordinal>], v: &NamedValue) -> Result<Option<Ordinal>, Halt>
@@ -31,37 +21,15 @@ pub fn value_by(known: &[Option<Ordinal>], v: &NamedValue) -> Result<Option<Ordi
             Ok(Some(Ordinal { kind: 0, number }))
         }
         NamedValue::Quoted(t) => Ok(char_of(t)),
-        NamedValue::Constant(k) => Ok(entry(known, *k)),
+        NamedValue::Constant(k) => match known.get(*k as usize) {
+            None => Ok(None),
+            Some(o) => Ok(*o),
+        },
     }
 }
 
-/// The number with the other sign. That of the least `i64`, which is no integer, is answered as want of memory.
-fn negated(n: i64) -> Result<i64, Halt>
-    ensures { Answers result (Ok (neg_ℤ n)) }
-{
-    if n >= -9_223_372_036_854_775_807 {
-        Ok(-n)
-    } else {
-        Err(Halt::Memory)
-    }
-}
-
-/// A constant behind a `-`.
-fn minus(o: Ordinal) -> Result<Option<Ordinal>, Halt>
-    ensures { Answers result (Ok (signed_value (Some true) (Some o))) }
-{
-    if o.kind == 0 {
-        let number = have!(negated(o.number));
-        Ok(Some(Ordinal {
-            kind: o.kind,
-            number,
-        }))
-    } else {
-        Ok(Some(o))
-    }
-}
-
-/// A constant with its sign. A sign before what is no integer changes nothing.
+/// A constant with its sign. A sign before what is no integer changes nothing. The least `i64` has no number of the
+/// other sign, and is no integer: it is answered as want of memory.
 fn signed(sign: Option<bool>, o: Option<Ordinal>) -> Result<Option<Ordinal>, Halt>
     ensures { Answers result (Ok (signed_value sign o)) }
 {
@@ -70,7 +38,18 @@ fn signed(sign: Option<bool>, o: Option<Ordinal>) -> Result<Option<Ordinal>, Hal
         Some(false) => Ok(o),
         Some(true) => match o {
             None => Ok(None),
-            Some(o) => minus(o),
+            Some(o) => {
+                if o.kind != 0 {
+                    Ok(Some(o))
+                } else if o.number >= -9_223_372_036_854_775_807 {
+                    Ok(Some(Ordinal {
+                        kind: 0,
+                        number: -o.number,
+                    }))
+                } else {
+                    Err(Halt::Memory)
+                }
+            }
         },
     }
 }

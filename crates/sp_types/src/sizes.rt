@@ -2,8 +2,7 @@
 
 ghost use Rattle.std.specs.Prelude.{◌≡◌, ◌+◌, ◌*◌, ◌∷◌, List, [], slice_get, Ok};
 ghost use Rattle.sp_tree.specs.PhaseResults.{Answers};
-ghost use Rattle.sp_tree.specs.Cells.{count, fields_size, first_or, cells_by};
-ghost use Rattle.sp_types.specs.Tables.{type_number};
+ghost use Rattle.sp_tree.specs.Cells.{count, fields_size, first_or};
 ghost use Rattle.sp_types.specs.TypeRules.{frame_cells};
 ghost use Rattle.sp_types.specs.CellCaps.{capped_count, capped_by, capped_sizes};
 
@@ -38,12 +37,6 @@ fn count(low: i64, high: i64) -> u32
     }
 }
 
-fn product(count: u32, cells: u32) -> u32
-    ensures { result ≡ capped_count (count * cells) }
-{
-    capped(count as u64 * cells as u64)
-}
-
 fn total(a: u32, b: u32) -> u32
     ensures { result ≡ capped_count (a + b) }
 {
@@ -64,7 +57,7 @@ fn cells_at(sizes: &[u32], k: u32) -> u32
 fn array_cells(low: i64, high: i64, element: u32) -> u32
     ensures { result ≡ capped_count (count low high * element) }
 {
-    product(count(low, high), element)
+    capped(count(low, high) as u64 * element as u64)
 }
 
 #[tactic(auto, using(crate::proofs::CellCaps::summed))]
@@ -110,22 +103,19 @@ pub fn sizes_of(alloc: Global, kinds: &[KindOf]) -> Result<List<u32>, Halt>
     Ok(List::of(known))
 }
 
-/// A variable's cells in its frame: the consoles and the index of a forall have none, and a variable parameter has one.
-fn cells_by(sizes: &[u32], role: Role, k: u32) -> u32
-    ensures { result ≡ cells_by sizes.now role k }
-{
-    match role {
-        Role::Console | Role::Index => 0,
-        Role::Local | Role::Value | Role::Answer => cells_at(sizes, k),
-        Role::Reference => 1,
-    }
-}
-
+/// A variable's cells in a block's frame: the consoles and the index of a forall have none, and a variable parameter
+/// has one.
 fn cells_in(numbers: &[u32], sizes: &[u32], block: u32, x: &Variable) -> u32
     ensures { result ≡ frame_cells numbers.now sizes.now block (x.now ∷ []) }
 {
     if x.block == block {
-        cells_by(sizes, x.role, type_number(numbers, x.kind))
+        match x.role {
+            Role::Console | Role::Index => 0,
+            Role::Local | Role::Value | Role::Answer => {
+                cells_at(sizes, type_number(numbers, x.kind))
+            }
+            Role::Reference => 1,
+        }
     } else {
         0
     }

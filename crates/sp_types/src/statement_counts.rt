@@ -1,14 +1,14 @@
 //! How many numbers a statement takes: the number behind a statement whose own number is given.
 
-ghost use Rattle.std.specs.Prelude.{◌≡◌, ◌+◌, map, option_map, Ok};
+ghost use Rattle.std.specs.Prelude.{◌≡◌, ◌+◌, map, Ok};
 ghost use Rattle.sp_tree.specs.PhaseResults.{Answers};
 ghost use Rattle.sp_tree.specs.NamedOf.{statement_of, statement_form_of, statements, arms, arm_of, branches, branch_of};
-ghost use Rattle.sp_tree.specs.NamedOf.{else_part, argument_of, arguments};
-ghost use Rattle.sp_types.specs.TypeWalk.{statement_counted, form_counted, other_counted, statements_counted};
+ghost use Rattle.sp_tree.specs.NamedOf.{argument_of, arguments};
+ghost use Rattle.sp_types.specs.TypeWalk.{statement_counted, form_counted, statements_counted};
 ghost use Rattle.sp_types.specs.TypeWalk.{arms_counted, branches_counted, single_count, parts_count};
 
 use crate::have;
-use sp_base::{Boxed, Halt, List};
+use sp_base::{Halt, List};
 use sp_tree::{NamedArg, NamedArm, NamedBranch, NamedForm, NamedStmt, StandardProcedure};
 
 /// The sum. One that is no `u32` is answered as want of memory.
@@ -75,36 +75,22 @@ fn form_counted(form: &NamedForm, k: u32) -> Result<u32, Halt>
         }
         NamedForm::Sequence(ss) => statements_counted(ss, k),
         NamedForm::If(_, s, o) => {
-            let k = have!(boxed_counted(s, k));
-            other_counted(o, k)
+            let k = have!(statement_counted(s.get(), k));
+            match o {
+                None => Ok(k),
+                Some(o) => statement_counted(o.get(), k),
+            }
         }
-        NamedForm::While(_, s) => boxed_counted(s, k),
+        NamedForm::While(_, s) => statement_counted(s.get(), k),
         NamedForm::Repeat(ss, _) => {
             let k = have!(sum(k, 1));
             statements_counted(ss, k)
         }
         NamedForm::Case(_, choices) => arms_counted(choices, k),
-        NamedForm::For { body, .. } => boxed_counted(body, k),
+        NamedForm::For { body, .. } => statement_counted(body.get(), k),
         NamedForm::Parallel(bs) => branches_counted(bs, k),
-        NamedForm::Forall { body, .. } => boxed_counted(body, k),
+        NamedForm::Forall { body, .. } => statement_counted(body.get(), k),
         NamedForm::Assume(_) => Ok(k),
-    }
-}
-
-#[cycle(count)]
-fn boxed_counted(s: &Boxed<NamedStmt>, k: u32) -> Result<u32, Halt>
-    ensures { Answers result (Ok (statement_counted k (statement_of s.now))) }
-{
-    statement_counted(s.get(), k)
-}
-
-#[cycle(count)]
-fn other_counted(o: &Option<Boxed<NamedStmt>>, k: u32) -> Result<u32, Halt>
-    ensures { Answers result (Ok (other_counted k (else_part (option_map statement_of o.now)))) }
-{
-    match o {
-        None => Ok(k),
-        Some(s) => statement_counted(s.get(), k),
     }
 }
 

@@ -1,6 +1,6 @@
 //! The pass over statements: with types, numbered, each call of a standard procedure as single statements.
 
-ghost use Rattle.std.specs.Prelude.{◌≡◌, false, map, option_map, Some};
+ghost use Rattle.std.specs.Prelude.{◌≡◌, false, map, option_map};
 ghost use Rattle.sp_tree.specs.NamedOf.{expression_of, statement_of, statement_form_of, statements, arms, arm_of};
 ghost use Rattle.sp_tree.specs.NamedOf.{branches, branch_of, else_part};
 ghost use Rattle.sp_tree.specs.PlainNamed.{Repeat, Case, For, Forall};
@@ -17,9 +17,9 @@ ghost use Rattle.sp_types.specs.CheckedTree.{checked_expression, checked_stateme
 ghost use Rattle.sp_types.specs.CheckedTree.{checked_statements, checked_arms, checked_arm, checked_branches};
 ghost use Rattle.sp_types.specs.CheckedTree.{first_place, in_sequence, checked_other};
 
-use crate::checks::type_wanted;
 use crate::choices::{check_choices, constant_numbers};
-use crate::performs::{type_assign, type_call, type_perform};
+use crate::expressions::{type_actuals, type_variable, type_wanted};
+use crate::performs::type_perform;
 use crate::rules::{Wanted, wanted_rule};
 use crate::tables::Tables;
 use sp_base::{Boxed, List, Place};
@@ -39,53 +39,46 @@ pub fn type_statement(s: NamedStmt, alloc: Global, t: &mut Tables, walk: &mut Wa
     let NamedStmt { at, form } = s;
     let number = t.next;
     walk.after(t.count(1));
-    let form = type_statement_form(form, alloc, t, walk, at);
+    let form = type_form(form, alloc, t, walk, at);
     Stmt { number, at, form }
 }
 
+/// The form of a statement. Where there is no box for a statement inside, the walk is lost, and what stands in its
+/// place is no answer.
 #[cycle(statement)]
-fn type_boxed(
-    s: Boxed<NamedStmt>,
-    alloc: Global,
-    t: &mut Tables,
-    walk: &mut Walk,
-) -> Option<Boxed<Stmt>>
-    ensures tree { Keeps walk.old walk.new (statement_first t.old (statement_of s) walk.old.first)
-        (option_map checked.statement_of result ≡ Some (checked_statement t.old (statement_of s))) }
-    ensures after { walk.new.is_lost ≡ false → t.new ≡ statement_after t.old (statement_of s) }
-{
-    let s = type_statement(s.into_inner(), alloc, t, walk);
-    walk.boxed(alloc, s)
-}
-
-#[cycle(statement)]
-fn type_statement_form(
-    form: NamedForm,
-    alloc: Global,
-    t: &mut Tables,
-    walk: &mut Walk,
-    at: Place,
-) -> Form
+fn type_form(form: NamedForm, alloc: Global, t: &mut Tables, walk: &mut Walk, at: Place) -> Form
     ensures tree { Keeps walk.old walk.new (statement_form_first t.old (statement_form_of form) walk.old.first)
         (checked.statement_form_of result ≡ checked_statement_form t.old at (statement_form_of form)) }
     ensures after { walk.new.is_lost ≡ false → t.new ≡ form_after t.old (statement_form_of form) }
 {
     match form {
         NamedForm::Empty => Form::Empty,
-        NamedForm::Assign(v, e) => type_assign(alloc, t, walk, v, e, at),
-        NamedForm::Call(f, args) => type_call(alloc, t, walk, f, args, at),
+        NamedForm::Assign(v, e) => {
+            let v = type_variable(alloc, t, walk, v);
+            let e = type_wanted(alloc, t, walk, e, Wanted::Assigned(v.kind));
+            Form::Assign(v.tree, e.tree)
+        }
+        NamedForm::Call(f, args) => {
+            Form::Call(f, type_actuals(alloc, t, walk, args, t.formals(f)))
+        }
         NamedForm::Standard(p, args) => type_perform(alloc, t, walk, p, args, at),
         NamedForm::Sequence(ss) => Form::Sequence(type_statements(ss, alloc, t, walk)),
         NamedForm::If(e, s, o) => {
             let e = type_wanted(alloc, t, walk, e, Wanted::Condition);
-            let s = type_boxed(s, alloc, t, walk);
+            let s = type_statement(s.into_inner(), alloc, t, walk);
             let o = type_else(o, alloc, t, walk);
-            if_form(e.tree, s, o)
+            match walk.boxed(alloc, s) {
+                Some(s) => Form::If(e.tree, s, o),
+                None => Form::Assume(e.tree),
+            }
         }
         NamedForm::While(e, s) => {
             let e = type_wanted(alloc, t, walk, e, Wanted::Condition);
-            let s = type_boxed(s, alloc, t, walk);
-            while_form(e.tree, s)
+            let s = type_statement(s.into_inner(), alloc, t, walk);
+            match walk.boxed(alloc, s) {
+                Some(s) => Form::While(e.tree, s),
+                None => Form::Assume(e.tree),
+            }
         }
         NamedForm::Repeat(ss, e) => type_repeat(ss, alloc, t, walk, at, e),
         NamedForm::Case(e, choices) => type_choices(choices, alloc, t, walk, e),
@@ -133,39 +126,6 @@ fn type_else(
     }
 }
 
-/// An `if`. If its statement is missing, the walk is lost, and this is no answer.
-fn if_form(e: Expr, s: Option<Boxed<Stmt>>, o: Option<Boxed<Stmt>>) -> Form
-    ensures { (x : c.Statement) → option_map checked.statement_of s ≡ Some x → checked.statement_form_of result
-        ≡ c.If (checked.expression_of e) x (checked.else_part (option_map checked.statement_of o)) }
-{
-    match s {
-        Some(s) => Form::If(e, s, o),
-        None => while_form(e, o),
-    }
-}
-
-/// A `while`, in the same way.
-fn while_form(e: Expr, s: Option<Boxed<Stmt>>) -> Form
-    ensures { (x : c.Statement) → option_map checked.statement_of s ≡ Some x
-        → checked.statement_form_of result ≡ c.While (checked.expression_of e) x }
-{
-    match s {
-        Some(s) => Form::While(e, s),
-        None => Form::Assume(e),
-    }
-}
-
-/// A repeated statement, in the same way.
-fn repeat_form(s: Option<Boxed<Stmt>>, e: Expr) -> Form
-    ensures { (x : c.Statement) → option_map checked.statement_of s ≡ Some x
-        → checked.statement_form_of result ≡ c.Repeat x (checked.expression_of e) }
-{
-    match s {
-        Some(s) => Form::Repeat(s, e),
-        None => Form::Assume(e),
-    }
-}
-
 /// A repeated statement, and the condition behind it.
 #[cycle(statement)]
 fn type_repeat(
@@ -184,9 +144,18 @@ fn type_repeat(
         (statements (map statement_of ss)) }
 {
     let s = type_sequence(ss, alloc, t, walk, at);
-    let s = walk.boxed(alloc, s);
     let e = type_wanted(alloc, t, walk, e, Wanted::Condition);
-    repeat_form(s, e.tree)
+    repeat_form(alloc, walk, s, e.tree)
+}
+
+fn repeat_form(alloc: Global, walk: &mut Walk, s: Stmt, e: Expr) -> Form
+    ensures { Keeps walk.old walk.new walk.old.first
+        (checked.statement_form_of result ≡ c.Repeat (checked.statement_of s) (checked.expression_of e)) }
+{
+    match walk.boxed(alloc, s) {
+        Some(s) => Form::Repeat(s, e),
+        None => Form::Assume(e),
+    }
 }
 
 /// A `case` statement: its selector, the constants of all choices, then their statements.
@@ -233,54 +202,15 @@ fn type_forall(
     let from = type_wanted(alloc, t, walk, from, Wanted::Range);
     let to = type_wanted(alloc, t, walk, to, Wanted::Limit(from.kind));
     t.index(index, from.kind);
-    let body = type_boxed(body, alloc, t, walk);
-    forall_form(index, from.tree, to.tree, body)
-}
-
-/// A forall. If its statement is missing, the walk is lost, and this is no answer.
-fn forall_form(index: u32, from: Expr, to: Expr, body: Option<Boxed<Stmt>>) -> Form
-    ensures { (x : c.Statement) → option_map checked.statement_of body ≡ Some x → checked.statement_form_of result
-        ≡ c.Forall index (checked.expression_of from) (checked.expression_of to) x }
-{
-    match body {
+    let body = type_statement(body.into_inner(), alloc, t, walk);
+    match walk.boxed(alloc, body) {
         Some(body) => Form::Forall {
             index,
-            from,
-            to,
+            from: from.tree,
+            to: to.tree,
             body,
         },
-        None => {
-            drop(to);
-            Form::Assume(from)
-        }
-    }
-}
-
-/// A `for`, in the same way.
-fn for_form(
-    variable: u32,
-    at: Place,
-    from: Expr,
-    down: bool,
-    to: Expr,
-    body: Option<Boxed<Stmt>>,
-) -> Form
-    ensures { (x : c.Statement) → option_map checked.statement_of body ≡ Some x → checked.statement_form_of result
-        ≡ c.For variable at (checked.expression_of from) down (checked.expression_of to) x }
-{
-    match body {
-        Some(body) => Form::For {
-            variable,
-            at,
-            from,
-            down,
-            to,
-            body,
-        },
-        None => {
-            drop(to);
-            Form::Assume(from)
-        }
+        None => Form::Assume(from.tree),
     }
 }
 
@@ -308,8 +238,18 @@ fn type_for(
     walk.note(wanted_rule(t, Wanted::Range, at, kind));
     let from = type_wanted(alloc, t, walk, from, Wanted::Limit(kind));
     let to = type_wanted(alloc, t, walk, to, Wanted::Limit(kind));
-    let body = type_boxed(body, alloc, t, walk);
-    for_form(variable, at, from.tree, down, to.tree, body)
+    let body = type_statement(body.into_inner(), alloc, t, walk);
+    match walk.boxed(alloc, body) {
+        Some(body) => Form::For {
+            variable,
+            at,
+            from: from.tree,
+            down,
+            to: to.tree,
+            body,
+        },
+        None => Form::Assume(from.tree),
+    }
 }
 
 #[cycle(statement)]

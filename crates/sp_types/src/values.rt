@@ -1,15 +1,19 @@
 //! Single values: chars, numbers, and the fields of a variable that has a type so far.
 
-ghost use Rattle.std.specs.Prelude.{◌≡◌, pos, Ok};
+ghost use Rattle.std.specs.Prelude.{◌≡◌, ℕ, pos, Ok};
 ghost use Rattle.sp_tree.specs.PhaseResults.{Answers};
 ghost use Rattle.sp_types.specs.Tables.{char_of, number_or};
 ghost use Rattle.sp_types.specs.TypeRules.{field_rule};
 ghost use Rattle.sp_types.specs.Kinds.{field};
+ghost use Rattle.sp_types.specs.TypeFirst.{at_node};
+ghost use Rattle.sp_types.specs.Types.{Types};
 ghost use Rattle.sp_types.specs.CheckedTree.{or_zero, numbered_field};
 
+use crate::pass_results::Typed;
+use crate::statement_counts::narrow;
 use crate::tables::{Ordinal, Tables};
 use sp_base::{Halt, Place, Rule, Text};
-use sp_tree::{FirstRefusal, breaks};
+use sp_tree::{Walk, breaks};
 
 /// The char that a text of length 1 is.
 pub fn char_of(t: &Text) -> Option<Ordinal>
@@ -55,47 +59,41 @@ pub fn or_zero(k: Option<u32>) -> u32
     }
 }
 
-/// The number of a field of a variable that has a type so far. One that is no `u32` is answered as want of memory.
-pub fn numbered_field(t: &Tables, k: Option<u32>, name: &Text) -> Result<u32, Halt>
-    ensures { Answers result (Ok (numbered_field t.now k name.now)) }
+/// A field of a variable that has a type so far: its number and its type, and Y3. A number that is no `u32` loses the
+/// walk.
+pub fn type_field(
+    t: &Tables,
+    walk: &mut Walk,
+    at: Place,
+    kind: Option<u32>,
+    name: &Text,
+) -> Typed<u32>
+    ensures { Types (λ (n : ℕ). n) walk.old walk.new result (numbered_field t.now kind name.now)
+        (field t.now kind name.now) (at_node (field_rule t.now at kind name.now) walk.old.first) }
 {
-    match k {
-        None => Ok(0),
+    match kind {
+        None => {
+            walk.note(None);
+            Typed {
+                tree: 0,
+                kind: None,
+            }
+        }
         Some(k) => match t.field(k, name) {
-            None => Ok(0),
-            Some(f) => {
-                if f.0 < 4_294_967_296 {
-                    Ok(f.0 as u32)
-                } else {
-                    Err(Halt::Memory)
+            None => {
+                walk.note(breaks(Rule::Y3, at));
+                Typed {
+                    tree: 0,
+                    kind: None,
                 }
             }
-        },
-    }
-}
-
-/// The type of a field of a variable that has a type so far.
-pub fn field(t: &Tables, k: Option<u32>, name: &Text) -> Option<u32>
-    ensures { result ≡ field t.now k name.now }
-{
-    match k {
-        None => None,
-        Some(k) => match t.field(k, name) {
-            None => None,
-            Some(f) => Some(f.1),
-        },
-    }
-}
-
-/// Y3 at a field of a variable that has a type so far.
-pub fn field_rule(t: &Tables, at: Place, k: Option<u32>, name: &Text) -> FirstRefusal
-    ensures { result ≡ field_rule t.now at k name.now }
-{
-    match k {
-        None => None,
-        Some(k) => match t.field(k, name) {
-            None => breaks(Rule::Y3, at),
-            Some(_) => None,
+            Some((number, kind)) => {
+                walk.note(None);
+                Typed {
+                    tree: walk.number(narrow(number)),
+                    kind: Some(kind),
+                }
+            }
         },
     }
 }

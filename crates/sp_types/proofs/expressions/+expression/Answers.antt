@@ -8,11 +8,13 @@ use Rattle.sp_tree.specs.CheckedOf as checked
 use Rattle.sp_tree.specs.PlainChecked as plain
 use Rattle.sp_tree.specs.PlainNamed as n
 use Rattle.sp_tree.specs.PhaseResults.{earlier_refusal}
-use Rattle.sp_types.specs.TypeRules.{index_rule, unary_rule, left_rule, right_rule, standard_rule}
+use Rattle.sp_types.specs.TypeRules.{index_rule, left_rule, right_rule}
+use Rattle.sp_types.specs.CheckedTree.{checked_expression}
+use Rattle.sp_types.specs.Expectations.{wanted_rule}
 use Rattle.sp_types.specs.Kinds.{element, expression_kind}
 use Rattle.sp_types.specs.TypeFirst.{at_node}
-use Rattle.sp_types.specs.TypeWalk.{place}
 use Rattle.sp_types.specs.Firsts.{expression_first}
+use Rattle.sp_types.specs.TypeWalk.{place}
 use Rattle.sp_types.proofs.expressions.+expression.Goals as goal
 
 pub type_form-returns-in-Quoted : goal.type_form-returns-in-Quoted
@@ -22,17 +24,30 @@ type_form-returns-in-Quoted t c k =
 
 pub type_form-returns-in-Binary : goal.type_form-returns-in-Binary
 type_form-returns-in-Binary t c k =
-    let a = expression_of c.in-Binary.a in
-    let b = expression_of c.in-Binary.b in
-    let i : expression_form_of c.args.form ≡ n.Binary c.in-Binary.op a b = search (rules, the_lemmas) in
-    let (before, right_first, right) = c.type_right-b.ensures k in
-    let (kept, left_first, left) = c.type_left-a.ensures before in
+    let env = c.args.t.now in
+    let op = c.in-Binary.op in
+    let b = expression_of c.into_inner-b.result in
+    let i : expression_form_of c.args.form
+    ≡ n.Binary op (expression_of c.in-Binary.a) (expression_of c.in-Binary.b) = search (rules, the_lemmas) in
+    let (kept, same_first, tree) = c.binary.ensures k in
+    let (before, right_first, right) = c.type_wanted-right.ensures kept in
+    let (from, left_first, left) = c.type_wanted-left.ensures before in
     rw i (
-      kept,
-      right_first ∙ (λ j. at_node
-          (right_rule c.args.t.now c.in-Binary.op (place b) (left.1 j) (expression_kind c.args.t.now b))
-          (expression_first c.args.t.now b (left_first j))),
-      (c.binary.ensures _ _ left.0 right.0, ap Some c.binary_gives.ensures),
+      from,
+      same_first ∙ right_first
+          ∙ (λ j. at_node (right_rule env op (place b) (left.1 j) (expression_kind env b))
+          (expression_first env b (left_first j)))
+          ∙ (λ j. let x = expression_of (c.into_inner-a.ensures j) in
+          let y = expression_of (c.into_inner-b.ensures j) in
+          at_node (right_rule env op (place y) (expression_kind env x) (expression_kind env y))
+          (expression_first env y (at_node (left_rule env op (place x) (expression_kind env x))
+          (expression_first env x c.args.walk.now.first)))),
+      (
+        tree ∙ (λ j. plain.Binary op (left.0 j) (right.0 j))
+            ∙ (λ j. plain.Binary op (checked_expression env (expression_of (c.into_inner-a.ensures j)))
+            (checked_expression env (expression_of (c.into_inner-b.ensures j)))),
+        ap Some c.binary_gives.ensures,
+      ),
     )
 
 pub type_selector-returns-in-Index : goal.type_selector-returns-in-Index
@@ -51,35 +66,11 @@ type_selector-returns-in-Index t c k =
       (tree ∙ ap plain.Index typed.0, c.element.ensures ∙ (λ j. element c.args.t.now c.args.kind (typed.1 j))),
     )
 
-pub type_left-returns : goal.type_left-returns
-type_left-returns t c k =
-    let (kept, first, typed) = c.type_boxed-e.ensures (sym (λ j. (c.note.ensures j).is_lost) ∙ k) in
-    let at = c.place_of-at.ensures ∙ ap (λ e. place (expression_of e)) c.get.ensures in
-    let broken = c.left_rule.ensures ∙ (λ j. left_rule c.args.t.now c.args.op (at j) (typed.1 j)) in
-    (kept, (λ j. (c.note.ensures j).first) ∙ (λ j. earlier_refusal (first j) (broken j)), typed)
-
-pub type_right-returns : goal.type_right-returns
-type_right-returns t c k =
-    let (kept, first, typed) = c.type_boxed-e.ensures (sym (λ j. (c.note.ensures j).is_lost) ∙ k) in
-    let at = c.place_of-at.ensures ∙ ap (λ e. place (expression_of e)) c.get.ensures in
-    let broken = c.right_rule.ensures ∙ (λ j. right_rule c.args.t.now c.args.op (at j) c.args.left (typed.1 j)) in
-    (kept, (λ j. (c.note.ensures j).first) ∙ (λ j. earlier_refusal (first j) (broken j)), typed)
-
-pub type_unary-returns : goal.type_unary-returns
-type_unary-returns t c k =
-    let (kept, first, typed) = c.type_boxed-e.ensures (sym (λ j. (c.note.ensures j).is_lost) ∙ k) in
-    let at = c.place_of-at.ensures ∙ ap (λ e. place (expression_of e)) c.get.ensures in
-    let broken = c.unary_rule.ensures ∙ (λ j. unary_rule c.args.op (at j) (typed.1 j)) in (
-      kept,
-      (λ j. (c.note.ensures j).first) ∙ (λ j. earlier_refusal (first j) (broken j)),
-      (c.unary.ensures _ typed.0, ap Some c.unary_takes.ensures),
-    )
-
-pub type_operand-returns : goal.type_operand-returns
-type_operand-returns t c k =
+pub type_wanted-returns : goal.type_wanted-returns
+type_wanted-returns t c k =
     let (kept, first, typed) = c.type_expression-e.ensures (sym (λ j. (c.note.ensures j).is_lost) ∙ k) in
-    let broken = c.standard_rule.ensures
-    ∙ (λ j. standard_rule c.args.t.now c.args.f (c.place_of-at.ensures j) (typed.1 j)) in
+    let at : c.args.e.at ≡ place (expression_of c.args.e) = search (rules, the_lemmas) in
+    let broken = c.wanted_rule.ensures ∙ (λ j. wanted_rule c.args.t.now c.args.wanted (at j) (typed.1 j)) in
     (kept, (λ j. (c.note.ensures j).first) ∙ (λ j. earlier_refusal (first j) (broken j)), typed)
 
 pub type_selectors-loop-x-preserved : goal.type_selectors-loop-x-preserved

@@ -1,6 +1,5 @@
-use Rattle.std.proofs.Common.{arith, option_map, ◌∙◌}
+use Rattle.std.proofs.Common.{arith, ◌∙◌}
 use Rattle.std.proofs.lemmas.Grind.{common_steps}
-use Rattle.sp_tree.specs.CheckedOf as checked
 use Rattle.sp_tree.specs.NamedOf.{expression_of}
 use Rattle.sp_tree.specs.PlainChecked as plain
 use Rattle.sp_types.specs.declared.rules.Wanted.TheVariants as wanted
@@ -39,14 +38,13 @@ type_branches-returns-clause-after t c = grind (arith, common_steps)
 pub type_repeat-returns-clause-tree : goal.type_repeat-returns-clause-tree
 type_repeat-returns-clause-tree t c k =
     let e = expression_of c.args.e in
-    let (kept, condition_first, (condition, kind)) = c.type_wanted-e.ensures k in
-    let (before, same_first, boxed) = c.boxed-s.ensures kept in
-    let (from, body_first, body) = c.type_sequence-s.ensures.tree before in
-    let after = c.type_sequence-s.ensures.after before in (
+    let (before, same_first, form) = c.repeat_form.ensures k in
+    let (kept, condition_first, (condition, kind)) = c.type_wanted-e.ensures before in
+    let (from, body_first, body) = c.type_sequence-s.ensures.tree kept in
+    let after = c.type_sequence-s.ensures.after kept in (
       from,
-      condition_first
+      same_first ∙ condition_first
           ∙ (λ j. at_node (wanted_rule (after j) wanted.Condition (place e) (expression_kind (after j) e))
-          (expression_first (after j) e ((same_first ∙ body_first) j))),
-      c.repeat_form.ensures _ (λ j. option_map checked.statement_of (boxed j))
-          ∙ (λ j. plain.Repeat (body j) ((condition ∙ (λ i. checked_expression (after i) e)) j)),
+          (expression_first (after j) e (body_first j))),
+      form ∙ (λ j. plain.Repeat (body j) ((condition ∙ (λ i. checked_expression (after i) e)) j)),
     )
