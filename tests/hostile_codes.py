@@ -298,15 +298,22 @@ def chain_in_children(blocks=150_000, others=150_000):
     return code(layouts, ["fork 0", "fork 1", "end", "call 2 0", "end", "call 2 0", "end", *instrs], tables)
 
 
-def children_above_chain(children=40_000, blocks=100_000, width=150):
-    """Accepted: n children are above the chain. All are handed its variables, and each one besides."""
+def children_above_chain(children=40_000, blocks=100_000, width=150, whole=None):
+    """Accepted: n children are above the chain. All are handed its variables, and each one besides. Those from number
+    `whole` on are handed half of the variables."""
     starts = children + 1
     count = width + children
     instrs, layouts = chain_of_stores(starts + 2 * children, blocks, variables=width)
     layouts.insert(0, layout(0, 0, "-", [1] * count, range(2, count + 2)))
-    tables = [child(k, 0, starts + 2 * k, [*range(2, width + 2), width + 2 + k]) for k in range(children)]
+    tables = [child(k, 0, starts + 2 * k, [*range(2, 2 + (width if whole is None or k < whole else width // 2)),
+                                           width + 2 + k]) for k in range(children)]
     forks = [f"fork {k}" for k in range(children)]
     return code(layouts, [*forks, "end", *["call 2 0", "end"] * children, *instrs], tables)
+
+
+def children_half_handed():
+    """Refused by V6: as above, where the children from the middle on are handed half of the variables."""
+    return children_above_chain(whole=20_000)
 
 
 def half_handed(blocks=190_000):
@@ -378,6 +385,8 @@ FILES = {
     "shuffled_chain": shuffled_chain,
     "chain_in_children": chain_in_children,
     "children_above_chain": children_above_chain,
+    "half_handed": half_handed,
+    "children_half_handed": children_half_handed,
     "chain_in_answer": chain_in_answer,
     "chain_inside": chain_inside,
     "ring_of_blocks": ring_of_blocks,
@@ -407,7 +416,6 @@ FILES = {
 
 # Files in which two sizes still multiply: they take more than 10 seconds, or more than 2 GB.
 OPEN = {
-    "half_handed": half_handed,
     "chain_by_reference": chain_by_reference,
     "calls_of_lists": calls_of_lists,
     "calls_at_heights": calls_at_heights,

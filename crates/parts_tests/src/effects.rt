@@ -4,7 +4,7 @@
 use crate::verify_answers::{File, Says, expect};
 use sp_codefile::VRule;
 
-const FILES: [File; 6] = [
+const FILES: [File; 8] = [
     // children write what moved to them
     File {
         lines: "layout 0 0 - none sizes 1 1 variables 2 3 formals\n\
@@ -17,6 +17,44 @@ const FILES: [File; 6] = [
             ("/ 2/ 3/", Says::Broken(VRule::V6, 2)),
             (" 2/// 3", Says::Broken(VRule::V6, 6)),
             (" 2// 3/ 2", Says::Broken(VRule::V6, 6)),
+            // both do more than they are handed; the first one is handed a variable twice besides
+            ("////", Says::Broken(VRule::V6, 2)),
+            (" 2 2/", Says::Broken(VRule::V6, 2)),
+            // the first one is handed a variable twice, the second one does more
+            (" 2 2///", Says::Broken(VRule::V6, 2)),
+        ],
+    },
+    // the later child of a table comes first; each calls a block that stores
+    File {
+        lines: "layout 0 0 - none sizes 1 1 variables 2 3 formals\n\
+        layout 1 8 0 none sizes variables formals\n\
+        layout 2 13 0 none sizes variables formals\n\
+        0 fork 0\n1 jump 6\n2 call 1 0\n3 end\n4 call 2 0\n5 end\n6 call 1 0\n7 end\n\
+        8 addr 1 2\n9 const 1\n10 store\n11 call 2 1\n12 return\n\
+        13 addr 1 3\n14 const 2\n15 store\n16 return\n\
+        table 0 child 0 entry 4 moves~ shares~\n\
+        table 0 child 1 entry 2 moves~ shares~\n",
+        rows: &[
+            ("////", Says::Broken(VRule::V6, 2)),
+            (" 3// 2/", Says::Broken(VRule::V6, 2)),
+            ("// 2 3/", Says::Broken(VRule::V6, 4)),
+            (" 3// 2 3/", Says::Broken(VRule::V6, 2)),
+            (" 2//", Says::Broken(VRule::V6, 2)),
+        ],
+    },
+    // what a child hands to a block by reference, and that stores, is handed to the child; so what it loads
+    File {
+        lines: "layout 0 0 - none sizes 1 1 variables 2 3 formals\n\
+        layout 1 6 0 none sizes 1 variables 4 formals reference 1\n\
+        0 fork 0\n1 jump 5\n2 addr 0 2\n3 call 1 0\n4 end\n5 end\n\
+        6 deref 0 0\n7 addr 1 3\n8 load\n9 store\n10 return\n\
+        table 0 child 0 entry 2 moves~ shares~\n",
+        rows: &[
+            (" 2/ 3", Says::Verified),
+            (" 2 3/", Says::Verified),
+            (" 2/", Says::Broken(VRule::V6, 2)),
+            (" 3/ 2", Says::Broken(VRule::V6, 2)),
+            ("/ 2 3", Says::Broken(VRule::V6, 2)),
         ],
     },
     // two references stand for two variables

@@ -26,6 +26,7 @@ use sp_verify_areas::orphan_block::first_orphan_block;
 use sp_verify_areas::owners::{Owner, owners};
 use sp_verify_areas::rounds::first_round;
 use sp_verify_areas::whole::first_v1;
+use sp_verify_effects::breach::first_beyond;
 use sp_verify_effects::child_effects::first_ill_handed;
 use sp_verify_effects::clash::first_clash;
 use sp_verify_effects::effects::{Effects, find_effects};
@@ -189,6 +190,19 @@ fn keep_effects(g: &PassContext, effects: &Effects) -> Result<(), Rejected>
     keep(g.code, VRule::V8, first_side_effect(g, effects))
 }
 
+// Refuses code of which a breach of V6 is known before all effects are.
+fn keep_handed(g: &PassContext) -> Result<(), Rejected>
+    requires known { IsPassContext g.now }
+    requires kept { KeepsBefore g.now.code.now 6 }
+    ensures err { IfErr result (λ e. IsRefused g.now.code.now e) }
+{
+    let first = have!(first_beyond(g), Rejected::Memory);
+    match first {
+        None => Ok(()),
+        Some(p) => keep(g.code, VRule::V6, Some(p)),
+    }
+}
+
 // Whether V3 to V8 are.
 fn keep_shaped(g: &PassContext) -> Result<(), Rejected>
     requires known { IsPassContext g.now }
@@ -197,6 +211,7 @@ fn keep_shaped(g: &PassContext) -> Result<(), Rejected>
     ensures err { IfErr result (λ e. IsRefused g.now.code.now e) }
 {
     keep_cells(g)?;
+    keep_handed(g)?;
     let effects = have!(find_effects(g), Rejected::Memory);
     keep_effects(g, &effects)
 }

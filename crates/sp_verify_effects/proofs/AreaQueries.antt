@@ -8,6 +8,7 @@ use Rattle.std.proofs.lemmas.Option.{none-some, same_Some, slice_get_within}
 use Rattle.sp_base.proofs.Facts.{below_or_last, not_true_and_false}
 use Rattle.sp_code.specs.declared.instr.Instr.{Instr}
 use Rattle.sp_code.specs.declared.code.ChildTable.{ChildTable}
+use Rattle.sp_code.specs.declared.code.ForkTable.{ForkTable}
 use Rattle.sp_code.specs.declared.code.Layout.{Layout}
 use Rattle.sp_code.specs.declared.code.Parts.{Parts}
 use Rattle.sp_verify_rules.specs.Areas.{Area, homes, instr_at}
@@ -19,8 +20,8 @@ use Rattle.sp_verify_effects.specs.declared.facts.Fact.{Fact}
 use Rattle.sp_verify_effects.specs.declared.facts.Effect.{Effect}
 use Rattle.sp_verify_effects.specs.declared.facts.Effect.TheVariants as effect
 use Rattle.sp_verify_effects.specs.Allowances.{Fits, FitsBlock, allows_some}
-use Rattle.sp_verify_effects.specs.AskedAreas.{Asks, AsksChild, AsksOutside, allowance_at, inside_entry, is_asked}
-use Rattle.sp_verify_effects.specs.AskedAreas.{is_marked, target}
+use Rattle.sp_verify_effects.specs.AskedAreas.{Asks, AsksChild, AsksOutside, AsksTables, allowance_at}
+use Rattle.sp_verify_effects.specs.AskedAreas.{inside_entry, is_asked, is_marked, target}
 use Rattle.sp_verify_effects.specs.FactClosure.{FollowsEdges, IsFollowed, Passes, fact_along, is_index}
 use Rattle.sp_verify_effects.specs.Facts.{fact}
 
@@ -138,9 +139,12 @@ module _ (k : Asked) (m : ℕ) (e : Edge) where
 
 -- ---- if all is asked about all areas
 
+pub all_tables : (o : Option ℕ) (k : Asked) (fs : List ForkTable) → k.all ≡ true → AsksTables o k fs
+all_tables o k fs all t tb e j ch s l d b = all_asked k ch.entry d all
+
 pub all_asks : (c : Parts) (k : Asked) → k.all ≡ true → Asks c k
 all_asks c k all = record {
-  tables = λ t tb e j ch s d b. all_asked k ch.entry d all;
+  tables = all_tables None k c.forks all;
   layouts = λ j l e r d b. all_asked k l.entry d all;
   inside = λ p a n l e. or_left k.all (flag_at k.blocks n) all;
 }

@@ -1,7 +1,9 @@
 -- What the passes find is broken, and what is broken they find.
-use Rattle.std.proofs.Common.{◌≡◌, inl, inr, ap, sym, ◌∙◌, subst, ℕ, List, length, Option, Some, true}
-use Rattle.std.specs.Prelude.{slice_get, ◌↔◌}
+use Rattle.std.proofs.Common.{◌≡◌, ◌⊎◌, inl, inr, refl, ap, sym, ◌∙◌, subst, ℕ, ◌<◌, List, length, Option, Some, None}
+use Rattle.std.proofs.Common.{Bool, true, false, if◌then◌else◌, arith}
+use Rattle.std.specs.Prelude.{slice_get, nat_lt, ◌↔◌}
 use Rattle.std.proofs.lemmas.Option.{slice_get_within}
+use Rattle.sp_base.proofs.Facts.{less_same_or_more}
 use Rattle.sp_tree.specs.Interference.{IsMember}
 use Rattle.sp_code.specs.declared.code.ChildTable.{ChildTable}
 use Rattle.sp_code.specs.declared.code.ForkTable.{ForkTable}
@@ -14,7 +16,7 @@ use Rattle.sp_verify_rules.specs.NameRules.{BreaksV1, Names}
 use Rattle.sp_verify_rules.specs.Reach.{IsArea}
 use Rattle.sp_verify_rules.specs.Verdict.{BreaksV6, HasStop}
 use Rattle.sp_verify_areas.specs.declared.owners.Owner.{Owner}
-use Rattle.sp_verify_areas.specs.LeastPlaces.{IsLeast, Upto}
+use Rattle.sp_verify_areas.specs.LeastPlaces.{IsLeast, Upto, earlier_of}
 use Rattle.sp_verify_areas.specs.Owners.{AreOwners}
 use Rattle.sp_verify_areas.proofs.Leasts.{all}
 use Rattle.sp_verify_effects.specs.declared.effects.EffectRow.{EffectRow}
@@ -22,14 +24,14 @@ use Rattle.sp_verify_effects.specs.declared.effects.Effects.{Effects}
 use Rattle.sp_verify_effects.specs.declared.facts.Effect.{Effect}
 use Rattle.sp_verify_effects.specs.declared.facts.Effect.TheVariants as effect
 use Rattle.sp_verify_effects.specs.Allowances.{IsGiven}
-use Rattle.sp_verify_effects.specs.AskedAreas.{is_asked}
-use Rattle.sp_verify_effects.specs.Effects.{AreEffects, IsRowOf}
+use Rattle.sp_verify_effects.specs.AskedAreas.{AsksTables, is_asked, is_below}
+use Rattle.sp_verify_effects.specs.Effects.{AreEffects, AreFound, IsRowOf}
 use Rattle.sp_verify_effects.specs.ChildEffects.{ChildFails, FailsAs, TableFails}
 use Rattle.sp_verify_effects.proofs.Children.{child_area, child_by, name_there, table_there}
 
 -- ---- V6
 
-module _ (c : Parts) (e : Effects) (are : AreEffects c e) where
+module _ (c : Parts) (e : Effects) (are : AreFound c e) (o : Option ℕ) (asks : AsksTables o e.asked c.forks) where
   -- the row of a child
   row : (a : Area) (q k : ℕ) (ch : ChildTable) → IsArea c (Child a q k) → child_at c q k ≡ Some ch → (d : EffectRow)
       × (slice_get e.rows ch.entry ≡ Some d) × IsRowOf c e.asked (Child a q k) d
@@ -38,22 +40,22 @@ module _ (c : Parts) (e : Effects) (are : AreEffects c e) where
       (r.0, ap (slice_get e.rows) (sym (ap entry_of_child is)) ∙ r.1, r.2)
 
   -- what it is not handed is asked about
-  asked_child : (a : Area) (q k : ℕ) (ch : ChildTable) → child_at c q k ≡ Some ch → (d : Effect) → (IsGiven ch d → ⊥)
-      → is_asked e.asked (entry c (Child a q k)) d ≡ true
-  asked_child a q k ch is d h =
+  asked_child : (a : Area) (q k : ℕ) (ch : ChildTable) → child_at c q k ≡ Some ch → is_below o ch.entry ≡ true
+      → (d : Effect) → (IsGiven ch d → ⊥) → is_asked e.asked (entry c (Child a q k)) d ≡ true
+  asked_child a q k ch is below d h =
       let n = name_there c.forks (table_named (instr_at c q)) k ch is in
       let tb = table_there c.forks n.0 k ch (sym (ap (λ (o : Option ℕ). child_of (table_at c.forks o) k) n.1) ∙ is) in
       subst (λ m. is_asked e.asked m d ≡ true) (sym (ap entry_of_child is))
-      (are.asks.tables n.0 tb.0 tb.1 k ch tb.2 d h)
+      (asks n.0 tb.0 tb.1 k ch tb.2 below d h)
 
   module _ (a : Area) (t q k : ℕ) (ch : ChildTable) (tb : ForkTable) (is : slice_get c.forks t ≡ Some tb)
-      (n : Names c t q) (here : child_at c q k ≡ Some ch) (d : EffectRow)
+      (n : Names c t q) (here : child_at c q k ≡ Some ch) (below : is_below o ch.entry ≡ true) (d : EffectRow)
       (effects_of : IsRowOf c e.asked (Child a q k) d) where
     stores : (x : ℕ) → (IsMember x ch.moved → ⊥) → IsMember x d.stored ↔ IsEffect c (Does c) Stored (Child a q k) x
-    stores x m = effects_of.stored x (asked_child a q k ch here (effect.Stores x) m)
+    stores x m = effects_of.stored x (asked_child a q k ch here below (effect.Stores x) m)
 
     loads : (x : ℕ) → (IsMember x (handed_to ch) → ⊥) → IsMember x d.loaded ↔ IsEffect c (Does c) Loaded (Child a q k) x
-    loads x m = effects_of.loaded x (asked_child a q k ch here (effect.Loads x) m)
+    loads x m = effects_of.loaded x (asked_child a q k ch here below (effect.Loads x) m)
 
     to_rule : FailsAs (Some d) tb.children k ch → fork.BreaksV6 c (Does c) (HasStop c) a q k ch
     to_rule (inl (inl (x, i, m))) = inl (x, (stores x m).0 i, m)
@@ -76,26 +78,27 @@ module _ (c : Parts) (e : Effects) (are : AreEffects c e) where
     from_rule (inr (inr (inr (j, s, l, at, h)))) = inr (j, s, l, same_table j s at, h)
 
   module _ (kept : (p : ℕ) → BreaksV1 c p → ⊥) (os : List Owner) (own : AreOwners c os) where
-    v6_found : (t p : ℕ) → TableFails e c.forks t p → BreaksV6 c p
-    v6_found t p (tb, is, u) = go u.item u.holds
+    v6_found : (t p : ℕ) → is_below o p ≡ true → TableFails e c.forks t p → BreaksV6 c p
+    v6_found t p below (tb, is, u) = go u.item u.holds
       where
         go : (k : ℕ) → ChildFails e tb.children k p → BreaksV6 c p
         go k (ch, at, first, f) =
-            let o = child_area c kept os own t k ch (ap (λ (o : Option ForkTable). child_of o k) is ∙ at) in
-            let r = row o.around o.position k ch o.there o.child in (
-              o.around,
-              o.position,
+            let n = child_area c kept os own t k ch (ap (λ (z : Option ForkTable). child_of z k) is ∙ at) in
+            let r = row n.around n.position k ch n.there n.child in (
+              n.around,
+              n.position,
               k,
               ch,
-              o.there,
-              o.child,
+              n.there,
+              n.child,
               first,
-              to_rule o.around t o.position k ch tb is o.names o.child r.0 r.2
+              to_rule n.around t n.position k ch tb is n.names n.child
+                  (subst (λ m. is_below o m ≡ true) (sym first) below) r.0 r.2
                   (subst (λ (z : Option EffectRow). FailsAs z tb.children k ch) r.1 f),
             )
 
-    v6_finds : (p : ℕ) → BreaksV6 c p → Upto (TableFails e c.forks) (length c.forks) p
-    v6_finds p (a, q, k, ch, there, is, first, f) =
+    v6_finds : (p : ℕ) → is_below o p ≡ true → BreaksV6 c p → Upto (TableFails e c.forks) (length c.forks) p
+    v6_finds p below (a, q, k, ch, there, is, first, f) =
         let n = name_there c.forks (table_named (instr_at c q)) k ch is in
         let tb = table_there c.forks n.0 k ch (sym (ap (λ (o : Option ℕ). child_of (table_at c.forks o) k) n.1) ∙ is) in
         let r = row a q k ch there is in
@@ -113,11 +116,46 @@ module _ (c : Parts) (e : Effects) (are : AreEffects c e) where
                 tb.2,
                 first,
                 subst (λ (z : Option EffectRow). FailsAs z tb.0.children k ch) (sym r.1)
-                    (from_rule a n.0 q k ch tb.0 tb.1 n.1 is r.0 r.2 f),
+                    (from_rule a n.0 q k ch tb.0 tb.1 n.1 is (subst (λ m. is_below o m ≡ true) (sym first) below) r.0
+                    r.2 f),
               );
             },
           );
         }
 
-    pub v6_least : (o : Option ℕ) → IsLeast (Upto (TableFails e c.forks) (length c.forks)) o → IsLeast (BreaksV6 c) o
-    v6_least o h = all (TableFails e c.forks) (BreaksV6 c) (length c.forks) o v6_found v6_finds h
+module _ (c : Parts) (kept : (p : ℕ) → BreaksV1 c p → ⊥) (os : List Owner) (own : AreOwners c os) where
+  pub v6_least : (e : Effects) → AreEffects c e → (o : Option ℕ)
+      → IsLeast (Upto (TableFails e c.forks) (length c.forks)) o → IsLeast (BreaksV6 c) o
+  v6_least e are o h = all (TableFails e c.forks) (BreaksV6 c) (length c.forks) o
+      (λ t p. v6_found c e are.found None are.asks.tables kept os own t p refl)
+      (λ p. v6_finds c e are.found None are.asks.tables kept os own p refl) h
+
+  -- one that is broken and what is broken before it, by effects of those before it: the first of them is the least
+  module _ (e : Effects) (are : AreFound c e) (n : ℕ) (asks : AsksTables (Some n) e.asked c.forks)
+      (broken : BreaksV6 c n) where
+    below : (p : ℕ) → p < n → is_below (Some n) p ≡ true
+    below p l = Prim.grind (arith, l)
+
+    pub v6_first : (o : Option ℕ) → IsLeast (Upto (TableFails e c.forks) (length c.forks)) o
+        → IsLeast (BreaksV6 c) (earlier_of o (Some n))
+    v6_first None h = (broken, λ p l b. h p (v6_finds c e are (Some n) asks kept os own p (below p l) b))
+    v6_first (Some q) h = go (nat_lt n q) refl
+      where
+        before : (p : ℕ) → p < q → p < n → BreaksV6 c p → ⊥
+        before p l m b = h.1 p l (v6_finds c e are (Some n) asks kept os own p (below p m) b)
+
+        -- the other one may be the same
+        at : q < n → BreaksV6 c q
+        at l = v6_found c e are (Some n) asks kept os own h.0.item q (below q l) h.0.holds
+
+        same_or_less : (q < n) ⊎ ((q ≡ n) ⊎ (n < q)) → (n < q → ⊥) → BreaksV6 c q
+        same_or_less (inl l) f = at l
+        same_or_less (inr (inl z)) f = subst (BreaksV6 c) (sym z) broken
+        same_or_less (inr (inr l)) f = absurd (f l)
+
+        go : (b : Bool) → nat_lt n q ≡ b → IsLeast (BreaksV6 c) (Some (if b then n else q))
+        go true z = (broken, λ p l b. before p (Prim.grind (arith, z, l)) l b)
+        go false z = (
+          same_or_less (less_same_or_more q n) (λ l. Prim.grind (arith, z, l)),
+          λ p l b. before p l (Prim.grind (arith, z, l)) b,
+        )

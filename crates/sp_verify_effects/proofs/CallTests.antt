@@ -288,7 +288,7 @@ module _ (c : Parts) (e : Effects) (are : AreEffects c e) (kept : (p : ℕ) → 
   touched : (k x : ℕ) → IsActual l ss k x → (IsMember x l.variables → ⊥)
       → (touches e l.entry x ≡ true) ↔ HasEffect c (Does c) (Body b) x
   touched k x f m = subst (λ n. (touches e n x ≡ true) ↔ HasEffect c (Does c) (Body b) x) (ap entry_of_layout at)
-      (are.touched (Body b) x (l, at) (asks_body k x f (effect.Stores x) m) (asks_body k x f (effect.Loads x) m))
+      (are.found.touched (Body b) x (l, at) (asks_body k x f (effect.Stores x) m) (asks_body k x f (effect.Loads x) m))
 
   abbrev pub Xs : List ℕ
   Xs = actuals l.formals ss (length l.formals)
@@ -300,7 +300,7 @@ module _ (c : Parts) (e : Effects) (are : AreEffects c e) (kept : (p : ℕ) → 
       let i = member_at l ss (length l.formals) x among in
       let actual = at_is l ss i.0 x i.1 i.2 in
       let outside : IsMember x l.variables → ⊥ = λ m. not_true_and_false (owns e.own.keys l.entry x)
-      (in_own c kept e.own.keys are.own b l at x m) not_own in (
+      (in_own c kept e.own.keys are.found.own b l at x m) not_own in (
         length l.formals - 1 - i.0,
         x,
         actual,
@@ -314,7 +314,7 @@ module _ (c : Parts) (e : Effects) (are : AreEffects c e) (kept : (p : ℕ) → 
       let y = a.0 in
       outer_from e l.entry Xs x (at_member l ss (length l.formals) (length l.formals - 1 - k) x
       (omega (arith, y)) a.1) ((touched k x f m).1 h)
-      (false_from_ne_true (owns e.own.keys l.entry x) (λ g. m (own_in c kept e.own.keys are.own b l at x g)))
+      (false_from_ne_true (owns e.own.keys l.entry x) (λ g. m (own_in c kept e.own.keys are.found.own b l at x g)))
 
   pub clash_rule : call_clashes e l ss ≡ true → fork.BreaksV7 c (Does c) (HasStop c) l b ss
   clash_rule h = ⊎_elim (λ k. inl (go (twice_or l ss (length l.formals)) k)) (λ k. inr (outer_rule k))

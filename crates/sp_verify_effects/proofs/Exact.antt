@@ -35,11 +35,11 @@ use Rattle.sp_verify_effects.specs.declared.facts.Effect.{Effect}
 use Rattle.sp_verify_effects.specs.declared.facts.Effect.TheVariants as effect
 use Rattle.sp_verify_effects.specs.Facts.{has_fact, fact, Tells}
 use Rattle.sp_verify_effects.specs.Own.{DoesAt, OwnBefore}
-use Rattle.sp_verify_effects.specs.Edges.{EdgeAt, AreEdges}
+use Rattle.sp_verify_effects.specs.Edges.{AreEdges, EdgeAt, HasEdge}
 use Rattle.sp_verify_effects.specs.Effects.{ComesToStop}
 use Rattle.sp_verify_effects.specs.AskedAreas.{is_asked}
-use Rattle.sp_verify_effects.specs.FactClosure.{is_own, is_index, fact_along, FactLeads, FollowsBy, FollowsEdges}
-use Rattle.sp_verify_effects.specs.FactClosure.{Closes, IsEffectOf, AreFacts}
+use Rattle.sp_verify_effects.specs.FactClosure.{is_own, is_index, fact_along, FollowsBy, FollowsEdges}
+use Rattle.sp_verify_effects.specs.FactClosure.{AreDone, AreFacts, Closes, IsDone, IsEffectOf}
 use Rattle.sp_verify_effects.specs.Variables.{AreOwn, owns}
 use Rattle.sp_verify_effects.proofs.EdgeRows.{entry_within}
 use Rattle.sp_verify_effects.proofs.BlockVariables.{begins, in_own, own_in}
@@ -65,23 +65,31 @@ module _ (c : Parts) (kept : (p : ℕ) → BreaksV1 c p → ⊥) (os : List Owne
       alone (entry c a) o.0 (owners.1 (entry c a) o.0 o.1) a b (begins c kept a ia)
       (subst (λ p. LiesIn c p b) (sym e) (begins c kept b ib))
 
+  -- what an area does itself
+  does_effect_of : (a : Area) (p : ℕ) (d : Effect) → DoesAt c a p d → IsEffectOf c a d
+  does_effect_of a p (effect.Stores x) (inl (ss, r, h)) = does_effect c (Does c) Stored a x (inl (p, ss, r, h))
+  does_effect_of a p (effect.Stores x) (inr (k, t, s, h)) = does_effect c (Does c) Stored a x (inr (p, k, t, s, h))
+  does_effect_of a p (effect.Loads x) (inl (ss, r, h)) = does_effect c (Does c) Loaded a x (inl (p, ss, r, h))
+  does_effect_of a p (effect.Loads x) (inr (k, t, s, h)) = does_effect c (Does c) Loaded a x (inr (p, k, t, s, h))
+  does_effect_of a p effect.Stops (inl (ss, r, h)) = ([], (p, ss, r, h))
+  does_effect_of a p effect.Stops (inr (k, t, s, h)) = absurd h
+
+  first_true : (k : Asked) (old : List Fact) → Tells [] old (OwnBefore c k (length c.instrs)) → AreDone c old
+  first_true k old start g h = ⊎_elim (λ z. absurd (cc z))
+      (λ (w : OwnBefore c k (length c.instrs) g).
+      let (p, _, ((a, lies, at, does), _)) = w in (a, lies.0, at, does_effect_of a p g.effect does))
+      (start.only g h)
+
+  pub told_done : (k : Asked) (none told : List Fact) → none ≡ []
+      → Tells none told (OwnBefore c k (length c.instrs)) → AreDone c told
+  told_done k none told e start = first_true k told
+      (subst (λ (z : List Fact). Tells z told (OwnBefore c k (length c.instrs))) e start)
+
   module _ (ks : List (ℕ × ℕ)) (are_own : AreOwn c ks) where
     -- ---- each follows
 
-    -- an area does it
-    abbrev IsTrue : Fact → Type 0
-    IsTrue g = (a : Area) × IsArea c a × (g.area ≡ entry c a) × IsEffectOf c a g.effect
-
-    does_effect_of : (a : Area) (p : ℕ) (d : Effect) → DoesAt c a p d → IsEffectOf c a d
-    does_effect_of a p (effect.Stores x) (inl (ss, r, h)) = does_effect c (Does c) Stored a x (inl (p, ss, r, h))
-    does_effect_of a p (effect.Stores x) (inr (k, t, s, h)) = does_effect c (Does c) Stored a x (inr (p, k, t, s, h))
-    does_effect_of a p (effect.Loads x) (inl (ss, r, h)) = does_effect c (Does c) Loaded a x (inl (p, ss, r, h))
-    does_effect_of a p (effect.Loads x) (inr (k, t, s, h)) = does_effect c (Does c) Loaded a x (inr (p, k, t, s, h))
-    does_effect_of a p effect.Stops (inl (ss, r, h)) = ([], (p, ss, r, h))
-    does_effect_of a p effect.Stops (inr (k, t, s, h)) = absurd h
-
     led : (a : Area) (d : Effect) (g : Fact) → IsArea c a → Some (fact (entry c a) d) ≡ Some g → IsEffectOf c a d
-        → IsTrue g
+        → IsDone c g
     led a d g ia e h = let s = same_Some (fact (entry c a) d) g e in
         (a, ia, ap (λ (z : Fact). z.area) (sym s), subst (λ (z : Fact). IsEffectOf c a z.effect) s h)
 
@@ -91,13 +99,13 @@ module _ (c : Parts) (kept : (p : ℕ) → BreaksV1 c p → ⊥) (os : List Owne
 
     module _ (a : Area) (ia : IsArea c a) (p : ℕ) (g : Fact) where
       by_start : (k : ℕ) (t : ChildTable) (own : Bool) (d : Effect) → IsStarted c a p k t → IsEffectOf c (Child a p k) d
-          → fact_along (edge.Started (entry c a) t.index) own d ≡ Some g → IsTrue g
+          → fact_along (edge.Started (entry c a) t.index) own d ≡ Some g → IsDone c g
       by_start k t own (effect.Stores x) s h e = led a (effect.Stores x) g ia e
           (child_effect c (Does c) Stored a p k x t s tt h)
       by_start k t own (effect.Loads x) s h e = go (is_index t.index x) refl e
         where
           go : (b : Bool) → is_index t.index x ≡ b
-              → (if b then None else Some (fact (entry c a) (effect.Loads x))) ≡ Some g → IsTrue g
+              → (if b then None else Some (fact (entry c a) (effect.Loads x))) ≡ Some g → IsDone c g
           go true z e = absurd (none-some g e)
           go false z e = led a (effect.Loads x) g ia e
               (child_effect c (Does c) Loaded a p k x t s (not_aside t.index x z) h)
@@ -105,7 +113,7 @@ module _ (c : Parts) (kept : (p : ℕ) → BreaksV1 c p → ⊥) (os : List Owne
 
       module _ (f up : ℕ) (ss : List Shape) (l : Layout) (call : IsCalled c a p f up ss l) where
         by_call : (own : Bool) (d : Effect) → own ≡ is_own ks l.entry d → IsEffectOf c (Body f) d
-            → fact_along (edge.Called (entry c a)) own d ≡ Some g → IsTrue g
+            → fact_along (edge.Called (entry c a)) own d ≡ Some g → IsDone c g
         by_call true (effect.Stores x) z h e = absurd (none-some g e)
         by_call false (effect.Stores x) z h e = led a (effect.Stores x) g ia e
             (called_effect c (Does c) Stored a p f up x x ss l call
@@ -126,11 +134,11 @@ module _ (c : Parts) (kept : (p : ℕ) → BreaksV1 c p → ⊥) (os : List Owne
             (Body f ∷ h.0, inr (p, f, up, ss, l, refl, call, h.1))
 
         by_pass : (k y x : ℕ) (own : Bool) (d : Effect) → IsNumber l k y → IsActual l ss k x → IsEffectOf c (Body f) d
-            → fact_along (edge.Passed (entry c a) y x) own d ≡ Some g → IsTrue g
+            → fact_along (edge.Passed (entry c a) y x) own d ≡ Some g → IsDone c g
         by_pass k y x own (effect.Stores w) num act h e = go (w == y) refl e
           where
             go : (b : Bool) → (w == y) ≡ b → (if b then Some (fact (entry c a) (effect.Stores x)) else None) ≡ Some g
-                → IsTrue g
+                → IsDone c g
             go true z e = led a (effect.Stores x) g ia e
                 (called_effect c (Does c) Stored a p f up x w ss l call (inr (
                   k,
@@ -142,7 +150,7 @@ module _ (c : Parts) (kept : (p : ℕ) → BreaksV1 c p → ⊥) (os : List Owne
         by_pass k y x own (effect.Loads w) num act h e = go (w == y) refl e
           where
             go : (b : Bool) → (w == y) ≡ b → (if b then Some (fact (entry c a) (effect.Loads x)) else None) ≡ Some g
-                → IsTrue g
+                → IsDone c g
             go true z e = led a (effect.Loads x) g ia e
                 (called_effect c (Does c) Loaded a p f up x w ss l call (inr (
                   k,
@@ -153,9 +161,10 @@ module _ (c : Parts) (kept : (p : ℕ) → BreaksV1 c p → ⊥) (os : List Owne
             go false z e = absurd (none-some g e)
         by_pass k y x own effect.Stops num act h e = absurd (none-some g e)
 
-    module _ (k : Asked) (rows : List (List Edge)) (follows : FollowsEdges rows k) (edges : AreEdges c rows) where
-      true_led : (f g : Fact) → IsTrue f → FactLeads k rows ks f g → IsTrue g
-      true_led f g (b, ib, at, h) (e, has, (w, q)) = go (edges.only f.area e has)
+    module _ (rows : List (List Edge)) (edges : AreEdges c rows) where
+      pub led_along : (f g : Fact) (e : Edge) → HasEdge rows f.area e
+          → fact_along e (is_own ks f.area f.effect) f.effect ≡ Some g → IsDone c f → IsDone c g
+      led_along f g e has w (b, ib, at, h) = go (edges.only f.area e has)
         where
           own : Bool
           own = is_own ks f.area f.effect
@@ -163,7 +172,7 @@ module _ (c : Parts) (kept : (p : ℕ) → BreaksV1 c p → ⊥) (os : List Owne
           as_edge : (x : Edge) → e ≡ x → fact_along x own f.effect ≡ Some g
           as_edge x s = ap (λ z. fact_along z own f.effect) (sym s) ∙ w
 
-          go : (p : ℕ) × EdgeAt c p f.area e → IsTrue g
+          go : (p : ℕ) × EdgeAt c p f.area e → IsDone c g
           go (p, inr (a, j, t, ia, st, (m, s))) =
               let child : IsArea c (Child a p j) = (ia, st.0, (t, st.1)) in
               let same : b ≡ Child a p j = one_area b (Child a p j) ib child (sym at ∙ m
@@ -182,17 +191,11 @@ module _ (c : Parts) (kept : (p : ℕ) → BreaksV1 c p → ⊥) (os : List Owne
               (subst (λ (z : Area). IsEffectOf c z f.effect) same h)
               (as_edge (edge.Passed (entry c a) y x) s)
 
-      module _ (old new : List Fact) (start : Tells [] old (OwnBefore c k (length c.instrs)))
-          (closes : Closes k rows ks old new) where
-        first_true : (g : Fact) → has_fact old g ≡ true → IsTrue g
-        first_true g h = ⊎_elim (λ z. absurd (cc z))
-            (λ (w : OwnBefore c k (length c.instrs) g).
-            let (p, _, ((a, lies, at, does), _)) = w in (a, lies.0, at, does_effect_of a p g.effect does))
-            (start.only g h)
-
-        all_true : (n : ℕ) (g : Fact) → FollowsBy k rows ks old n g → IsTrue g
-        all_true zero g h = first_true g h
-        all_true (suc n) g (f, h, l) = true_led f g (all_true n f h) l
+      module _ (k : Asked) (follows : FollowsEdges rows k) (old new : List Fact)
+          (start : Tells [] old (OwnBefore c k (length c.instrs))) (closes : Closes k rows ks old new) where
+        all_true : (n : ℕ) (g : Fact) → FollowsBy k rows ks old n g → IsDone c g
+        all_true zero g h = first_true k old start g h
+        all_true (suc n) g (f, h, (e, has, (w, q))) = led_along f g e has w (all_true n f h)
 
         sound : (a : Area) (d : Effect) → IsArea c a → has_fact new (fact (entry c a) d) ≡ true → IsEffectOf c a d
         sound a d ia h =
@@ -379,5 +382,5 @@ module _ (c : Parts) (kept : (p : ℕ) → BreaksV1 c p → ⊥) (os : List Owne
     pub facts_closed : (k : Asked) (rows : List (List Edge)) (none old new : List Fact) → FollowsEdges rows k
         → AreEdges c rows → none ≡ [] → Tells none old (OwnBefore c k (length c.instrs)) → Closes k rows ks old new
         → AreFacts c k new
-    facts_closed k rows none old new follows edges e start closes = are_facts k rows follows edges old new
+    facts_closed k rows none old new follows edges e start closes = are_facts rows edges k follows old new
         (subst (λ (z : List Fact). Tells z old (OwnBefore c k (length c.instrs))) e start) closes

@@ -14,6 +14,7 @@ mod Alone
 mod TestFailures
 mod Children
 mod BreachLaws
+mod Beyond
 mod BlockVariables
 mod SideEffectLaws
 mod Actuals

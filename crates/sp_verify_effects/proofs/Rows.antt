@@ -18,9 +18,9 @@ use Rattle.sp_verify_effects.specs.declared.effects.EffectRow.{EffectRow}
 use Rattle.sp_verify_effects.specs.declared.facts.Fact.{Fact}
 use Rattle.sp_verify_effects.specs.declared.facts.Effect.{Effect}
 use Rattle.sp_verify_effects.specs.declared.facts.Effect.TheVariants as effect
-use Rattle.sp_verify_effects.specs.AskedAreas.{Asks, is_asked}
+use Rattle.sp_verify_effects.specs.AskedAreas.{is_asked}
 use Rattle.sp_verify_effects.specs.Facts.{has_fact, fact}
-use Rattle.sp_verify_effects.specs.Effects.{InRow, RowsHave, AddsEffect, WritesFact, AreRows, IsRowOf, AreEffects}
+use Rattle.sp_verify_effects.specs.Effects.{InRow, RowsHave, AddsEffect, WritesFact, AreRows, IsRowOf, AreFound}
 use Rattle.sp_verify_effects.specs.Effects.{touches}
 use Rattle.sp_verify_effects.specs.FactClosure.{IsEffectOf, AreFacts}
 use Rattle.sp_verify_effects.specs.Variables.{AreOwn}
@@ -197,7 +197,7 @@ row_at (r ∷ rows) zero l = (r, refl)
 row_at (r ∷ rows) (suc m) l = row_at rows m (omega (arith, l))
 
 module _ (c : Parts) (kept : (p : ℕ) → BreaksV1 c p
-    → ⊥) (k : Asked) (asks : Asks c k) (fs : List Fact) (facts : AreFacts c k fs) (rows : List EffectRow)
+    → ⊥) (k : Asked) (fs : List Fact) (facts : AreFacts c k fs) (rows : List EffectRow)
     (are : AreRows fs (length fs) (length c.instrs) rows) (own : BTreeSet (ℕ × ℕ)) (are_own : AreOwn c own.keys) where
   row_is : (a : Area) (r : EffectRow) (d : Effect) → IsArea c a → is_asked k (entry c a) d ≡ true
       → slice_get rows (entry c a) ≡ Some r → InRow r d ↔ IsEffectOf c a d
@@ -210,8 +210,8 @@ module _ (c : Parts) (kept : (p : ℕ) → BreaksV1 c p
           (entry_within c kept a ia) in
           subst (λ (x : EffectRow). InRow x d) (same_Some w.0 r (sym w.1 ∙ e)) w.2
 
-  pub are_effects : AreEffects c (record { rows = rows; facts = fs; own = own; asked = k })
-  are_effects = record { asks = asks; rows = there; touched = touched; own = are_own }
+  pub are_found : AreFound c (record { rows = rows; facts = fs; own = own; asked = k })
+  are_found = record { rows = there; touched = touched; own = are_own }
     where
       there : (a : Area) → IsArea c a → (r : EffectRow) × (slice_get rows (entry c a) ≡ Some r) × IsRowOf c k a r
       there a ia =

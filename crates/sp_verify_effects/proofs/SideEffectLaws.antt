@@ -66,7 +66,7 @@ module _ (c : Parts) (kept : (p : ℕ) → BreaksV1 c p → ⊥) (ks : List (ℕ
 pub body_row : (c : Parts) (e : Effects) (are : AreEffects c e) (l : Layout) → layout_of c.layouts l.block ≡ Some l
     → (d : EffectRow) × (slice_get e.rows l.entry ≡ Some d) × IsRowOf c e.asked (Body l.block) d
 body_row c e are l is =
-    let r = are.rows (Body l.block) (l, is) in
+    let r = are.found.rows (Body l.block) (l, is) in
     (r.0, ap (slice_get e.rows) (sym (ap entry_of_layout is)) ∙ r.1, r.2)
 
 -- what it does outside itself is asked about

@@ -2,6 +2,7 @@
 -- The areas that rules V6 to V8 ask about, and what they ask about these and all that these start and call. Nothing
 -- else is followed.
 use Rattle.std.specs.Prelude.{◌≡◌, ℕ, List, Option, Some, None, Bool, true, ◌&&◌, ◌||◌, not, if◌then◌else◌, slice_get}
+use Rattle.std.specs.Prelude.{nat_lt}
 use Rattle.sp_code.specs.declared.instr.Instr.{Instr}
 use Rattle.sp_code.specs.declared.instr.Instr.TheVariants as i
 use Rattle.sp_code.specs.declared.code.ChildTable.{ChildTable}
@@ -53,15 +54,24 @@ has_block k m = k.all || flag_at k.blocks m
 abbrev pub is_asked_block : Asked → Layout → Bool
 is_asked_block k l = is_of_rules l || has_block k l.entry
 
--- what a child is not handed is asked about it; so for the children of a table, and of all tables
+-- an instruction is below a bound, if there is one
+abbrev pub is_below : Option ℕ → ℕ → Bool
+is_below None p = true
+is_below (Some n) p = nat_lt p n
+
+-- what a child is not handed is asked about it; so if it begins below a bound, for the children of a table, and of all
+-- tables
 abbrev pub AsksChild : Asked → ChildTable → Type 0
 AsksChild k t = (d : Effect) → (IsGiven t d → ⊥) → is_asked k t.entry d ≡ true
 
-abbrev pub AsksChildren : Asked → List ChildTable → Type 0
-AsksChildren k ts = (j : ℕ) (t : ChildTable) → slice_get ts j ≡ Some t → AsksChild k t
+abbrev pub AsksBelow : Option ℕ → Asked → ChildTable → Type 0
+AsksBelow o k t = is_below o t.entry ≡ true → AsksChild k t
 
-abbrev pub AsksTables : Asked → List ForkTable → Type 0
-AsksTables k fs = (t : ℕ) (tb : ForkTable) → slice_get fs t ≡ Some tb → AsksChildren k tb.children
+abbrev pub AsksChildren : Option ℕ → Asked → List ChildTable → Type 0
+AsksChildren o k ts = (j : ℕ) (t : ChildTable) → slice_get ts j ≡ Some t → AsksBelow o k t
+
+abbrev pub AsksTables : Option ℕ → Asked → List ForkTable → Type 0
+AsksTables o k fs = (t : ℕ) (tb : ForkTable) → slice_get fs t ≡ Some tb → AsksChildren o k tb.children
 
 -- what a block does is asked about it, but for what it does to its own variables; so for all blocks of the rules
 abbrev pub AsksOutside : Asked → Layout → Type 0
@@ -86,6 +96,6 @@ module _ (c : Parts) where
 
   -- all that the rules ask about is asked about
   pub record Asks (k : Asked) : Type 0 where
-    pub tables : AsksTables k c.forks
+    pub tables : AsksTables None k c.forks
     pub layouts : AsksLayouts k c.layouts
     pub inside : (p : ℕ) → AsksInsideAt k p

@@ -1,7 +1,7 @@
 -- None of this belongs to what the program promises: it is for contracts between crates.
 -- Rule V6 as a verifier tests it: of each child what it is handed, held against its effects and against what the
 -- children before it in its table are handed.
-use Rattle.std.specs.Prelude.{◌≡◌, ◌⊎◌, ◌<◌, ℕ, ◌==◌, List, [], Option, Some, None, Bool, false, ◌&&◌, ◌||◌, not}
+use Rattle.std.specs.Prelude.{◌≡◌, ◌⊎◌, ◌<◌, ℕ, ◌==◌, List, [], ◌∷◌, Option, Some, None, Bool, false, ◌&&◌, ◌||◌, not}
 use Rattle.std.specs.Prelude.{slice_get, length}
 use Rattle.std.specs.List.{list_any}
 use Rattle.std.specs.Option.{is_some}
@@ -13,6 +13,8 @@ use Rattle.sp_verify_rules.specs.Forks.{Clash, IsIllHanded}
 use Rattle.sp_verify_areas.specs.LeastPlaces.{Upto}
 use Rattle.sp_verify_effects.specs.declared.effects.EffectRow.{EffectRow}
 use Rattle.sp_verify_effects.specs.declared.effects.Effects.{Effects}
+use Rattle.sp_verify_effects.specs.declared.facts.Effect.{Effect}
+use Rattle.sp_verify_effects.specs.declared.facts.Effect.TheVariants as effect
 use Rattle.sp_verify_effects.specs.Sets.{with_all, with_index, all_new, meets, goes_beyond}
 
 -- ---- a child alone
@@ -47,6 +49,15 @@ LoadsBeyond loaded t = (x : ℕ) × IsMember x loaded × CountsAsEffect Loaded t
 
 abbrev pub FailsAlone : (stored loaded : List ℕ) → ChildTable → Type 0
 FailsAlone stored loaded t = StoresBeyond stored t ⊎ (LoadsBeyond loaded t ⊎ IsIllHanded t)
+
+-- what it stores if it does this, and what it loads
+abbrev pub stored_of : Effect → List ℕ
+stored_of (effect.Stores x) = x ∷ []
+stored_of d = []
+
+abbrev pub loaded_of : Effect → List ℕ
+loaded_of (effect.Loads x) = x ∷ []
+loaded_of d = []
 
 -- ---- beside the children before it
 

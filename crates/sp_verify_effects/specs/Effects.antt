@@ -61,13 +61,17 @@ module _ (c : Parts) where
         → IsMember x d.loaded ↔ IsEffect c (Does c) Loaded a x
     pub stops : is_asked k (entry c a) effect.Stops ≡ true → IsTrue d.stops ↔ ComesToStop a
 
-  -- all that the rules ask about is asked about; each area stands under its first instruction; a variable is touched
-  -- if it is one of its effects, where both of its kinds are asked about; the own ones are those of the blocks
-  pub record AreEffects (e : Effects) : Type 0 where
-    pub asks : Asks c e.asked
+  -- each area stands under its first instruction; a variable is touched if it is one of its effects, where both of its
+  -- kinds are asked about; the own ones are those of the blocks
+  pub record AreFound (e : Effects) : Type 0 where
     pub rows : (a : Area) → IsArea c a
         → (d : EffectRow) × (slice_get e.rows (entry c a) ≡ Some d) × IsRowOf e.asked a d
     pub touched : (a : Area) (x : ℕ) → IsArea c a → is_asked e.asked (entry c a) (effect.Stores x) ≡ true
         → is_asked e.asked (entry c a) (effect.Loads x) ≡ true
         → IsTrue (touches e (entry c a) x) ↔ HasEffect c (Does c) a x
     pub own : AreOwn c e.own.keys
+
+  -- so it is, and all that the rules ask about is asked about
+  pub record AreEffects (e : Effects) : Type 0 where
+    pub asks : Asks c e.asked
+    pub found : AreFound e

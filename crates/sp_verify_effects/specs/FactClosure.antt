@@ -105,6 +105,13 @@ module _ (c : Parts) where
   IsEffectOf a (effect.Loads x) = IsEffect c (Does c) Loaded a x
   IsEffectOf a effect.Stops = ComesToStop c a
 
+  -- an area that is there does it; so for all of these
+  abbrev pub IsDone : Fact → Type 0
+  IsDone f = (a : Area) × IsArea c a × (f.area ≡ entry c a) × IsEffectOf a f.effect
+
+  abbrev pub AreDone : List Fact → Type 0
+  AreDone fs = (f : Fact) → has_fact fs f ≡ true → IsDone f
+
   -- the facts are those of the areas that are there and asked about
   abbrev pub AreFacts : Asked → List Fact → Type 0
   AreFacts k fs = (a : Area) (d : Effect) → IsArea c a → is_asked k (entry c a) d ≡ true

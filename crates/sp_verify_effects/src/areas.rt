@@ -1,15 +1,16 @@
 //! Areas of code, known by their first instructions.
 
-ghost use Rattle.std.specs.Prelude.{◌≡◌, ◌<◌, MatchOption, length};
+ghost use Rattle.std.specs.Prelude.{◌≡◌, ◌<◌, MatchOption, length, slice_get};
 ghost use Rattle.std.specs.Option.{option_copied};
 ghost use Rattle.sp_verify_areas.specs.Only.{LiesOnlyIn};
 ghost use Rattle.sp_verify_effects.specs.PassContexts.{IsPassContext};
 ghost use Rattle.sp_verify_effects.specs.Own.{child_entry, entry_by};
-ghost use Rattle.sp_verify_rules.specs.Areas.{Area, child_at, entry, instr_at, table_at, table_named};
+ghost use Rattle.sp_verify_rules.specs.Areas.{Area, child_at, child_of, entry, instr_at, table_at, table_named};
 ghost use Rattle.sp_verify_rules.specs.NameRules.{LiesIn};
 
 use crate::pass_context::PassContext;
-use sp_code::{Code, ForkTable};
+use sp_base::List;
+use sp_code::{ChildTable, Code, ForkTable};
 use sp_verify_areas::owners::{Owner, table_number};
 
 /// The table of the fork or forall at p.
@@ -19,6 +20,16 @@ pub fn table_of<'a>(code: &'a Code, p: u32) -> Option<&'a ForkTable>
     match table_number(code, p) {
         None => None,
         Some(t) => code.parts().forks.get(t as usize),
+    }
+}
+
+/// Child k of table t.
+pub(crate) fn child_at(forks: &List<ForkTable>, t: u32, k: u32) -> Option<&ChildTable>
+    ensures { option_copied result ≡ child_of (slice_get forks.now t) k }
+{
+    match forks.get(t as usize) {
+        None => None,
+        Some(table) => table.children.get(k as usize),
     }
 }
 

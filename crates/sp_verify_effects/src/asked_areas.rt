@@ -5,16 +5,16 @@ ghost use Rattle.std.specs.Prelude.{◌≡◌, ◌<◌, ℕ, IfOk, Some, length,
 ghost use Rattle.std.specs.Option.{option_copied};
 ghost use Rattle.sp_verify_areas.specs.Only.{LiesOnlyIn};
 ghost use Rattle.sp_verify_effects.specs.Allowances.{Fits, FitsBlock, allows_some};
-ghost use Rattle.sp_verify_effects.specs.AskedAreas.{Asks, AsksChild, AsksChildren, AsksInsideAt, AsksLayout};
-ghost use Rattle.sp_verify_effects.specs.AskedAreas.{AsksLayouts, AsksOutside, AsksTables, allowance_at, has_block};
-ghost use Rattle.sp_verify_effects.specs.AskedAreas.{inside_entry, is_asked, is_asked_block, is_marked, is_of_rules};
-ghost use Rattle.sp_verify_effects.specs.AskedAreas.{target};
+ghost use Rattle.sp_verify_effects.specs.AskedAreas.{Asks, AsksBelow, AsksChild, AsksChildren, AsksInsideAt};
+ghost use Rattle.sp_verify_effects.specs.AskedAreas.{AsksLayout, AsksLayouts, AsksOutside, AsksTables, allowance_at};
+ghost use Rattle.sp_verify_effects.specs.AskedAreas.{has_block, inside_entry, is_asked, is_asked_block, is_below};
+ghost use Rattle.sp_verify_effects.specs.AskedAreas.{is_marked, is_of_rules, target};
 ghost use Rattle.sp_verify_effects.specs.FactClosure.{FollowsEdges, FollowsRow, IsFollowed, Passes};
 ghost use Rattle.sp_verify_effects.specs.PassContexts.{IsPassContext};
 ghost use Rattle.sp_verify_rules.specs.Areas.{Area, homes as homes_of, instr_at};
 
 use crate::allowance::{Allowance, allows, fits, fits_block, passes_within};
-use crate::callers::{flag_groups, groups_of};
+use crate::callers::{Groups, flag_groups, groups_of};
 use crate::common::{Common, common_of};
 use crate::edges::{Edge, edge_at};
 use crate::facts::Effect;
@@ -22,7 +22,7 @@ use crate::have;
 use crate::inside::is_inside;
 use crate::pass_context::PassContext;
 use sp_base::{List, Memory};
-use sp_code::{ChildTable, ForkTable, Instr, Layout};
+use sp_code::{ChildTable, ForkTable, Instr, Layout, Parts};
 use sp_verify_areas::flags::{flag_at, mark, no_flags};
 use sp_verify_shapes::calls::some_reference;
 
@@ -172,17 +172,29 @@ fn inside_entry_at(g: &PassContext, p: u32) -> Option<u32>
     }
 }
 
-// Sets the flags of children.
-fn mark_children(flags: &mut List<bool>, children: &[ChildTable]) {
-    for child in children {
-        mark(flags, child.entry as usize);
+/// Whether an instruction is below a bound, if there is one.
+pub(crate) fn is_below(bound: Option<u32>, entry: u32) -> bool
+    ensures { result ≡ is_below bound entry }
+{
+    match bound {
+        None => true,
+        Some(bound) => entry < bound,
     }
 }
 
-// Sets those of all children.
-fn mark_tables(flags: &mut List<bool>, tables: &[ForkTable]) {
+// Sets the flags of children that begin below a bound.
+fn mark_children(flags: &mut List<bool>, bound: Option<u32>, children: &[ChildTable]) {
+    for child in children {
+        if is_below(bound, child.entry) {
+            mark(flags, child.entry as usize);
+        }
+    }
+}
+
+// Sets those of all such children.
+fn mark_tables(flags: &mut List<bool>, bound: Option<u32>, tables: &[ForkTable]) {
     for table in tables {
-        mark_children(flags, table.children.items());
+        mark_children(flags, bound, table.children.items());
     }
 }
 
@@ -224,12 +236,23 @@ fn asks_child(asked: &Asked, child: &ChildTable) -> Result<bool, Memory>
     }
 }
 
+// The same, if the child begins below a bound.
+fn asks_below(asked: &Asked, bound: Option<u32>, child: &ChildTable) -> Result<bool, Memory>
+    ensures { IfOk result (λ b. b ≡ true → AsksBelow bound asked.now child.now) }
+{
+    if is_below(bound, child.entry) {
+        asks_child(asked, child)
+    } else {
+        Ok(true)
+    }
+}
+
 // The same for the children of a table.
-fn asks_children(asked: &Asked, children: &[ChildTable]) -> Result<bool, Memory>
-    ensures { IfOk result (λ b. b ≡ true → AsksChildren asked.now children.now) }
+fn asks_children(asked: &Asked, bound: Option<u32>, children: &[ChildTable]) -> Result<bool, Memory>
+    ensures { IfOk result (λ b. b ≡ true → AsksChildren bound asked.now children.now) }
 {
     for child in children {
-        let asks = have!(asks_child(asked, child));
+        let asks = have!(asks_below(asked, bound, child));
         if !asks {
             return Ok(false);
         }
@@ -238,11 +261,11 @@ fn asks_children(asked: &Asked, children: &[ChildTable]) -> Result<bool, Memory>
 }
 
 // Those of all tables.
-fn asks_tables(asked: &Asked, tables: &[ForkTable]) -> Result<bool, Memory>
-    ensures { IfOk result (λ b. b ≡ true → AsksTables asked.now tables.now) }
+fn asks_tables(asked: &Asked, bound: Option<u32>, tables: &[ForkTable]) -> Result<bool, Memory>
+    ensures { IfOk result (λ b. b ≡ true → AsksTables bound asked.now tables.now) }
 {
     for table in tables {
-        let asks = have!(asks_children(asked, table.children.items()));
+        let asks = have!(asks_children(asked, bound, table.children.items()));
         if !asks {
             return Ok(false);
         }
@@ -386,7 +409,7 @@ fn asks(g: &PassContext, asked: &Asked) -> Result<bool, Memory>
     ensures { IfOk result (λ b. b ≡ true → Asks g.now.code.now asked.now) }
 {
     let parts = g.code.parts();
-    let tables = have!(asks_tables(asked, parts.forks.items()));
+    let tables = have!(asks_tables(asked, None, parts.forks.items()));
     if tables {
         let layouts = have!(asks_layouts(asked, parts.layouts.items()));
         if layouts {
@@ -396,22 +419,22 @@ fn asks(g: &PassContext, asked: &Asked) -> Result<bool, Memory>
     Ok(false)
 }
 
-// Flags of what rules ask about, and of what leads to it along the edges; and the allowances of these areas.
-fn find_asked(g: &PassContext, rows: &List<List<Edge>>) -> Result<Asked, Memory>
-    requires known { IsPassContext g.now }
-{
-    let parts = g.code.parts();
-    let alloc = parts.instrs.alloc();
-    let mut blocks = have!(no_flags(alloc, parts.instrs.len()));
-    mark_blocks(g, &mut blocks);
-    let mut flags = have!(List::from_slice(alloc, blocks.items()));
-    mark_tables(&mut flags, parts.forks.items());
-    let groups = have!(groups_of(rows));
-    flag_groups(rows, &groups, &mut flags);
+// Flags of these blocks and of the children that begin below a bound, and of what leads to them along the edges; and
+// the allowances of these areas.
+fn find_by(
+    parts: &Parts,
+    rows: &List<List<Edge>>,
+    groups: &Groups,
+    bound: Option<u32>,
+    blocks: List<bool>,
+) -> Result<Asked, Memory> {
+    let mut flags = have!(List::from_slice(blocks.alloc(), blocks.items()));
+    mark_tables(&mut flags, bound, parts.forks.items());
+    flag_groups(rows, groups, &mut flags);
     let Common {
         numbers,
         allowances,
-    } = have!(common_of(parts, rows, &groups, &flags, &blocks));
+    } = have!(common_of(parts, rows, groups, &flags, bound, &blocks));
     Ok(Asked {
         all: false,
         flags,
@@ -419,6 +442,50 @@ fn find_asked(g: &PassContext, rows: &List<List<Edge>>) -> Result<Asked, Memory>
         allowances,
         blocks,
     })
+}
+
+// What rules ask about, and what leads to it along the edges.
+fn find_asked(g: &PassContext, rows: &List<List<Edge>>) -> Result<Asked, Memory>
+    requires known { IsPassContext g.now }
+{
+    let parts = g.code.parts();
+    let mut blocks = have!(no_flags(parts.instrs.alloc(), parts.instrs.len()));
+    mark_blocks(g, &mut blocks);
+    let groups = have!(groups_of(rows));
+    find_by(parts, rows, &groups, None, blocks)
+}
+
+/// What V6 asks about the children that begin below a bound, and what leads to it along the edges; nothing here is
+/// checked.
+pub(crate) fn find_below(
+    g: &PassContext,
+    rows: &List<List<Edge>>,
+    groups: &Groups,
+    bound: Option<u32>,
+) -> Result<Asked, Memory> {
+    let parts = g.code.parts();
+    let blocks = have!(no_flags(parts.instrs.alloc(), parts.instrs.len()));
+    find_by(parts, rows, groups, bound, blocks)
+}
+
+/// The same, checked.
+pub(crate) fn asked_below(
+    g: &PassContext,
+    rows: &List<List<Edge>>,
+    groups: &Groups,
+    bound: Option<u32>,
+) -> Result<Asked, Memory>
+    ensures asks { IfOk result (λ asked. AsksTables bound asked g.now.code.now.forks) }
+    ensures follows { IfOk result (FollowsEdges rows.now) }
+{
+    let some = have!(find_below(g, rows, groups, bound));
+    let asks = have!(asks_tables(&some, bound, g.code.parts().forks.items()));
+    if asks {
+        if follows_edges(&some, rows.items()) {
+            return Ok(some);
+        }
+    }
+    Ok(every_area(some))
 }
 
 /// What rules ask about, and what leads to it along these edges.

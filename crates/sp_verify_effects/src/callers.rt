@@ -12,8 +12,8 @@ use std::alloc::Global;
 /// No number.
 pub(crate) const NONE: u32 = 4_294_967_295;
 
-// A count as a number, if it is one.
-fn number_from(count: usize) -> u32 {
+/// A count as a number, if it is one.
+pub(crate) fn number_from(count: usize) -> u32 {
     if count < 4_294_967_295 {
         count as u32
     } else {

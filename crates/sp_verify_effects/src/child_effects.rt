@@ -26,8 +26,8 @@ fn is_loose(child: &ChildTable) -> bool
     child.shared.items().contains(&1) || (child.index.is_some() && child.moved.len() != 0)
 }
 
-// Whether a child stores or loads more than it is handed, or is handed something wrongly.
-fn fails_alone(
+/// Whether a child stores or loads more than it is handed, or is handed something wrongly.
+pub(crate) fn fails_alone(
     alloc: Global,
     child: &ChildTable,
     stored: &[u32],
@@ -136,8 +136,12 @@ fn first_child(
     Ok(first)
 }
 
-// The least one in all tables.
-fn first_in(alloc: Global, effects: &Effects, tables: &[ForkTable]) -> Result<Option<u32>, Memory>
+/// The least one in all tables.
+pub(crate) fn first_in(
+    alloc: Global,
+    effects: &Effects,
+    tables: &[ForkTable],
+) -> Result<Option<u32>, Memory>
     ensures { IfOk result (λ first. IsLeast (Upto (TableFails effects.now tables.now) (length tables.now)) first) }
 {
     let mut first = None;

@@ -19,7 +19,8 @@ use crate::variables::owns;
 use sp_base::{List, Memory};
 use std::collections::BTreeSet;
 
-fn is_own(own: &BTreeSet<(u32, u32)>, area: u32, effect: Effect) -> bool
+/// Whether it is done to a variable of the area's own.
+pub(crate) fn is_own(own: &BTreeSet<(u32, u32)>, area: u32, effect: Effect) -> bool
     ensures { result ≡ is_own own.now.keys area effect }
 {
     match effect {
@@ -29,7 +30,8 @@ fn is_own(own: &BTreeSet<(u32, u32)>, area: u32, effect: Effect) -> bool
     }
 }
 
-fn is_index(index: Option<u32>, x: u32) -> bool
+/// Whether a variable is the index.
+pub(crate) fn is_index(index: Option<u32>, x: u32) -> bool
     ensures { result ≡ is_index index x }
 {
     match index {
@@ -95,8 +97,8 @@ fn along_formal(to: u32, formal: u32, actual: u32, effect: Effect) -> Option<Fac
     }
 }
 
-// What goes along an edge.
-fn fact_along(edge: Edge, own: bool, effect: Effect) -> Option<Fact>
+/// What goes along an edge.
+pub(crate) fn fact_along(edge: Edge, own: bool, effect: Effect) -> Option<Fact>
     ensures { result ≡ fact_along edge own effect }
 {
     match edge {

@@ -4,7 +4,7 @@
 //! `asked_areas.rt` checks what is found.
 
 use crate::allowance::{Allowance, passes_within};
-use crate::asked_areas::target;
+use crate::asked_areas::{is_below, target};
 use crate::callers::{Groups, NONE, number_of, set_number};
 use crate::classes::{Classes, UNKNOWN, class_of, class_of_block, may_compare, met, no_classes};
 use crate::edges::Edge;
@@ -21,32 +21,48 @@ pub(crate) struct Common {
     pub allowances: List<Allowance>,
 }
 
-// Gives the children of a table their numbers.
+// Gives a child its number.
+fn number_child(
+    alloc: Global,
+    classes: &mut Classes,
+    numbers: &mut List<u32>,
+    place: (usize, usize),
+    child: &ChildTable,
+) -> Result<(), Memory> {
+    let number = have!(class_of(alloc, classes, place, child));
+    let m = child.entry as usize;
+    let now = have!(met(alloc, classes, number_of(numbers, m), number));
+    set_number(numbers, m, now);
+    Ok(())
+}
+
+// Gives the children of a table that begin below a bound their numbers.
 fn number_children(
     alloc: Global,
     classes: &mut Classes,
     numbers: &mut List<u32>,
+    bound: Option<u32>,
     t: usize,
     children: &[ChildTable],
 ) -> Result<(), Memory> {
     for (k, child) in children.iter().enumerate() {
-        let number = have!(class_of(alloc, classes, (t, k), child));
-        let m = child.entry as usize;
-        let now = have!(met(alloc, classes, number_of(numbers, m), number));
-        set_number(numbers, m, now);
+        if is_below(bound, child.entry) {
+            have!(number_child(alloc, classes, numbers, (t, k), child));
+        }
     }
     Ok(())
 }
 
-// Gives all children their numbers.
+// Gives all such children their numbers.
 fn number_tables(
     alloc: Global,
     classes: &mut Classes,
     numbers: &mut List<u32>,
+    bound: Option<u32>,
     tables: &[ForkTable],
 ) -> Result<(), Memory> {
     for (t, table) in tables.iter().enumerate() {
-        have!(number_children(alloc, classes, numbers, t, table.children.items()));
+        have!(number_children(alloc, classes, numbers, bound, t, table.children.items()));
     }
     Ok(())
 }
@@ -206,19 +222,26 @@ fn number_group(
     Ok(())
 }
 
-/// The allowances of the areas whose flags are set, by the edges between areas. There are flags of blocks too: of those
-/// of which the rules ask what they do outside themselves.
+/// The allowances of the areas whose flags are set, by the edges between areas, for the children that begin below a
+/// bound. There are flags of blocks too: of those of which the rules ask what they do outside themselves.
 pub(crate) fn common_of(
     parts: &Parts,
     rows: &List<List<Edge>>,
     groups: &Groups,
     flags: &List<bool>,
+    bound: Option<u32>,
     blocks: &List<bool>,
 ) -> Result<Common, Memory> {
     let alloc = rows.alloc();
     let mut numbers = List::of(have!(vec![in alloc; UNKNOWN; rows.len()]));
     let mut classes = no_classes(alloc, &parts.forks);
-    have!(number_tables(alloc, &mut classes, &mut numbers, parts.forks.items()));
+    have!(number_tables(
+        alloc,
+        &mut classes,
+        &mut numbers,
+        bound,
+        parts.forks.items()
+    ));
     have!(number_blocks(
         alloc,
         &mut classes,

@@ -2,13 +2,17 @@
 
 ghost use Rattle.std.specs.Prelude.{◌≡◌, ℕ, IfOk, OnOk, length, slice_get};
 ghost use Rattle.sp_verify_effects.specs.PassContexts.{IsPassContext};
-ghost use Rattle.sp_verify_effects.specs.Effects.{AreEffects, AreRows, RowsHave, AddsEffect, WritesFact, touches};
+ghost use Rattle.sp_verify_effects.specs.Edges.{AreEdges};
+ghost use Rattle.sp_verify_effects.specs.Effects.{AddsEffect, AreEffects, AreFound, AreRows, RowsHave, WritesFact};
+ghost use Rattle.sp_verify_effects.specs.Effects.{touches};
+ghost use Rattle.sp_verify_effects.specs.FactClosure.{FollowsEdges};
+ghost use Rattle.sp_verify_effects.specs.Variables.{AreOwn};
 ghost use Rattle.sp_verify_effects.specs.declared.facts.Effect.{Effect as EffectOf};
 ghost use Rattle.std.specs.Option.{option_copied};
 
 use crate::asked_areas::{Asked, asked_of};
 use crate::closure::facts_of;
-use crate::edges::edges_of;
+use crate::edges::{Edge, edges_of};
 use crate::facts::{Effect, Fact, Facts};
 use crate::have;
 use crate::pass_context::PassContext;
@@ -132,15 +136,21 @@ fn rows_of(alloc: Global, facts: &Facts, count: usize) -> Result<List<EffectRow>
     Ok(rows)
 }
 
-/// What the code of each block and child does that a rule asks about. The only other answer is want of memory.
-pub fn find_effects(g: &PassContext) -> Result<Effects, Memory>
+/// What the code of each block and child does that is asked about, by all edges and the variables of blocks.
+pub(crate) fn effects_of(
+    g: &PassContext,
+    asked: Asked,
+    edges: &List<List<Edge>>,
+    own: BTreeSet<(u32, u32)>,
+) -> Result<Effects, Memory>
     requires known { IsPassContext g.now }
-    ensures { IfOk result (λ effects. AreEffects g.now.code.now effects) }
+    requires follows { FollowsEdges edges.now asked }
+    requires edges { AreEdges g.now.code.now edges.now }
+    requires own { AreOwn g.now.code.now own.keys }
+    ensures found { IfOk result (AreFound g.now.code.now) }
+    ensures asked { IfOk result (λ effects. effects.asked ≡ asked) }
 {
-    let own = have!(own_of(g.code));
-    let edges = have!(edges_of(g));
-    let asked = have!(asked_of(g, &edges));
-    let facts = have!(facts_of(g, &asked, &edges, &own));
+    let facts = have!(facts_of(g, &asked, edges, &own));
     let instrs = &g.code.parts().instrs;
     let rows = have!(rows_of(instrs.alloc(), &facts, instrs.len()));
     Ok(Effects {
@@ -149,4 +159,16 @@ pub fn find_effects(g: &PassContext) -> Result<Effects, Memory>
         own,
         asked,
     })
+}
+
+/// What the code of each block and child does that a rule asks about. The only other answer is want of memory.
+pub fn find_effects(g: &PassContext) -> Result<Effects, Memory>
+    requires known { IsPassContext g.now }
+    ensures { IfOk result (λ effects. AreEffects g.now.code.now effects) }
+{
+    let own = have!(own_of(g.code));
+    let edges = have!(edges_of(g));
+    let asked = have!(asked_of(g, &edges));
+    let effects = have!(effects_of(g, asked, &edges, own));
+    Ok(effects)
 }

@@ -5,7 +5,10 @@
 //! - `find_effects` (`effects`): exactly the variables that each area stores and loads which a rule asks about, with
 //!   what it starts and calls, and whether it comes to a stop other than a fault (`AreEffects`).
 //! - `Effects::of`, `touches`: what the area with this first instruction does; whether it stores or loads a variable.
-//! - `first_ill_handed` (`handed`): the least instruction at which V6 is broken; none where it is broken nowhere.
+//! - `first_beyond` (`breach`): the least instruction at which V6 is broken, if a child is found that does something
+//!   which it is not handed, before all effects are. None says nothing.
+//! - `first_ill_handed` (`child_effects`): the least instruction at which V6 is broken; none where it is broken
+//!   nowhere.
 //! - `first_clash` (`clash`): the same for V7, of code that keeps V2 to V5 too. `first_side_effect` (`side_effects`):
 //!   the same for V8.
 //! - `tell_own` (`own`), `edges_of` (`edges`): what areas do themselves, the ways on which this goes from area to area.
@@ -26,6 +29,8 @@
 //! - `facts.rt` is a set of facts about areas (`specs/Facts.antt`), `places.rt` and `own.rt` are what instructions do
 //!   themselves, `edges.rt` and `closure.rt` how facts go from area to area until nothing is new, `effects.rt` makes a
 //!   table of them, with the variables of blocks (`variables.rt`).
+//! - `ways.rt` finds with no contract how something comes to a child that is not handed it, and `breach.rt` goes that
+//!   way again.
 //! - `child_effects.rt` is V6; `clash.rt` is V7, with `calls.rt` (a call) and `inside.rt` (a block that is called
 //!   inside itself); `side_effects.rt` is V8. `sets.rt` serves them.
 #![tactic(auto)]
@@ -33,6 +38,7 @@
 pub mod allowance;
 pub mod areas;
 pub mod asked_areas;
+pub mod breach;
 pub mod callers;
 pub mod calls;
 pub mod child_effects;
@@ -50,3 +56,4 @@ pub mod places;
 pub mod sets;
 pub mod side_effects;
 pub mod variables;
+pub mod ways;

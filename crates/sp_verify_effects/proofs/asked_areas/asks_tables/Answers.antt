@@ -7,7 +7,8 @@ use Rattle.sp_verify_effects.proofs.AreaQueries.{before_none, before_more, befor
 use Rattle.sp_verify_effects.proofs.asked_areas.asks_tables.Goals as goal
 
 pub loop-table-init : goal.loop-table-init
-loop-table-init c = before_none (λ (j : ℕ) (t : ForkTable). AsksChildren c.args.asked.now t.children) c.args.tables.now
+loop-table-init c = before_none (λ (j : ℕ) (t : ForkTable). AsksChildren c.args.bound c.args.asked.now t.children)
+    c.args.tables.now
 
 pub loop-table-preserved : goal.loop-table-preserved
 loop-table-preserved c =
@@ -15,8 +16,8 @@ loop-table-preserved c =
     let k = c.loop-table.table-index in
     let t = c.table-item.result in
     let e = slice_get_read ts (length ts) k t refl c.loop-table-test.true c.table-item.is in
-    before_more (λ (j : ℕ) (t : ForkTable). AsksChildren c.args.asked.now t.children) ts k t e
-    (subst (λ (z : List ChildTable). AsksChildren c.args.asked.now z) c.items.ensures
+    before_more (λ (j : ℕ) (t : ForkTable). AsksChildren c.args.bound c.args.asked.now t.children) ts k t e
+    (subst (λ (z : List ChildTable). AsksChildren c.args.bound c.args.asked.now z) c.items.ensures
     (c.in-Ok.ensures c.if-not-asks.false)) c.loop-table.invariant
 
 pub returns-then-not-asks : goal.returns-then-not-asks
@@ -25,5 +26,5 @@ returns-then-not-asks c = λ t. absurd (cc t)
 pub returns : goal.returns
 returns c = λ t.
     let e : c.loop-table.table-index ≡ length c.args.tables.now = omega arith in
-    before_all (λ (j : ℕ) (t : ForkTable). AsksChildren c.args.asked.now t.children) c.args.tables.now
+    before_all (λ (j : ℕ) (t : ForkTable). AsksChildren c.args.bound c.args.asked.now t.children) c.args.tables.now
     c.loop-table.table-index e c.loop-table.invariant

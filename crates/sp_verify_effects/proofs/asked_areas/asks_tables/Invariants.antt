@@ -7,4 +7,4 @@ use Rattle.sp_verify_effects.proofs.asked_areas.asks_tables.Given as goal
 -- those of the tables so far are
 abbrev pub invariant-loop-table : goal.invariant-loop-table
 invariant-loop-table l =
-    HoldsBefore (λ (j : ℕ) (t : ForkTable). AsksChildren l.asked t.children) l.tables l.table-index
+    HoldsBefore (λ (j : ℕ) (t : ForkTable). AsksChildren l.bound l.asked t.children) l.tables l.table-index

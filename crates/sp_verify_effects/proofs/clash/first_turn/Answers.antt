@@ -23,8 +23,8 @@ loop-place-preserved c =
     ∙ slice_get_read items (length items) j l refl c.loop-place-test.true c.l-item.is in
     let t = c.turns-turned.ensures
     ∙ ap (λ (b : Bool). turns e.own.keys b l (slice_get e.rows l.entry)) c.flag_at.ensures in
-    let one = one_turn code c.requires.known.kept e.own.keys c.requires.effects.own j l is fs e c.turns-turned.result
-    c.place_if.result t c.place_if.ensures in
+    let one = one_turn code c.requires.known.kept e.own.keys c.requires.effects.found.own j l is fs e
+    c.turns-turned.result c.place_if.result t c.place_if.ensures in
     subst (IsLeast (Upto R (j + 1))) (sym c.least-first.ensures)
     (more R j c.loop-place.first c.place_if.result c.loop-place.invariant one)
 

@@ -20,7 +20,7 @@ loop-l-preserved c =
     let same : items ≡ code.layouts = c.items-l-items.ensures ∙ ap (λ (z : Parts). z.layouts) c.parts.ensures.same in
     let is : slice_get code.layouts j ≡ Some l = ap (λ (xs : List Layout). slice_get xs j) (sym same)
     ∙ slice_get_read items (length items) j l refl c.loop-l-test.true c.l-item.is in
-    let one = one_side_effect code c.requires.known.kept e.own.keys c.requires.effects.own j l is e
+    let one = one_side_effect code c.requires.known.kept e.own.keys c.requires.effects.found.own j l is e
     c.has_side_effects.result
     c.place_if.result c.has_side_effects.ensures c.place_if.ensures in
     subst (IsLeast (Upto R (j + 1))) (sym c.least-first.ensures)
