@@ -9,7 +9,7 @@ ghost use Rattle.sp_code.specs.Lengths.{selectors_length, actuals_length, width_
 ghost use Rattle.sp_length.specs.CappedLength.{capped_length};
 
 use crate::sum::sum;
-use sp_base::{Boxed, List};
+use sp_base::List;
 use sp_tree::{Actual, Expr, ExprForm, Selector, StandardFn, UnaryOp, Var};
 
 fn unary_length(op: UnaryOp) -> u32
@@ -45,14 +45,6 @@ pub fn value_length(e: &Expr, q: u32) -> u32
 
 #[cycle(length)]
 #[tactic(auto, using(crate::proofs::Sums::summed))]
-fn boxed_length(e: &Boxed<Expr>, q: u32) -> u32
-    ensures { result ≡ capped_length (q + value_length (expr_of e.now)) }
-{
-    value_length(e.get(), q)
-}
-
-#[cycle(length)]
-#[tactic(auto, using(crate::proofs::Sums::summed))]
 pub fn form_length(form: &ExprForm, q: u32) -> u32
     ensures { result ≡ capped_length (q + form_length (form_of form.now)) }
 {
@@ -63,12 +55,12 @@ pub fn form_length(form: &ExprForm, q: u32) -> u32
             sum(q, 1)
         }
         ExprForm::Unary(op, a) => {
-            let q = boxed_length(a, q);
+            let q = value_length(a.get(), q);
             sum(q, unary_length(*op))
         }
         ExprForm::Binary(_, a, b) => {
-            let q = boxed_length(a, q);
-            let q = boxed_length(b, q);
+            let q = value_length(a.get(), q);
+            let q = value_length(b.get(), q);
             sum(q, 1)
         }
         ExprForm::Call(_, _, args) => {

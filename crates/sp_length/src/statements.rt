@@ -58,14 +58,6 @@ pub fn stmt_length(program: &Checked, s: &Stmt, q: u32) -> u32
 
 #[cycle(stmt)]
 #[tactic(auto, using(crate::proofs::Sums::summed))]
-fn boxed_length(program: &Checked, s: &Boxed<Stmt>, q: u32) -> u32
-    ensures { result ≡ capped_length (q + stmt_length (program_of program.now) (stmt_of s.now)) }
-{
-    stmt_length(program, s.get(), q)
-}
-
-#[cycle(stmt)]
-#[tactic(auto, using(crate::proofs::Sums::summed))]
 fn stmt_form_length(program: &Checked, form: &Form, q: u32) -> u32
     ensures { result ≡ capped_length (q + stmt_length (program_of program.now) (stmt_form_of form.now)) }
 {
@@ -83,23 +75,23 @@ fn stmt_form_length(program: &Checked, form: &Form, q: u32) -> u32
         Form::Sequence(ss) => all_length(program, ss, q),
         Form::If(e, a, b) => {
             let q = value_length(e, q);
-            let q = boxed_length(program, a, q);
+            let q = stmt_length(program, a.get(), q);
             else_length(program, b, q)
         }
         Form::While(e, s) => {
             let q = value_length(e, q);
-            let q = boxed_length(program, s, q);
+            let q = stmt_length(program, s.get(), q);
             sum(q, 3)
         }
         Form::Repeat(s, e) => {
-            let q = boxed_length(program, s, q);
+            let q = stmt_length(program, s.get(), q);
             let q = value_length(e, q);
             sum(q, 2)
         }
         Form::For { from, to, body, .. } => {
             let q = value_length(from, q);
             let q = value_length(to, q);
-            let q = boxed_length(program, body, q);
+            let q = stmt_length(program, body.get(), q);
             sum(q, 3)
         }
         Form::Case(e, arms) => {
@@ -115,7 +107,7 @@ fn stmt_form_length(program: &Checked, form: &Form, q: u32) -> u32
         Form::Forall { from, to, body, .. } => {
             let q = value_length(from, q);
             let q = value_length(to, q);
-            let q = boxed_length(program, body, q);
+            let q = stmt_length(program, body.get(), q);
             sum(q, 3)
         }
         Form::Assume(e) => {
