@@ -12,7 +12,7 @@ use Rattle.sp_verify_effects.proofs.breach.breach_of.Goals as goal
 pub returns-in-None : goal.returns-in-None
 returns-in-None c = λ p e. absurd (none-some p e)
 
-pub returns-in-Ok : goal.returns-then-child-fact
+pub returns-in-Ok : goal.returns-in-Ok
 returns-in-Ok c = λ p e.
     let g = c.args.g.now in
     let code = g.code.now in
