@@ -198,16 +198,29 @@ fn name_program(
     }
 }
 
-/// The tree with numbers for names, or the first rule among N1 to N8 and L4 that is broken: of the earliest place, and
-/// of several at one place the one that stands first in the table of rules. The tree is consumed.
-pub fn resolve(alloc: Global, syntax: Syntax) -> Result<Named, Halt>
-    ensures { AnswersAs named.program_of result (name_resolution (plain.program_of syntax)) }
+// The same of the parts of a tree.
+fn resolve_parts(
+    alloc: Global,
+    name: Name,
+    heading: List<Name>,
+    block: SynBlock,
+) -> Result<Named, Halt>
+    ensures { AnswersAs named.program_of result
+        (name_resolution (plain.program_of (record { name = name; heading = heading; block = block }))) }
 {
-    let (name, heading, block) = syntax.parts();
     let first = check_files(heading.items(), None);
     let inner = have!(name_program(alloc, block, first));
     match inner.first {
         Some(r) => Err(Halt::Refused(r)),
         None => program_tables(alloc, &name, inner.tree),
     }
+}
+
+/// The tree with numbers for names, or the first rule among N1 to N8 and L4 that is broken: of the earliest place, and
+/// of several at one place the one that stands first in the table of rules. The tree is consumed.
+pub fn resolve(alloc: Global, syntax: Syntax) -> Result<Named, Halt>
+    ensures { AnswersAs named.program_of result (name_resolution (plain.program_of syntax)) }
+{
+    let (name, heading, block) = syntax.parts();
+    resolve_parts(alloc, name, heading, block)
 }

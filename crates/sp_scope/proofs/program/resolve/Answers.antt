@@ -1,13 +1,12 @@
-use Rattle.std.proofs.Common.{◌∙◌, ap, [], None}
+use Rattle.std.proofs.Common.{subst, sym}
+use Rattle.sp_tree.specs.declared.syntax.Syntax.{Syntax}
+use Rattle.sp_tree.specs.NameFirst.{name_resolution}
+use Rattle.sp_tree.specs.NamedOf as named
+use Rattle.sp_tree.specs.PhaseResults.{AnswersAs}
 use Rattle.sp_tree.specs.SyntaxOf as plain
-use Rattle.sp_scope.specs.Walks.{seen_block}
-use Rattle.sp_scope.specs.Firsts.{files_first}
-use Rattle.sp_scope.proofs.PartBreaches.{resolved_found}
 use Rattle.sp_scope.proofs.program.resolve.Goals as goal
 
 pub returns : goal.returns
 returns c =
-    resolved_found _ (plain.program_of c.args.syntax) c.check_files-first.result (seen_block c.in-Ok.value.tree)
-    c.in-Ok.value.first
-    (c.check_files-first.ensures ∙ ap (λ xs. files_first [] xs None) c.items.ensures) c.in-Ok.ensures c.in-None.is
-    c.program_tables.ensures
+    subst (λ (s : Syntax). AnswersAs named.program_of c.resolve_parts.result (name_resolution (plain.program_of s)))
+    (sym c.parts.ensures) c.resolve_parts.ensures
