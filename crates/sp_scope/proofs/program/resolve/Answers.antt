@@ -9,4 +9,4 @@ use Rattle.sp_scope.proofs.program.resolve.Goals as goal
 pub returns : goal.returns
 returns c =
     subst (λ (s : Syntax). AnswersAs named.program_of c.resolve_parts.result (name_resolution (plain.program_of s)))
-    (sym c.parts.ensures) c.resolve_parts.ensures
+    (sym c.parts-name.ensures) c.resolve_parts.ensures
