@@ -60,11 +60,10 @@ fn told_notes(
     ensures { IfOk result (λ notes. notes.items
         ≡ end_lines ran.now ++ reports text title watchers.items show ran.now.closed.journal.entries) }
 {
-    let lines = have!(end_lines(alloc, ran));
+    let mut notes = have!(end_lines(alloc, ran));
     let reports = have!(tell(alloc, watchers, ran.closed.journal(), show));
-    let mut out = Writer::behind(lines);
-    out.extend(reports.as_slice());
-    out.finish()
+    have!(notes.extend_from_slice(reports.as_slice()));
+    Ok(notes)
 }
 
 /// The notes of `run`: the journal, or the end, the verdict and the chosen reports.
