@@ -1,3 +1,4 @@
+mod Asking
 mod ListNumbers
 mod Forms
 mod Takings

@@ -1,5 +1,5 @@
 -- Each list of shapes has one number, and keeps it.
-use Rattle.std.proofs.Common.{◌≡◌, ◌⊎◌, inl, inr, ⊎_elim, refl, sym, ◌∙◌, ap, subst, ℕ, zero, suc, ◌+◌, ◌*◌, ◌<◌, ◌≤◌}
+use Rattle.std.proofs.Common.{◌≡◌, ⊎_elim, refl, sym, ◌∙◌, ap, subst, ℕ, zero, suc, ◌+◌, ◌*◌, ◌<◌, ◌≤◌}
 use Rattle.std.proofs.Common.{◌==◌, List, [], ◌∷◌, ◌++◌, length, Option, Some, None, Bool, true, false, arith, eqb-true}
 use Rattle.std.proofs.Common.{append_assoc, eq-eqb}
 use Rattle.std.specs.Prelude.{slice_get, cond, take, MatchOption}
@@ -9,7 +9,9 @@ use Rattle.std.specs.Map.{lookup}
 use Rattle.std.specs.Cmp.{unsigned_tied}
 use Rattle.std.proofs.lemmas.Option.{slice_get_within, slice_get_cases, none-some, same_Some}
 use Rattle.std.proofs.lemmas.List.{length-append}
+use Rattle.sp_code.specs.declared.code.Formal.{Formal}
 use Rattle.sp_verify_rules.specs.Areas.{on_option}
+use Rattle.sp_verify_rules.specs.Rules.{fits_formal}
 use Rattle.sp_verify_rules.specs.Shapes.{Shape}
 use Rattle.sp_verify_shapes.specs.declared.stacks.Shape.{Shape as Kept}
 use Rattle.sp_verify_shapes.specs.declared.stacks.Shape.TheVariants as kept
@@ -19,6 +21,8 @@ use Rattle.sp_verify_shapes.specs.declared.stacks.Stacks.{Stacks}
 use Rattle.sp_verify_shapes.specs.Stacks.{shape_of, shapes_from, list_of, IsListNumber, Extends, shape_key, key_of}
 use Rattle.sp_verify_shapes.specs.Stacks.{number_at}
 use Rattle.sp_verify_shapes.specs.Stacks.{HasBefore, IsJump, IsSmall, IsStacks, JumpsIn}
+use Rattle.sp_verify_shapes.specs.Asks.{IsCovering}
+use Rattle.sp_verify_shapes.proofs.Asking.{all_fit_three, each_with_one}
 
 -- the rest of each list comes before it
 abbrev pub AreEarlier : List Cell → Type 0
@@ -34,14 +38,6 @@ kept_at (c ∷ cs) x (suc i) l = kept_at cs x i (omega (arith, l))
 pub new_at : (cs : List Cell) (x : Cell) → slice_get (cs ++ x ∷ []) (length cs) ≡ Some x
 new_at [] x = refl
 new_at (c ∷ cs) x = new_at cs x
-
--- what is found among them and one more is one of them, or that one
-pub found_at : (cs : List Cell) (x y : Cell) (i : ℕ) → slice_get (cs ++ x ∷ []) i ≡ Some y
-    → (slice_get cs i ≡ Some y) ⊎ ((i ≡ length cs) × (x ≡ y))
-found_at [] x y zero e = inr (refl, same_Some x y e)
-found_at [] x y (suc i) e = absurd (none-some y e)
-found_at (c ∷ cs) x y zero e = inl e
-found_at (c ∷ cs) x y (suc i) e = ⊎_elim (λ h. inl h) (λ h. inr (ap suc h.0, h.1)) (found_at cs x y i e)
 
 -- ---- lists by numbers
 
@@ -234,16 +230,24 @@ both_before j k ss ts us a b = record {
 }
 
 -- a jump to the rest, and two jumps behind one more shape
-pub jump_one : (st : Stacks) (n : ℕ) (s : Shape) → IsListNumber st n
-    → IsJump st (s ∷ list_of st n) (record { to = n; far = 1 })
-jump_one st n s l = record { held = l; lands = one_before s (list_of st n) }
+pub jump_one : (st : Stacks) (n : ℕ) (s : Shape) (o : Option Formal) → IsListNumber st n
+    → ((f : Formal) → o ≡ Some f → fits_formal f s ≡ true)
+    → IsJump st (s ∷ list_of st n) (record { to = n; far = 1; fits = o })
+unfolding one_before
+jump_one st n s o l fit = record { held = l; lands = one_before s (list_of st n); fits = λ f e. (fit f e, tt) }
 
-pub jump_both : (st : Stacks) (s : Shape) (ss : List Shape) (near next : Jump) → IsJump st ss near
-    → IsJump st (list_of st near.to) next → IsJump st (s ∷ ss) (record { to = next.to; far = 1 + near.far + next.far })
-jump_both st s ss near next a b = record {
+pub jump_both : (st : Stacks) (s : Shape) (ss : List Shape) (near next : Jump) (g : Formal) (r o : Option Formal)
+    → IsJump st ss near → IsJump st (list_of st near.to) next → fits_formal g s ≡ true
+    → ((f : Formal) → r ≡ Some f → IsCovering f (Some g) × IsCovering f near.fits)
+    → ((f : Formal) → o ≡ Some f → IsCovering f r × IsCovering f next.fits)
+    → IsJump st (s ∷ ss) (record { to = next.to; far = 1 + near.far + next.far; fits = o })
+unfolding one_before both_before
+jump_both st s ss near next g r o a b fit both all = record {
   held = b.held;
   lands = both_before (1 + near.far) next.far (s ∷ ss) (list_of st near.to) (list_of st next.to)
       (both_before 1 near.far (s ∷ ss) ss (list_of st near.to) (one_before s ss) a.lands) b.lands;
+  fits = λ f e. all_fit_three f g r near.fits next.fits s a.lands.before b.lands.before fit a.fits b.fits both
+      (all f e);
 }
 
 -- a jump is one too where more lists are there
@@ -257,6 +261,7 @@ jump_kept old new ss j extends h =
         many = h.lands.many;
         whole = h.lands.whole ∙ ap (λ ts. h.lands.before ++ ts) (sym r.1);
       };
+      fits = h.fits;
     }
 
 -- ---- one cell more in the stacks
@@ -288,8 +293,7 @@ stacks_more old new x h e few there small jump none now =
     at_cell : (P : ℕ → Cell → Type 0) → ((i : ℕ) (c : Cell) → slice_get old.cells i ≡ Some c → P i c)
         → P (length old.cells) x
         → (i : ℕ) (c : Cell) → slice_get new.cells i ≡ Some c → P i c
-    at_cell P f g i c k = ⊎_elim (f i c) (λ z. subst (λ j. P j c) (sym z.0) (subst (P (length old.cells)) z.1 g))
-        (found_at old.cells x c i (ap (λ cs. slice_get cs i) (sym e) ∙ k))
+    at_cell P f g i c k = each_with_one P old.cells x f g i c (ap (λ cs. slice_get cs i) (sym e) ∙ k)
 
     early : AreEarlier new.cells
     early i c f = at_cell (λ i c. c.below ≤ i) h.earlier there i c f

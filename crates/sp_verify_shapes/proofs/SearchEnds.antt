@@ -9,7 +9,9 @@ use Rattle.sp_verify_rules.specs.Rules.{ArrivesAt, BreaksV2, LacksOperand, Diffe
 use Rattle.sp_verify_rules.proofs.Rows.{arrived}
 use Rattle.sp_verify_areas.specs.LeastPlaces.{IsLeast}
 use Rattle.sp_verify_areas.proofs.Leasts.{least_of_same}
+use Rattle.sp_verify_shapes.specs.declared.asks.Ask.{Ask}
 use Rattle.sp_verify_shapes.specs.declared.search.Search.{Search}
+use Rattle.sp_verify_shapes.specs.Asks.{AreAsked}
 use Rattle.sp_verify_shapes.specs.Stacks.{list_of}
 use Rattle.sp_verify_shapes.specs.Search.{IsOneOf, HasAt, IsMarked, InTable, KnowsShapes, BrokenBy, LacksBy, DiffersBy}
 use Rattle.sp_verify_shapes.specs.Search.{IsStepped}
@@ -101,12 +103,14 @@ module _ (c : Parts) (v1 : KeepsV1 c) (s : Search) (done : IsDoneSearch c s) whe
                 ((t a (way_in c a n p ss there h)).1 q ts
                 (subst (λ (w : List Shape). LeadsWith (instr_shapes c a (instr_at c p) p w) q ts) (sym e) leads)))
 
-    pub are_shapes : AreShapes c (record { stacks = s.stacks; at = s.at })
-    are_shapes = record {
+    pub are_shapes : (rows : List (List Ask)) → AreAsked c.layouts rows
+        → AreShapes c (record { stacks = s.stacks; at = s.at; asked = rows })
+    are_shapes rows asked = record {
       stacks = kept.sound.stacks;
       size = kept.sound.size;
       held = kept.sound.held;
       come = λ p k h. (let (area, (there, arrives)) = kept.sound.come p k h in
           (area, (there, arrived c area level p (list_of s.stacks k) arrives)));
       all = λ a p ss h. brought h.1.steps a p ss h.0 h.1.way;
+      asked = asked;
     }

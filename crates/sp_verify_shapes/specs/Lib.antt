@@ -1,4 +1,6 @@
+pub mod Asks
 pub mod Stacks
+pub mod Fits
 pub mod Plans
 pub mod Remainders
 pub mod Steps

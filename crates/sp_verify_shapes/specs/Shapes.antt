@@ -10,9 +10,11 @@ use Rattle.sp_verify_areas.specs.LeastPlaces.{IsLeast}
 use Rattle.sp_verify_shapes.specs.declared.shapes.Shapes.{Shapes}
 use Rattle.sp_verify_shapes.specs.declared.shapes.Outcome.{Outcome}
 use Rattle.sp_verify_shapes.specs.declared.shapes.Outcome.TheVariants as outcome
+use Rattle.sp_verify_shapes.specs.Asks.{AreAsked}
 use Rattle.sp_verify_shapes.specs.Stacks.{IsListNumber, IsStacks, list_of}
 
--- the table has, for each instruction that is reached, the shapes that it is reached with, and nothing for the others
+-- the table has, for each instruction that is reached, the shapes that it is reached with, and nothing for the others;
+-- and what is kept of the formals of layouts is so
 pub record AreShapes (c : Parts) (s : Shapes) : Type 0 where
   pub stacks : IsStacks s.stacks
   pub size : length s.at ≡ length c.instrs
@@ -20,6 +22,7 @@ pub record AreShapes (c : Parts) (s : Shapes) : Type 0 where
   pub come : (p k : ℕ) → slice_get s.at p ≡ Some (Some k) → (a : Area) × ComesTo c a p (list_of s.stacks k)
   pub all : (a : Area) (p : ℕ) (ss : List Shape) → ComesTo c a p ss
       → (k : ℕ) × (slice_get s.at p ≡ Some (Some k)) × (list_of s.stacks k ≡ ss)
+  pub asked : AreAsked c.layouts s.asked
 
 -- V2 is broken there, and at no lower instruction; or it is broken nowhere, and these are the shapes
 abbrev pub IsOutcome : Parts → Outcome → Type 0

@@ -4,6 +4,7 @@ use Rattle.std.specs.Prelude.{◌≡◌, ℕ, zero, suc, ◌+◌, ◌*◌, ◌�
 use Rattle.std.specs.Prelude.{slice_get, length}
 use Rattle.std.specs.Ordering.{nat_cmp}
 use Rattle.std.specs.BTreeMap.{get}
+use Rattle.sp_code.specs.declared.code.Formal.{Formal}
 use Rattle.sp_verify_rules.specs.Areas.{on_option}
 use Rattle.sp_verify_rules.specs.Shapes.{Shape, O, C, L, A}
 use Rattle.sp_verify_shapes.specs.declared.stacks.Shape.{Shape as Kept}
@@ -11,6 +12,7 @@ use Rattle.sp_verify_shapes.specs.declared.stacks.Shape.TheVariants as kept
 use Rattle.sp_verify_shapes.specs.declared.stacks.Cell.{Cell}
 use Rattle.sp_verify_shapes.specs.declared.stacks.Jump.{Jump}
 use Rattle.sp_verify_shapes.specs.declared.stacks.Stacks.{Stacks}
+use Rattle.sp_verify_shapes.specs.Asks.{AllFit}
 
 -- the shape that the code means
 abbrev pub shape_of : Kept → Shape
@@ -65,10 +67,11 @@ pub record HasBefore (k : ℕ) (ss ts : List Shape) : Type 0 where
   pub many : length before ≡ k
   pub whole : ss ≡ before ++ ts
 
--- a jump leads from a list to what is left of it behind so many shapes
+-- a jump leads from a list to what is left of it behind so many shapes, which all fit its formal
 pub record JumpsIn (cs : List Cell) (ss : List Shape) (j : Jump) : Type 0 where
   pub held : j.to ≤ length cs
   pub lands : HasBefore j.far ss (shapes_from cs j.to j.to)
+  pub fits : (f : Formal) → j.fits ≡ Some f → AllFit f lands.before
 
 abbrev pub IsJump : Stacks → List Shape → Jump → Type 0
 IsJump st = JumpsIn st.cells

@@ -1,20 +1,22 @@
 //! Operands of calls against the formals of blocks: rule V5.
 
-ghost use Rattle.std.specs.Prelude.{◌≡◌, ◌&&◌, [], length, not, true, List, Some};
+ghost use Rattle.std.specs.Prelude.{◌≡◌, ◌&&◌, ◌<◌, ◌≤◌, length, not, slice_get, true, List, Some};
 ghost use Rattle.sp_verify_areas.specs.Alone.{LayoutFails, flag_at};
 ghost use Rattle.sp_verify_areas.specs.Blocks.{IsNumbered};
 ghost use Rattle.sp_verify_areas.specs.LeastPlaces.{IsLeast, Upto};
 ghost use Rattle.sp_verify_areas.specs.declared.owners.Owner.{Owner};
-ghost use Rattle.sp_verify_rules.specs.Rules.{BreaksV5, call_fits, fit_formals, fits_formal};
-ghost use Rattle.sp_verify_rules.specs.Rules.{lowest_first, some_reference};
+ghost use Rattle.sp_verify_rules.specs.Rules.{BreaksV5, call_fits, fits_formal, some_reference};
+ghost use Rattle.sp_verify_shapes.specs.Asks.{AreAsked, AreAsks};
+ghost use Rattle.sp_verify_shapes.specs.Fits.{Passes, first_fit, layout_fits};
 ghost use Rattle.sp_verify_shapes.specs.ReachRules.{answers_by_reference, fails_at};
 ghost use Rattle.sp_verify_shapes.specs.Repeats.{AreRepeats};
 ghost use Rattle.sp_verify_shapes.specs.Shapes.{AreShapes};
 ghost use Rattle.sp_verify_shapes.specs.Stacks.{IsListNumber, IsStacks, list_of, shape_of};
 
+use crate::asks::{Ask, covers_all};
 use crate::reach::reached;
 use crate::shapes::Shapes;
-use crate::stacks::{Shape, Stacks};
+use crate::stacks::{Jump, Shape, Stacks};
 use sp_base::List;
 use sp_code::{Code, Formal, Instr, Layout, Parts};
 use sp_verify_areas::blocks::Blocks;
@@ -39,39 +41,91 @@ fn fits_formal(formal: Formal, shape: Shape) -> bool
     }
 }
 
-// Whether the first shapes of a list, the last operand first, fit formals.
-fn fit_formals(stacks: &Stacks, formals: &[Formal], n: u32) -> bool
+// A jump past operands that fit the last of the first `count` formals; nothing where the topmost operand does not fit
+// the last one. The jump of the list is taken if the formal that its operands fit covers as many formals: then many
+// operands are passed at once.
+fn pass(stacks: &Stacks, formals: &[Formal], asks: &List<Ask>, n: u32, count: usize) -> Option<Jump>
     requires stacks { IsStacks stacks.now }
     requires there { IsListNumber stacks.now n }
-    ensures { result ≡ fit_formals formals.now (lowest_first (length formals.now) (list_of stacks.now n) []) }
+    requires asks { AreAsks formals.now asks.now }
+    requires some { 0 < count }
+    requires within { count ≤ length formals.now }
+    ensures { Passes stacks.now formals.now count n result }
 {
-    let count = formals.len();
+    let jump = stacks.jump_of(n);
+    let far = jump.far as usize;
+    if let Some(fits) = jump.fits {
+        if 0 < far && far <= count && covers_all(formals, asks, fits, count - far, count) {
+            return Some(jump);
+        }
+    }
+    match stacks.top(n) {
+        None => None,
+        Some((shape, below)) => {
+            if fits_formal(formals[count - 1], shape) {
+                Some(Jump {
+                    to: below,
+                    far: 1,
+                    fits: None,
+                })
+            } else {
+                None
+            }
+        }
+    }
+}
+
+// Whether the first shapes of a list, the last operand first, fit formals.
+fn fit_formals(stacks: &Stacks, formals: &[Formal], asks: &List<Ask>, n: u32) -> bool
+    requires stacks { IsStacks stacks.now }
+    requires there { IsListNumber stacks.now n }
+    requires asks { AreAsks formals.now asks.now }
+    ensures { result ≡ first_fit formals.now (length formals.now) (list_of stacks.now n) }
+{
+    let mut count = formals.len();
     let mut rest = n;
-    for k in 0..count {
-        match stacks.top(rest) {
+    'operands: while 0 < count {
+        match pass(stacks, formals, asks, rest, count) {
             None => return false,
-            Some((shape, below)) => {
-                if !fits_formal(formals[count - 1 - k], shape) {
-                    return false;
-                }
-                rest = below;
+            Some(jump) => {
+                rest = jump.to;
+                count -= jump.far as usize;
             }
         }
     }
     true
 }
 
+// Whether the first shapes of a list fit the formals of the layout at a place.
+fn layout_fits(layouts: &List<Layout>, shapes: &Shapes, place: usize, n: u32) -> bool
+    requires stacks { IsStacks shapes.now.stacks }
+    requires asked { AreAsked layouts.now shapes.now.asked }
+    requires there { IsListNumber shapes.now.stacks n }
+    ensures { result ≡ layout_fits (slice_get layouts.now place) (list_of shapes.now.stacks n) }
+{
+    match layouts.get(place) {
+        None => false,
+        Some(l) => fit_formals(
+            &shapes.stacks,
+            l.formals.items(),
+            &shapes.asked.items()[place],
+            n,
+        ),
+    }
+}
+
 // Whether an instruction calls no block that its operands do not fit.
-fn call_fits(parts: &Parts, blocks: &Blocks, stacks: &Stacks, instr: Instr, n: u32) -> bool
+fn call_fits(parts: &Parts, blocks: &Blocks, shapes: &Shapes, instr: Instr, n: u32) -> bool
     requires blocks { IsNumbered blocks.now.first parts.now.layouts }
-    requires stacks { IsStacks stacks.now }
-    requires there { IsListNumber stacks.now n }
-    ensures { result ≡ call_fits parts.now (Some instr) (list_of stacks.now n) }
+    requires stacks { IsStacks shapes.now.stacks }
+    requires asked { AreAsked parts.now.layouts shapes.now.asked }
+    requires there { IsListNumber shapes.now.stacks n }
+    ensures { result ≡ call_fits parts.now (Some instr) (list_of shapes.now.stacks n) }
 {
     match instr {
-        Instr::Call { block, up: _ } => match blocks.find(&parts.layouts, block) {
+        Instr::Call { block, up: _ } => match blocks.place(block) {
             None => false,
-            Some(l) => fit_formals(stacks, l.formals.items(), n),
+            Some(place) => layout_fits(&parts.layouts, shapes, place as usize, n),
         },
         _ => true,
     }
@@ -87,7 +141,7 @@ fn misfits(code: &Code, blocks: &Blocks, shapes: &Shapes, p: u32) -> bool
         None => false,
         Some(n) => match code.instr(p) {
             None => false,
-            Some(instr) => !call_fits(code.parts(), blocks, &shapes.stacks, instr, n),
+            Some(instr) => !call_fits(code.parts(), blocks, shapes, instr, n),
         },
     }
 }

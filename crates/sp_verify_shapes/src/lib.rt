@@ -14,8 +14,8 @@
 //!   lists too.
 //!
 //! To know:
-//! - The types are `Shapes` and `Outcome` (`shapes`), `Shape` and `Stacks` (`stacks`), `Plan` (`plans`), `Step` and
-//!   `Arrival` (`steps`), `Search` (`search`), `Message` (`messages`).
+//! - The types are `Shapes` and `Outcome` (`shapes`), `Shape` and `Stacks` (`stacks`), `Ask` (`asks`), `Plan`
+//!   (`plans`), `Step` and `Arrival` (`steps`), `Search` (`search`), `Message` (`messages`).
 //! - Each answer is exact. The only other one is want of memory.
 //! - Where V2 is kept, all ways bring the same shapes to an instruction: so `Shapes` has one list for each.
 //! - `stacks.rt` keeps each list of shapes once. `plans.rt` has what each instruction takes, leaves and goes on to, in
@@ -24,12 +24,15 @@
 //!   ways level by level (`specs/Search.antt` says what is kept meanwhile), `shapes.rt` is V2.
 //! - `cells.rt`, `messages.rt` and `calls.rt` are V3, V4 and V5. `repeats.rt` spares V5, and what stands above it, the
 //!   operands of calls that say nothing new. `stacks.rt` has jumps, by which `operands.rt` takes many operands at once.
+//! - Each jump keeps a formal that all of its operands fit. `asks.rt` keeps, for parts of the formals of each block, a
+//!   formal such that what fits it fits them all. So V5 compares many operands with many formals at once.
 //!
 //! Lemmas for others, in `proofs`:
 //! - `ReachLaws`: the table of shapes has, at each instruction, the shapes that ways bring there.
 //! - `CallRepeats`: a call that repeats an earlier one fails a test where that one does.
 #![tactic(auto)]
 
+pub mod asks;
 pub mod begin;
 pub mod calls;
 pub mod cells;

@@ -6,9 +6,11 @@ ghost use Rattle.sp_verify_areas.specs.Homes.{AreHomes};
 ghost use Rattle.sp_verify_areas.specs.LeastPlaces.{IsLeast};
 ghost use Rattle.sp_verify_areas.specs.Owners.{AreOwners};
 ghost use Rattle.sp_verify_rules.specs.NameRules.{BreaksV1};
+ghost use Rattle.sp_verify_shapes.specs.Asks.{AreAsked};
 ghost use Rattle.sp_verify_shapes.specs.Search.{IsDoneSearch, KeepsV1};
 ghost use Rattle.sp_verify_shapes.specs.Shapes.{IsOutcome};
 
+use crate::asks::{Ask, asked_of};
 use crate::begin::begin;
 use crate::have;
 use crate::search::{Search, follow};
@@ -20,11 +22,12 @@ use sp_verify_areas::homes::Homes;
 use sp_verify_areas::owners::Owner;
 
 /// The shapes of the operands that each instruction is reached with: for each instruction the number of its list in
-/// `stacks`, or nothing where no way comes to it.
+/// `stacks`, or nothing where no way comes to it. For calls, what is kept of the formals of each layout.
 #[derive(Drop)]
 pub struct Shapes {
     pub stacks: Stacks,
     pub at: List<Option<u32>>,
+    pub asked: List<List<Ask>>,
 }
 
 /// What following all ways shows.
@@ -50,9 +53,10 @@ fn first_marked(broken: &List<bool>) -> Option<u32>
 }
 
 // What is found where nothing is left to be done.
-fn conclude(code: &Code, search: Search) -> Outcome
+fn conclude(code: &Code, search: Search, asked: List<List<Ask>>) -> Outcome
     requires kept { KeepsV1 code.now }
     requires done { IsDoneSearch code.now search }
+    requires asked { AreAsked code.now.layouts asked }
     ensures { IsOutcome code.now result }
 {
     // (code is small enough that each mark has a number)
@@ -68,7 +72,7 @@ fn conclude(code: &Code, search: Search) -> Outcome
                 frontier: _,
                 arrivals: _,
             } = search;
-            Outcome::Kept(Shapes { stacks, at })
+            Outcome::Kept(Shapes { stacks, at, asked })
         }
     }
 }
@@ -89,5 +93,7 @@ pub fn shapes_of(
 {
     let mut search = have!(begin(code, blocks, owners));
     have!(follow(code, blocks, homes, &mut search));
-    Ok(conclude(code, search))
+    let layouts = &code.parts().layouts;
+    let asked = have!(asked_of(layouts.alloc(), layouts.items()));
+    Ok(conclude(code, search, asked))
 }

@@ -1,13 +1,15 @@
 //! Lists of shapes, each kept once: equal lists have equal numbers, and a deep one is not copied.
 
-ghost use Rattle.std.specs.Prelude.{◌≡◌, ◌∷◌, [], ◌<◌, ◌≤◌, IfOk, MatchOption, Some};
-ghost use Rattle.sp_verify_rules.specs.Shapes.{Shape as ShapeOf};
+ghost use Rattle.std.specs.Prelude.{◌≡◌, ◌∷◌, [], ◌<◌, ◌≤◌, IfOk, MatchOption, Some, true};
+ghost use Rattle.sp_verify_rules.specs.Rules.{fits_formal};
 ghost use Rattle.sp_verify_shapes.specs.Stacks.{Extends, IsJump, IsListNumber, IsSmall, IsStacks, key_of, list_of};
 ghost use Rattle.sp_verify_shapes.specs.Stacks.{number_at};
 ghost use Rattle.sp_verify_shapes.specs.Stacks.{shape_of};
 
+use crate::asks::lesser;
 use crate::have;
 use sp_base::{List, Memory};
+use sp_code::Formal;
 use std::alloc::Global;
 use std::collections::BTreeMap;
 
@@ -22,11 +24,13 @@ pub enum Shape {
     Address { variable: u32, left: u32 },
 }
 
-/// A way to the list that is left behind the first shapes of a list, so many.
+/// A way to the list that is left behind the first shapes of a list, so many; and a formal that all of these fit, if
+/// one is known.
 #[derive(Clone, Copy)]
 pub struct Jump {
     pub to: u32,
     pub far: u32,
+    pub fits: Option<Formal>,
 }
 
 /// A list that is not empty: its first shape, the number of the rest, and a jump.
@@ -60,6 +64,18 @@ fn key_of(shape: Shape, below: u32) -> u128
     tagged * 4_294_967_296 + below as u128
 }
 
+// The greatest formal that a shape fits.
+fn formal_of(shape: Shape) -> Formal
+    ensures { fits_formal result (shape_of shape) ≡ true }
+{
+    match shape {
+        Shape::Ordinal => Formal::Value(1),
+        Shape::Channel => Formal::Value(1),
+        Shape::Cells(n) => Formal::Value(n),
+        Shape::Address { variable: _, left } => Formal::Reference(left),
+    }
+}
+
 impl Stacks {
     /// Only the empty list.
     pub fn new(alloc: Global) -> Stacks
@@ -71,36 +87,51 @@ impl Stacks {
         }
     }
 
-    // The jump of a list.
-    fn jump_of(&self, n: u32) -> Jump
+    /// The jump of a list.
+    pub(crate) fn jump_of(&self, n: u32) -> Jump
         requires stacks { IsStacks self.now }
         requires there { IsListNumber self.now n }
         ensures { IsJump self.now (list_of self.now n) result }
     {
         if n == 0 {
-            return Jump { to: n, far: 0 };
+            return Jump {
+                to: n,
+                far: 0,
+                fits: None,
+            };
         }
         match self.cells.get(n as usize - 1) {
-            None => Jump { to: n, far: 0 },
+            None => Jump {
+                to: n,
+                far: 0,
+                fits: None,
+            },
             Some(cell) => cell.jump,
         }
     }
 
     // The jump of a list with one more shape: as far as both jumps behind it together, where they are equally far.
-    fn jump_over(&self, below: u32) -> Jump
+    fn jump_over(&self, shape: Shape, below: u32) -> Jump
         requires stacks { IsStacks self.now }
         requires there { IsListNumber self.now below }
-        ensures { (s : ShapeOf) → IsJump self.now (s ∷ list_of self.now below) result }
+        ensures { IsJump self.now (shape_of shape ∷ list_of self.now below) result }
     {
+        let fits = Some(formal_of(shape));
         let near = self.jump_of(below);
         let next = self.jump_of(near.to);
-        if near.far == next.far && near.far < 1_000_000_000 {
+        if 0 < near.far && near.far == next.far && near.far < 1_000_000_000 {
+            let both = lesser(fits, near.fits);
             Jump {
                 to: next.to,
                 far: 1 + near.far + next.far,
+                fits: lesser(both, next.fits),
             }
         } else {
-            Jump { to: below, far: 1 }
+            Jump {
+                to: below,
+                far: 1,
+                fits,
+            }
         }
     }
 
@@ -120,7 +151,7 @@ impl Stacks {
         if n > 4_294_967_295 {
             return Err(Memory);
         }
-        let jump = self.jump_over(below);
+        let jump = self.jump_over(shape, below);
         have!(self.cells.push(Cell { shape, below, jump }));
         match self.known.insert(key, n as u32) {
             Ok(_) => Ok(n as u32),
@@ -181,7 +212,11 @@ impl Stacks {
                 if 0 < jump.far && jump.far as usize <= left {
                     Some(jump)
                 } else {
-                    Some(Jump { to: below, far: 1 })
+                    Some(Jump {
+                        to: below,
+                        far: 1,
+                        fits: None,
+                    })
                 }
             }
         }

@@ -9,6 +9,6 @@ returns-in-Some c = least_broken c.args.code.now c.requires.kept c.args.search c
 pub returns-in-None : goal.returns-in-None
 returns-in-None c = (
   least_broken c.args.code.now c.requires.kept c.args.search c.requires.done None c.in-None.ensures,
-  are_shapes
-      c.args.code.now c.requires.kept c.args.search c.requires.done c.in-None.ensures,
+  are_shapes c.args.code.now c.requires.kept c.args.search c.requires.done c.in-None.ensures c.args.asked
+      c.requires.asked,
 )

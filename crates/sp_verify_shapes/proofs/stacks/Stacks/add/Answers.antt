@@ -1,5 +1,4 @@
 use Rattle.std.proofs.Common.{refl, ap, ◌+◌}
-use Rattle.sp_verify_shapes.specs.Stacks.{shape_of}
 use Rattle.sp_verify_shapes.proofs.ListNumbers.{stacks_grow, stacks_extend, stacks_same, list_more, taken_away}
 use Rattle.sp_verify_shapes.proofs.stacks.Stacks.add.Goals as goal
 
@@ -9,7 +8,7 @@ are_stacks c =
     (record { shape = c.args.shape; below = c.args.below; jump = c.jump_over-jump.result }) c.args.key
     (c.len-n.result + 1) c.requires.stacks c.in-Ok.ensures.ok (ap (λ m. m + 1) c.len-n.ensures)
     c.if-n-gt4294967295.false c.requires.below c.requires.small
-    (c.jump_over-jump.ensures (shape_of c.args.shape)) c.requires.key c.requires.new
+    c.jump_over-jump.ensures c.requires.key c.requires.new
     (λ q. c.in-Ok-insert.ensures.updates.0 q)
 
 pub returns-in-Ok-insert-clause-stacks : goal.returns-in-Ok-insert-clause-stacks
