@@ -345,8 +345,9 @@ def chain_inside(blocks=190_000):
     return code(layouts, ["call 1 0", "end", "call 2 0", "call 1 1", "return", *instrs])
 
 
-def calls_of_lists(operands=100_000, calls=100_000):
-    """Accepted: n operands are pushed once, and each of n calls puts one of its own on top."""
+def calls_of_lists(operands=100_000, calls=100_000, unfit=False):
+    """Accepted: n operands are pushed once, and each of n calls puts one of its own on top. Or refused by V5: that of
+    the last call has too few cells."""
     instrs = [f"addr 0 {k + 2}" for k in range(operands)] + ["const 0"]
     after = operands + 2 + calls
     done = after + 3 * calls + 3
@@ -356,25 +357,32 @@ def calls_of_lists(operands=100_000, calls=100_000):
     instrs += ["nocase", f"addr 0 {operands + 2}", "call 1 0", "end", "return"]
     count = operands + calls
     formals = range(count + 2, count + operands + 3)
-    layouts = [layout(0, 0, "-", [1] * count, range(2, count + 2)),
-               layout(1, done + 1, 0, [1] * len(formals), formals, ["reference 1"] * len(formals))]
+    layouts = [layout(0, 0, "-", [2] * (count - unfit) + [1] * unfit, range(2, count + 2)),
+               layout(1, done + 1, 0, [1] * len(formals), formals, ["reference 2"] * len(formals))]
     return code(layouts, instrs)
 
 
-def calls_at_heights(operands=200_000, calls=100_000):
-    """Accepted: operands are pushed one by one, and at each of n heights a call takes the topmost ones."""
+def calls_at_heights(operands=200_000, calls=100_000, kinds=("reference 2",), unfit=False):
+    """Accepted: operands are pushed one by one, and at each of n heights a call takes the topmost ones. The formals are
+    of these kinds in turn. Or refused by V5: the topmost operand of the last call has too few cells, or is no value."""
+    by_value = kinds[0] == "value 1"
     height, away = operands + calls, operands + 3 * calls + 1
-    drops, count = away + 2 * calls, operands + calls
-    instrs = [f"addr 0 {k + 2}" for k in range(operands)]
+    drops = away + 2 * calls
+    pushes = ["const 1" if by_value else f"addr 0 {k + 2}" for k in range(height)]
+    gone = ["write int" if by_value else "read int"] * height
+    if by_value and unfit:
+        pushes[-1], gone[0] = f"addr 0 {height + 1}", "read int"
+    instrs = pushes[:operands]
     for k in range(calls):
-        instrs += [f"addr 0 {operands + k + 2}", "const 1", f"jumpf {away + 2 * k}"]
+        instrs += [pushes[operands + k], "const 1", f"jumpf {away + 2 * k}"]
     instrs.append(f"jump {drops}")
     for k in range(calls):
         instrs += ["call 1 0", f"jump {drops + height - k - 1}"]
-    instrs += ["read int"] * height + ["end", "return"]
-    formals = range(count + 2, count + operands + 2)
-    layouts = [layout(0, 0, "-", [1] * count, range(2, count + 2)),
-               layout(1, drops + height + 1, 0, [1] * operands, formals, ["reference 1"] * operands)]
+    instrs += gone + ["end", "return"]
+    formals = range(height + 2, height + operands + 2)
+    layouts = [layout(0, 0, "-", [2] * (height - unfit) + [1] * unfit, range(2, height + 2)),
+               layout(1, drops + height + 1, 0, [1] * operands, formals,
+                      [kinds[k % len(kinds)] for k in range(operands)])]
     return code(layouts, instrs)
 
 
@@ -412,6 +420,9 @@ FILES = {
     "many_texts": many_texts,
     "large_root": large_root,
     "passed_along": passed_along,
+    "unfit_at_lists": lambda: calls_of_lists(unfit=True),
+    "unfit_at_heights": lambda: calls_at_heights(kinds=("reference 1", "reference 2"), unfit=True),
+    "unfit_values": lambda: calls_at_heights(kinds=("value 1",), unfit=True),
 }
 
 # Files in which two sizes still multiply: they take more than 10 seconds, or more than 2 GB.
