@@ -3,7 +3,7 @@
 use crate::verify_answers::{File, Says, expect};
 use sp_codefile::VRule;
 
-const FILES: [File; 8] = [
+const FILES: [File; 10] = [
     // operands are there
     File {
         lines: "layout 0 0 - none sizes 1 variables 2 formals\n\
@@ -70,6 +70,31 @@ const FILES: [File; 8] = [
             ("pack 2", Says::Verified),
             ("pack 1", Says::Broken(VRule::V5, 2)),
             ("tick", Says::Broken(VRule::V5, 2)),
+        ],
+    },
+    // many references at once: the lowest operand, one between, the topmost one
+    File {
+        lines: "layout 0 0 - none sizes 2 2 2 2 2 2 2 variables 2 3 4 5 6 7 8 formals\n\
+        layout 1 9 0 none sizes 1 1 1 1 1 1 1 variables 9 10 11 12 13 14 15 \
+        formals reference ~ reference 1 reference 2 reference ~ reference 1 reference 2 reference ~\n\
+        0 addr 0 2\n1 addr 0 3\n2 addr 0 4\n3 addr 0 5\n4 addr 0 6\n5 addr 0 7\n6 addr 0 8\n\
+        7 call 1 0\n8 end\n9 return\n",
+        rows: &[
+            ("2/2/2", Says::Verified),
+            ("3/2/2", Says::Broken(VRule::V5, 7)),
+            ("2/3/2", Says::Broken(VRule::V5, 7)),
+            ("2/2/3", Says::Broken(VRule::V5, 7)),
+        ],
+    },
+    // many values at once
+    File {
+        lines: "layout 0 0 - none sizes 2 variables 2 formals\n\
+        layout 1 5 0 none sizes ~ 1 ~ variables 3 4 5 formals value ~ value 1 value ~\n\
+        0 const 5\n1 const 6\n2 const 7\n3 call 1 0\n4 end\n5 return\n",
+        rows: &[
+            ("1/1/1/1", Says::Verified),
+            ("2/1/2/1", Says::Broken(VRule::V5, 3)),
+            ("1/2/1/2", Says::Broken(VRule::V5, 3)),
         ],
     },
     // what answers has no reference
