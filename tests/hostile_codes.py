@@ -345,6 +345,24 @@ def chain_inside(blocks=190_000):
     return code(layouts, ["call 1 0", "end", "call 2 0", "call 1 1", "return", *instrs])
 
 
+def chain_beyond_answer(blocks=190_000):
+    """V8: a block that answers is above the chain, which stores variables of the program."""
+    instrs, layouts = chain_of_stores(5, blocks)
+    result = blocks + 2
+    layouts[:0] = [layout(0, 0, "-", [1] * blocks, range(2, result)), layout(1, 3, 0, [1], [result], answer=True)]
+    return code(layouts, ["call 1 0", "write int", "end", "call 2 1", "return", *instrs])
+
+
+def chain_of_passed(blocks=100_000):
+    """V7: a block that takes n variables by reference is above the chain, which stores these."""
+    passed = [f"addr 0 {k + 2}" for k in range(blocks)]
+    instrs, layouts = chain_of_stores(blocks + 4, blocks)
+    formals = range(blocks + 2, 2 * blocks + 2)
+    layouts[:0] = [layout(0, 0, "-", [1] * blocks, range(2, blocks + 2)),
+                   layout(1, blocks + 2, 0, [1] * blocks, formals, ["reference 1"] * blocks)]
+    return code(layouts, [*passed, "call 1 0", "end", "call 2 1", "return", *instrs])
+
+
 def calls_of_lists(operands=100_000, calls=100_000, unfit=False):
     """Accepted: n operands are pushed once, and each of n calls puts one of its own on top. Or refused by V5: that of
     the last call has too few cells."""
@@ -397,6 +415,7 @@ FILES = {
     "children_half_handed": children_half_handed,
     "chain_in_answer": chain_in_answer,
     "chain_inside": chain_inside,
+    "chain_by_reference": chain_by_reference,
     "ring_of_blocks": ring_of_blocks,
     "operands_one_block": lambda: operands_of_calls(200_000, 280_000, 1),
     "operands_of_blocks": lambda: operands_of_calls(4_000, 3_000, 900),
@@ -427,7 +446,8 @@ FILES = {
 
 # Files in which two sizes still multiply: they take more than 10 seconds, or more than 2 GB.
 OPEN = {
-    "chain_by_reference": chain_by_reference,
+    "chain_beyond_answer": chain_beyond_answer,
+    "chain_of_passed": chain_of_passed,
     "calls_of_lists": calls_of_lists,
     "calls_at_heights": calls_at_heights,
 }

@@ -4,7 +4,7 @@
 use crate::verify_answers::{File, Says, expect};
 use sp_codefile::VRule;
 
-const FILES: [File; 8] = [
+const FILES: [File; 11] = [
     // children write what moved to them
     File {
         lines: "layout 0 0 - none sizes 1 1 variables 2 3 formals\n\
@@ -71,6 +71,36 @@ const FILES: [File; 8] = [
         layout 1 3 0 none sizes 1 variables 4 formals reference 1\n\
         0 addr 0 2\n1 call 1 0\n2 end\n3 addr 1 ~\n4 const 1\n5 store\n6 return\n",
         rows: &[("3", Says::Verified), ("2", Says::Broken(VRule::V7, 1))],
+    },
+    // nor does a block that it calls, whichever call passes the variable
+    File {
+        lines: "layout 0 0 - none sizes 1 1 1 variables 2 3 4 formals\n\
+        layout 1 5 0 none sizes 1 variables 5 formals reference 1\n\
+        layout 2 7 0 none sizes variables formals\n\
+        0 addr 0 2\n1 call 1 0\n2 addr 0 3\n3 call 1 0\n4 end\n5 call 2 1\n6 return\n\
+        7 addr 1 ~\n8 const 1\n9 store\n10 return\n",
+        rows: &[
+            ("4", Says::Verified),
+            ("2", Says::Broken(VRule::V7, 1)),
+            ("3", Says::Broken(VRule::V7, 3)),
+        ],
+    },
+    // the same for a load
+    File {
+        lines: "layout 0 0 - none sizes 1 1 variables 2 3 formals\n\
+        layout 1 3 0 none sizes 1 variables 4 formals reference 1\n\
+        layout 2 5 0 none sizes variables formals\n\
+        0 addr 0 2\n1 call 1 0\n2 end\n3 call 2 1\n4 return\n5 addr 1 ~\n6 load\n7 write int\n8 return\n",
+        rows: &[("3", Says::Verified), ("2", Says::Broken(VRule::V7, 1))],
+    },
+    // the same for a store by a block to which it passes the variable by reference too
+    File {
+        lines: "layout 0 0 - none sizes 1 1 variables 2 3 formals\n\
+        layout 1 3 0 none sizes 1 variables 4 formals reference 1\n\
+        layout 2 6 0 none sizes 1 variables 5 formals reference 1\n\
+        0 addr 0 ~\n1 call 1 0\n2 end\n3 addr 1 3\n4 call 2 1\n5 return\n\
+        6 deref 0 0\n7 const 1\n8 store\n9 return\n",
+        rows: &[("2", Says::Verified), ("3", Says::Broken(VRule::V7, 1))],
     },
     // a block inside itself keeps to its own
     File {

@@ -1,7 +1,8 @@
 -- The variables of operands for reference formals.
 use Rattle.std.proofs.Common.{◌≡◌, refl, sym, ap, ◌∙◌, ℕ, zero, suc, ◌+◌, ◌-◌, ◌<◌, ◌≤◌, List, [], ◌∷◌, ◌++◌, Option}
-use Rattle.std.proofs.Common.{Some, None, true, false, ◌||◌, length, drop, get_or, arith, add-one}
+use Rattle.std.proofs.Common.{Some, None, Bool, true, false, ◌||◌, length, drop, get_or, arith, add-one}
 use Rattle.std.specs.Prelude.{slice_get}
+use Rattle.std.specs.List.{list_any}
 use Rattle.std.proofs.lemmas.List.{at_drop_more, length-drop, append-nil}
 use Rattle.std.proofs.lemmas.Option.{slice_get_past}
 use Rattle.sp_code.specs.declared.code.Formal.{Formal}
@@ -59,6 +60,14 @@ one_listed fs ss rest i f s at e =
     (sym (ap (actuals fs ss) (add-one i) ∙ ap (λ (o : Option ℕ). actuals fs ss i ++ list_of_option o) g), r.1)
 
 -- ---- going over variables
+
+pub any_on : (P : ℕ → Bool) (xs : List ℕ) (i : ℕ) → i < length xs → P (get_or xs i 0) ≡ false
+    → list_any P (drop i xs) ≡ list_any P xs → list_any P (drop (i + 1) xs) ≡ list_any P xs
+any_on P xs i h f g = sym (at_drop_more (list_any P) xs i 0 h ∙ ap (λ b. b || list_any P (drop (i + 1) xs)) f) ∙ g
+
+pub any_here : (P : ℕ → Bool) (xs : List ℕ) (i : ℕ) → i < length xs → P (get_or xs i 0) ≡ true
+    → list_any P (drop i xs) ≡ list_any P xs → true ≡ list_any P xs
+any_here P xs i h f g = sym (at_drop_more (list_any P) xs i 0 h ∙ ap (λ b. b || list_any P (drop (i + 1) xs)) f) ∙ g
 
 pub outer_on : (e : Effects) (n : ℕ) (xs : List ℕ) (i : ℕ) → i < length xs
     → is_outer e n (get_or xs i 0) ≡ false

@@ -32,6 +32,7 @@ use Rattle.sp_verify_effects.specs.declared.effects.Effects.{Effects}
 use Rattle.sp_verify_effects.specs.declared.facts.Fact.{Fact}
 use Rattle.sp_verify_effects.specs.declared.facts.Effect.{Effect}
 use Rattle.sp_verify_effects.specs.declared.facts.Effect.TheVariants as effect
+use Rattle.sp_verify_effects.specs.AskedCalls.{lacks_at, lacks_by, lacks_operands}
 use Rattle.sp_verify_effects.specs.Calls.{call_clashes, clashes_at, fails_at}
 use Rattle.sp_verify_effects.specs.Edges.{EdgeAt, HasEdge, HasEdges, IsCall}
 use Rattle.sp_verify_effects.specs.Facts.{Tells}
@@ -137,6 +138,20 @@ clashes_is c e s p b n is r =
     ap (λ o. clashes_at e c.layouts s.stacks o (instr_at c p)) r
     ∙ ap (λ o. on_option false o
     (λ d. on_option false (layout_of c.layouts d) (λ l. call_clashes e l (list_of s.stacks n)))) is
+
+-- so is something missing
+lacks_is : (c : Parts) (k : Asked) (ks : List (ℕ × ℕ)) (s : Shapes) (p b n : ℕ) → called_block (instr_at c p) ≡ Some b
+    → reached_at s p ≡ Some n
+    → lacks_at c k ks s p ≡ on_option false (layout_of c.layouts b) (λ l. lacks_operands k ks l (list_of s.stacks n))
+lacks_is c k ks s p b n is r =
+    ap (λ o. lacks_by k ks c.layouts s.stacks o (instr_at c p)) r
+    ∙ ap (λ o. on_option false o
+    (λ d. on_option false (layout_of c.layouts d) (λ l. lacks_operands k ks l (list_of s.stacks n)))) is
+
+pub lacks_again : (c : Parts) (k : Asked) (ks : List (ℕ × ℕ)) (os : List Owner) (s : Shapes) (p q : ℕ)
+    → Repeats c os s p q → lacks_at c k ks s p ≡ lacks_at c k ks s q
+lacks_again c k ks os s p q h = lacks_is c k ks s p h.block h.list h.calls h.comes
+    ∙ sym (lacks_is c k ks s q h.block h.list h.called h.came)
 
 pub clashes_again : (c : Parts) (e : Effects) (os : List Owner) (s : Shapes) (p q : ℕ) → Repeats c os s p q
     → fails_at c e s p ≡ fails_at c e s q

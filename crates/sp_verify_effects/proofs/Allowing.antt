@@ -1,5 +1,6 @@
 -- Allowances: what is within another one, what a child is handed, and what goes along an edge.
-use Rattle.std.proofs.Common.{◌≡◌, ◌⊎◌, inl, inr, ⊎_elim, refl, ap, sym, subst, ℕ, ◌==◌, [], Option, Some, None}
+use Rattle.std.proofs.Common.{◌≡◌, ◌⊎◌, inl, inr, ⊎_elim, refl, ap, sym, ◌∙◌, subst, ℕ, ◌==◌, List, []}
+use Rattle.std.proofs.Common.{Option, Some, None}
 use Rattle.std.proofs.Common.{Bool, true, false, if◌then◌else◌, eqb-true}
 use Rattle.std.specs.Prelude.{not}
 use Rattle.std.specs.BTreeSet.{BTreeSet, IsSubset}
@@ -17,8 +18,8 @@ use Rattle.sp_verify_effects.specs.declared.edges.Edge.TheVariants as edge
 use Rattle.sp_verify_effects.specs.declared.facts.Fact.{Fact}
 use Rattle.sp_verify_effects.specs.declared.facts.Effect.{Effect}
 use Rattle.sp_verify_effects.specs.declared.facts.Effect.TheVariants as effect
-use Rattle.sp_verify_effects.specs.Allowances.{Fits, FitsBlock, IsWithin, allows, loads_within, stops_within}
-use Rattle.sp_verify_effects.specs.Allowances.{stores_within}
+use Rattle.sp_verify_effects.specs.Allowances.{Fits, FitsBlock, IsWithin, LetsAll, allows, is_let, loads_within}
+use Rattle.sp_verify_effects.specs.Allowances.{stops_within, stores_within}
 use Rattle.sp_verify_effects.specs.FactClosure.{Passes, fact_along, is_index}
 use Rattle.sp_verify_effects.specs.Facts.{fact}
 use Rattle.sp_verify_effects.specs.Sets.{has, with_all}
@@ -29,37 +30,44 @@ implied : (a b : Bool) → (not a ≡ true) ⊎ (b ≡ true) → a ≡ true → 
 implied a b (inl h) e = absurd (not_true_and_false a e (not-true a h))
 implied a b (inr h) e = h
 
-pub within_subsets : (w v : Allowance) → stops_within w v ≡ true → IsSubset nat_cmp w.stored v.stored
-    → IsSubset nat_cmp w.loaded v.loaded → IsWithin w v
-within_subsets w v t s l (effect.Stores x) h = s x h
-within_subsets w v t s l (effect.Loads x) h = l x h
-within_subsets w v t s l effect.Stops h = implied w.stops v.stops (or_cases (not w.stops) v.stops t) h
+pub within_sets : (w v : Allowance) → stops_within w v ≡ true
+    → LetsAll w.complement w.stored.keys v.complement v.stored.keys
+    → LetsAll w.complement w.loaded.keys v.complement v.loaded.keys → IsWithin w v
+within_sets w v t s l (effect.Stores x) h = s x h
+within_sets w v t s l (effect.Loads x) h = l x h
+within_sets w v t s l effect.Stops h = implied w.stops v.stops (or_cases (not w.stops) v.stops t) h
+
+-- a set that is no complement has what it lets
+set_has : (p : Bool) (ks : List ℕ) (x : ℕ) → p ≡ false → is_let p ks x ≡ true → has ks x ≡ true
+set_has p ks x e h = sym (ap (λ (b : Bool). is_let b ks x) e) ∙ h
 
 -- ---- a child
 
 module _ (w : Allowance) (t : ChildTable) (m b : BTreeSet ℕ) (em : m.keys ≡ with_all [] t.moved)
-    (eb : b.keys ≡ with_all m.keys t.shared) (stores : IsSubset nat_cmp w.stored m)
+    (eb : b.keys ≡ with_all m.keys t.shared) (plain : w.complement ≡ false) (stores : IsSubset nat_cmp w.stored m)
     (loads : IsSubset nat_cmp w.loaded b) where
   moved : (x : ℕ) → has m.keys x ≡ true → IsMember x t.moved
   moved x h = ⊎_elim (λ z. absurd (cc z)) (λ z. z) (all_in [] t.moved x (subst (λ ks. has ks x ≡ true) em h))
 
   pub fits_handed : Fits (Some w) t
-  fits_handed (effect.Stores x) h = moved x (stores x h)
+  fits_handed (effect.Stores x) h = moved x (stores x (set_has w.complement w.stored.keys x plain h))
   fits_handed (effect.Loads x) h =
       ⊎_elim (λ z. member_front x t.moved t.shared (moved x z)) (λ z. member_back x t.moved t.shared z)
-      (all_in m.keys t.shared x (subst (λ ks. has ks x ≡ true) eb (loads x h)))
+      (all_in m.keys t.shared x (subst (λ ks. has ks x ≡ true) eb
+      (loads x (set_has w.complement w.loaded.keys x plain h))))
   fits_handed effect.Stops h = tt
 
 -- ---- a block
 
 module _ (w : Allowance) (l : Layout) (b : BTreeSet ℕ) (eb : b.keys ≡ with_all [] l.variables)
-    (stops : w.stops ≡ false) (stores : IsSubset nat_cmp w.stored b) (loads : IsSubset nat_cmp w.loaded b) where
+    (plain : w.complement ≡ false) (stops : w.stops ≡ false) (stores : IsSubset nat_cmp w.stored b)
+    (loads : IsSubset nat_cmp w.loaded b) where
   among_own : (x : ℕ) → has b.keys x ≡ true → IsMember x l.variables
   among_own x h = ⊎_elim (λ z. absurd (cc z)) (λ z. z) (all_in [] l.variables x (subst (λ ks. has ks x ≡ true) eb h))
 
   pub fits_variables : FitsBlock (Some w) l
-  fits_variables (effect.Stores x) h = among_own x (stores x h)
-  fits_variables (effect.Loads x) h = among_own x (loads x h)
+  fits_variables (effect.Stores x) h = among_own x (stores x (set_has w.complement w.stored.keys x plain h))
+  fits_variables (effect.Loads x) h = among_own x (loads x (set_has w.complement w.loaded.keys x plain h))
   fits_variables effect.Stops h = not_true_and_false w.stops h stops
 
 -- ---- an edge
@@ -102,18 +110,18 @@ module _ (w v : Allowance) where
       go : (b : Bool) → (z == y) ≡ b → (if b then Some (fact n (effect.Stores x)) else None) ≡ Some g
           → allows v g.effect ≡ true
       go true q e = subst (λ (f : Fact). allows v f.effect ≡ true) (same_Some (fact n (effect.Stores x)) g e)
-          (implied (has w.stored.keys y) (has v.stored.keys x)
-          (or_cases (not (has w.stored.keys y)) (has v.stored.keys x) s)
-          (subst (λ k. has w.stored.keys k ≡ true) (eqb-true z y q) h))
+          (implied (is_let w.complement w.stored.keys y) (is_let v.complement v.stored.keys x)
+          (or_cases (not (is_let w.complement w.stored.keys y)) (is_let v.complement v.stored.keys x) s)
+          (subst (λ k. is_let w.complement w.stored.keys k ≡ true) (eqb-true z y q) h))
       go false q e = absurd (none-some g e)
   passed n y x s l own (effect.Loads z) g e h = go (z == y) refl e
     where
       go : (b : Bool) → (z == y) ≡ b → (if b then Some (fact n (effect.Loads x)) else None) ≡ Some g
           → allows v g.effect ≡ true
       go true q e = subst (λ (f : Fact). allows v f.effect ≡ true) (same_Some (fact n (effect.Loads x)) g e)
-          (implied (has w.loaded.keys y) (has v.loaded.keys x)
-          (or_cases (not (has w.loaded.keys y)) (has v.loaded.keys x) l)
-          (subst (λ k. has w.loaded.keys k ≡ true) (eqb-true z y q) h))
+          (implied (is_let w.complement w.loaded.keys y) (is_let v.complement v.loaded.keys x)
+          (or_cases (not (is_let w.complement w.loaded.keys y)) (is_let v.complement v.loaded.keys x) l)
+          (subst (λ k. is_let w.complement w.loaded.keys k ≡ true) (eqb-true z y q) h))
       go false q e = absurd (none-some g e)
   passed n y x s l own effect.Stops g e h = absurd (none-some g e)
 

@@ -146,6 +146,8 @@ pub all_asks : (c : Parts) (k : Asked) → k.all ≡ true → Asks c k
 all_asks c k all = record {
   tables = all_tables None k c.forks all;
   layouts = λ j l e r d b. all_asked k l.entry d all;
+  calls = λ a p b up ss l is call j x f outside.
+      (all_asked k l.entry (effect.Stores x) all, all_asked k l.entry (effect.Loads x) all);
   inside = λ p a n l e. or_left k.all (flag_at k.blocks n) all;
 }
 

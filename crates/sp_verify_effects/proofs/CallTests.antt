@@ -1,13 +1,15 @@
 -- Rule V7 at a call: what the test finds is what the rule says.
-use Rattle.std.proofs.Common.{◌≡◌, ◌⊎◌, ◌≢◌, inl, inr, ⊎_elim, refl, sym, ap, subst, ◌∙◌, ℕ, zero, suc, ◌-◌, ◌<◌, List}
-use Rattle.std.proofs.Common.{[], ◌∷◌, ◌++◌, Option, Some, None, Bool, true, false, length, arith}
+use Rattle.std.proofs.Common.{◌≡◌, ◌⊎◌, ◌≢◌, inl, inr, ⊎_elim, refl, sym, ap, subst, ◌∙◌, ℕ, zero, suc, ◌-◌, ◌<◌}
+use Rattle.std.proofs.Common.{◌≤◌, List, [], ◌∷◌, ◌++◌, Option, Some, None, Bool, true, false, ◌&&◌, length, arith}
 use Rattle.std.specs.Prelude.{not, slice_get, ◌↔◌}
+use Rattle.std.specs.List.{list_any}
 use Rattle.std.proofs.lemmas.Option.{slice_get_within, none-some, same_Some}
 use Rattle.std.proofs.lemmas.Bool.{and_from, and_parts, false_from_ne_true, not-true, not_from_false, or_cases, or_left}
-use Rattle.std.proofs.lemmas.Bool.{or_right}
+use Rattle.std.proofs.lemmas.Bool.{or_parts, or_right}
 use Rattle.sp_base.proofs.Facts.{less_same_or_more, not_true_and_false}
 use Rattle.sp_tree.specs.Interference.{IsMember, AllDifferent}
 use Rattle.sp_tree.proofs.Members.{member_front, member_back, member_either}
+use Rattle.sp_code.specs.declared.instr.Instr.TheVariants as i
 use Rattle.sp_code.specs.declared.code.Formal.{Formal}
 use Rattle.sp_code.specs.declared.code.Formal.TheVariants as formal
 use Rattle.sp_code.specs.declared.code.Layout.{Layout}
@@ -18,7 +20,6 @@ use Rattle.sp_verify_rules.specs.Effects.{Does, HasEffect, IsActual, IsCalled}
 use Rattle.sp_verify_rules.specs.Forks as fork
 use Rattle.sp_verify_rules.specs.NameRules.{BreaksV1}
 use Rattle.sp_verify_rules.specs.Reach.{IsArea}
-use Rattle.sp_verify_rules.specs.Rules.{some_reference}
 use Rattle.sp_verify_rules.specs.Shapes.{Shape, O, C, L, A}
 use Rattle.sp_verify_rules.specs.Verdict.{HasStop}
 use Rattle.sp_verify_rules.proofs.Lists.{member_or, different_front, different_apart}
@@ -31,8 +32,9 @@ use Rattle.sp_verify_shapes.specs.ReachRules.{reached_at}
 use Rattle.sp_verify_shapes.specs.Stacks.{list_of}
 use Rattle.sp_verify_shapes.proofs.ReachLaws.{reached_there, stands}
 use Rattle.sp_verify_effects.specs.declared.effects.Effects.{Effects}
-use Rattle.sp_verify_effects.specs.Allowances.{IsOwnEffect}
-use Rattle.sp_verify_effects.specs.AskedAreas.{AsksOutside, has_block, is_asked, is_of_rules}
+use Rattle.sp_verify_effects.specs.declared.asked_areas.Asked.{Asked}
+use Rattle.sp_verify_effects.specs.AskedAreas.{AsksCalls, is_asked}
+use Rattle.sp_verify_effects.specs.AskedCalls.{lacks_actual, lacks_at, lacks_operands}
 use Rattle.sp_verify_effects.specs.declared.facts.Effect.{Effect}
 use Rattle.sp_verify_effects.specs.declared.facts.Effect.TheVariants as effect
 use Rattle.sp_verify_effects.specs.Effects.{AreEffects, touches}
@@ -40,7 +42,7 @@ use Rattle.sp_verify_effects.specs.Calls.{CallFails, actual_at, actual_of, actua
 use Rattle.sp_verify_effects.specs.Calls.{list_of_option}
 use Rattle.sp_verify_effects.specs.Calls.{meets_outer, variable_of}
 use Rattle.sp_verify_shapes.specs.Repeats.{called_block}
-use Rattle.sp_verify_effects.specs.Variables.{owns}
+use Rattle.sp_verify_effects.specs.Variables.{AreOwn, owns}
 use Rattle.sp_verify_effects.specs.Sets.{all_new}
 use Rattle.sp_verify_effects.proofs.Members.{new_from, new_is}
 use Rattle.sp_verify_shapes.proofs.CallRepeats.{called_is}
@@ -263,32 +265,22 @@ place_there ls b l e = go (number_from 0 ls b) refl
     go None f = absurd (none-some l (sym (place_none 0 ls b f) ∙ e))
     go (Some j) f = (j, f, place_some ls b j f ∙ e)
 
--- one of the formals is a reference
-reference_there : (fs : List Formal) (k cells : ℕ) → slice_get fs k ≡ Some (formal.Reference cells)
-    → some_reference fs ≡ true
-reference_there [] k cells e = absurd (none-some (formal.Reference cells) e)
-reference_there (formal.Reference n ∷ fs) k cells e = refl
-reference_there (formal.Value n ∷ fs) zero cells e = absurd (cc e)
-reference_there (formal.Value n ∷ fs) (suc k) cells e = reference_there fs k cells e
+-- what a block does to the variables that a call passes, unless they are its own
+abbrev pub AsksActuals : Asked → Layout → List Shape → Type 0
+AsksActuals k l ss = (j x : ℕ) → IsActual l ss j x → (IsMember x l.variables → ⊥)
+    → (is_asked k l.entry (effect.Stores x) ≡ true) × (is_asked k l.entry (effect.Loads x) ≡ true)
 
 module _ (c : Parts) (e : Effects) (are : AreEffects c e) (kept : (p : ℕ) → BreaksV1 c p → ⊥) (l : Layout) (b : ℕ)
-    (at : layout_of c.layouts b ≡ Some l) (ss : List Shape) where
-  -- what a block with an actual variable does outside itself is asked about
-  asks : (k x : ℕ) → IsActual l ss k x → AsksOutside e.asked l
-  asks k x f =
-      let r = place_there c.layouts b l at in
-      are.asks.layouts r.0 l r.2
-      (or_left (is_of_rules l) (has_block e.asked l.entry)
-      (or_right l.answer (some_reference l.formals) (reference_there l.formals k f.0 f.2)))
-
-  asks_body : (k x : ℕ) → IsActual l ss k x → (d : Effect) → (IsOwnEffect l d → ⊥)
+    (at : layout_of c.layouts b ≡ Some l) (ss : List Shape) (asks : AsksActuals e.asked l ss) where
+  asks_body : (d : Effect) → is_asked e.asked l.entry d ≡ true
       → is_asked e.asked (entry_of_layout (layout_of c.layouts b)) d ≡ true
-  asks_body k x f d m = subst (λ n. is_asked e.asked n d ≡ true) (sym (ap entry_of_layout at)) (asks k x f d m)
+  asks_body d = subst (λ n. is_asked e.asked n d ≡ true) (sym (ap entry_of_layout at))
 
   touched : (k x : ℕ) → IsActual l ss k x → (IsMember x l.variables → ⊥)
       → (touches e l.entry x ≡ true) ↔ HasEffect c (Does c) (Body b) x
   touched k x f m = subst (λ n. (touches e n x ≡ true) ↔ HasEffect c (Does c) (Body b) x) (ap entry_of_layout at)
-      (are.found.touched (Body b) x (l, at) (asks_body k x f (effect.Stores x) m) (asks_body k x f (effect.Loads x) m))
+      (are.found.touched (Body b) x (l, at) (asks_body (effect.Stores x) (asks k x f m).0)
+      (asks_body (effect.Loads x) (asks k x f m).1))
 
   abbrev pub Xs : List ℕ
   Xs = actuals l.formals ss (length l.formals)
@@ -370,7 +362,9 @@ module _ (c : Parts) (e : Effects) (are : AreEffects c e) (kept : (p : ℕ) → 
         z.0,
         is_area,
         record { reached = comes; call = call.1; layout = z.1 },
-        clash_rule c e are kept z.0 b z.1 (list_of s.stacks n) z.2,
+        clash_rule c e are kept z.0 b z.1 (list_of s.stacks n)
+            (are.asks.calls a p b call.0 (list_of s.stacks n) z.0 is_area
+            (record { reached = comes; call = call.1; layout = z.1 })) z.2,
       )
 
   pub call_finds : CallBreaks c p → CallFails c e s p
@@ -378,8 +372,55 @@ module _ (c : Parts) (e : Effects) (are : AreEffects c e) (kept : (p : ℕ) → 
       let k = shapes.all a p ss (there, is.reached) in
       let n = k.0 in
       let clash = rule_clash c e are kept l b is.layout (list_of s.stacks n)
+      (subst (AsksActuals e.asked l) (sym k.2) (are.asks.calls a p b up ss l there is))
       (subst (λ (z : List Shape). fork.BreaksV7 c (Does c) (HasStop c) l b z) (sym k.2) h) in
       given_at false (reached_at s p) by_stack n (reached_there s p n k.1)
       ∙ given_at false (called_block (instr_at c p)) (by_block n) b (ap called_block is.call)
       ∙ given_at false (layout_of c.layouts b) (λ m. call_clashes e m (list_of s.stacks n)) l is.layout
       ∙ clash
+
+-- ---- what is asked about
+
+module _ (k : Asked) (ks : List (ℕ × ℕ)) (m : ℕ) where
+  -- where nothing is missing for these variables
+  none_lacks : (xs : List ℕ) → list_any (lacks_actual k ks m) xs ≡ false → (x : ℕ) → IsMember x xs
+      → lacks_actual k ks m x ≡ false
+  none_lacks [] e x h = absurd h
+  none_lacks (y ∷ ys) e x (inl s) = subst (λ z. lacks_actual k ks m z ≡ false) (sym s)
+      (or_parts (lacks_actual k ks m y) (list_any (lacks_actual k ks m) ys) e).0
+  none_lacks (y ∷ ys) e x (inr h) = none_lacks ys
+      (or_parts (lacks_actual k ks m y) (list_any (lacks_actual k ks m) ys) e).1 x h
+
+  both_asked : (x : ℕ) → owns ks m x ≡ false → lacks_actual k ks m x ≡ false
+      → (is_asked k m (effect.Stores x) ≡ true) × (is_asked k m (effect.Loads x) ≡ true)
+  both_asked x f e = go (owns ks m x) (is_asked k m (effect.Stores x)) (is_asked k m (effect.Loads x)) f e
+    where
+      go : (o s l : Bool) → o ≡ false → (not o && not (s && l)) ≡ false → (s ≡ true) × (l ≡ true)
+      go true s l z w = absurd (cc z)
+      go false true true z w = (refl, refl)
+      go false true false z w = absurd (cc w)
+      go false false l z w = absurd (cc w)
+
+pub calls_asked : (c : Parts) → ((p : ℕ) → BreaksV1 c p → ⊥) → (s : Shapes) → AreShapes c s → (k : Asked)
+    → (ks : List (ℕ × ℕ)) → AreOwn c ks → (n : ℕ) → length c.instrs ≤ n
+    → ((q : ℕ) → q < n → lacks_at c k ks s q ≡ false) → AsksCalls c k
+calls_asked c kept s shapes k ks own n size none a p b up ss l there call j x f outside =
+    let r = shapes.all a p ss (there, call.reached) in
+    let stack = r.0 in
+    let within = slice_get_within c.instrs p (i.Call b up) call.call in
+    let lacks = given_at false (reached_at s p) (λ m. on_option false (called_block (instr_at c p)) (by m)) stack
+    (reached_there s p stack r.1)
+    ∙ given_at false (called_block (instr_at c p)) (by stack) b (ap called_block call.call)
+    ∙ given_at false (layout_of c.layouts b) (λ m. lacks_operands k ks m (list_of s.stacks stack)) l call.layout in
+    let none_here = sym lacks ∙ none p (omega (arith, within, size)) in
+    let actual = subst (λ (z : List Shape). IsActual l z j x) (sym r.2) f in
+    let y = is_at l (list_of s.stacks stack) j x actual in
+    let h = y.0 in
+    let member = at_member l (list_of s.stacks stack) (length l.formals) (length l.formals - 1 - j) x
+    (omega (arith, h)) y.1 in
+    both_asked k ks l.entry x (false_from_ne_true (owns ks l.entry x)
+    (λ g. outside (own_in c kept ks own b l call.layout x g)))
+    (none_lacks k ks l.entry (actuals l.formals (list_of s.stacks stack) (length l.formals)) none_here x member)
+  where
+    by : ℕ → ℕ → Bool
+    by m d = on_option false (layout_of c.layouts d) (λ z. lacks_operands k ks z (list_of s.stacks m))

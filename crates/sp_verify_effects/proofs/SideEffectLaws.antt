@@ -11,7 +11,6 @@ use Rattle.sp_verify_rules.specs.Areas.{Body, entry, entry_of_layout}
 use Rattle.sp_verify_rules.specs.Effects.{Does}
 use Rattle.sp_verify_rules.specs.Forks as fork
 use Rattle.sp_verify_rules.specs.NameRules.{BreaksV1}
-use Rattle.sp_verify_rules.specs.Rules.{some_reference}
 use Rattle.sp_verify_rules.specs.Verdict.{BreaksV8, HasStop}
 use Rattle.sp_verify_areas.specs.LeastPlaces.{IsLeast, Upto}
 use Rattle.sp_verify_areas.proofs.Leasts.{all}
@@ -21,7 +20,7 @@ use Rattle.sp_verify_effects.specs.declared.asked_areas.Asked.{Asked}
 use Rattle.sp_verify_effects.specs.declared.facts.Effect.{Effect}
 use Rattle.sp_verify_effects.specs.declared.facts.Effect.TheVariants as effect
 use Rattle.sp_verify_effects.specs.Allowances.{IsOwnEffect}
-use Rattle.sp_verify_effects.specs.AskedAreas.{AsksOutside, has_block, is_asked, is_of_rules}
+use Rattle.sp_verify_effects.specs.AskedAreas.{AsksOutside, has_block, is_asked}
 use Rattle.sp_verify_effects.specs.Effects.{AreEffects, IsRowOf}
 use Rattle.sp_verify_effects.specs.SideEffects.{HasSideEffects, LayoutHasSideEffects, has_side_effects}
 use Rattle.sp_verify_effects.specs.Variables.{AreOwn, goes_out}
@@ -94,7 +93,7 @@ module _ (c : Parts) (e : Effects) (are : AreEffects c e) (kept : (p : ℕ) → 
   asks : (j : ℕ) (l : Layout) → slice_get c.layouts j ≡ Some l → l.answer ≡ true → AsksBody c e.asked l
   asks j l is a = asked_body c e.asked l (layout_here c kept j l is)
       (are.asks.layouts j l is
-      (or_left (is_of_rules l) (has_block e.asked l.entry) (or_left l.answer (some_reference l.formals) a)))
+      (or_left l.answer (has_block e.asked l.entry) a))
 
   answers : (l : Layout) (o : Option EffectRow) → HasSideEffects l o → l.answer ≡ true
   answers l None h = absurd h

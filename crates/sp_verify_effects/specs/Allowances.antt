@@ -1,7 +1,7 @@
 -- None of this belongs to what the program promises: it is for contracts between crates.
 -- What an area may do without being asked about it: what all children are handed that come to it, and the own variables
 -- of all blocks that rules ask about and that come to it.
-use Rattle.std.specs.Prelude.{◌≡◌, ℕ, Option, Some, None, Bool, true, false, ◌||◌, not}
+use Rattle.std.specs.Prelude.{◌≡◌, ℕ, List, Option, Some, None, Bool, true, false, ◌||◌, not, if◌then◌else◌}
 use Rattle.sp_tree.specs.Interference.{IsMember}
 use Rattle.sp_code.specs.declared.code.ChildTable.{ChildTable}
 use Rattle.sp_code.specs.declared.code.Layout.{Layout}
@@ -11,10 +11,18 @@ use Rattle.sp_verify_effects.specs.declared.facts.Effect.{Effect}
 use Rattle.sp_verify_effects.specs.declared.facts.Effect.TheVariants as effect
 use Rattle.sp_verify_effects.specs.Sets.{has}
 
+-- keys have a variable, or their complement has it
+abbrev pub is_let : Bool → List ℕ → ℕ → Bool
+is_let complement ks x = if complement then not (has ks x) else has ks x
+
+-- all that the one lets, the other one lets
+abbrev pub LetsAll : Bool → List ℕ → Bool → List ℕ → Type 0
+LetsAll p ks q ls = (x : ℕ) → is_let p ks x ≡ true → is_let q ls x ≡ true
+
 -- it may do this
 abbrev pub allows : Allowance → Effect → Bool
-allows w (effect.Stores x) = has w.stored.keys x
-allows w (effect.Loads x) = has w.loaded.keys x
+allows w (effect.Stores x) = is_let w.complement w.stored.keys x
+allows w (effect.Loads x) = is_let w.complement w.loaded.keys x
 allows w effect.Stops = w.stops
 
 -- by its allowance, if it has one
@@ -52,7 +60,7 @@ stops_within w v = not w.stops || v.stops
 
 -- the other one allows a store of the actual variable if the one allows that of the formal; the same for loads
 abbrev pub stores_within : Allowance → Allowance → ℕ → ℕ → Bool
-stores_within w v y x = not (has w.stored.keys y) || has v.stored.keys x
+stores_within w v y x = not (is_let w.complement w.stored.keys y) || is_let v.complement v.stored.keys x
 
 abbrev pub loads_within : Allowance → Allowance → ℕ → ℕ → Bool
-loads_within w v y x = not (has w.loaded.keys y) || has v.loaded.keys x
+loads_within w v y x = not (is_let w.complement w.loaded.keys y) || is_let v.complement v.loaded.keys x

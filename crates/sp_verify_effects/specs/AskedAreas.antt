@@ -3,6 +3,7 @@
 -- else is followed.
 use Rattle.std.specs.Prelude.{◌≡◌, ℕ, List, Option, Some, None, Bool, true, ◌&&◌, ◌||◌, not, if◌then◌else◌, slice_get}
 use Rattle.std.specs.Prelude.{nat_lt}
+use Rattle.sp_tree.specs.Interference.{IsMember}
 use Rattle.sp_code.specs.declared.instr.Instr.{Instr}
 use Rattle.sp_code.specs.declared.instr.Instr.TheVariants as i
 use Rattle.sp_code.specs.declared.code.ChildTable.{ChildTable}
@@ -12,7 +13,9 @@ use Rattle.sp_code.specs.declared.code.Parts.{Parts}
 use Rattle.sp_code.specs.Machine.{layout_of}
 use Rattle.sp_code.specs.Memory.{Home}
 use Rattle.sp_verify_rules.specs.Areas.{Area, homes, instr_at, on_option}
-use Rattle.sp_verify_rules.specs.Rules.{some_reference}
+use Rattle.sp_verify_rules.specs.Effects.{IsActual, IsCalled}
+use Rattle.sp_verify_rules.specs.Reach.{IsArea}
+use Rattle.sp_verify_rules.specs.Shapes.{Shape}
 use Rattle.sp_verify_areas.specs.Alone.{flag_at}
 use Rattle.sp_verify_areas.specs.Only.{LiesOnlyIn}
 use Rattle.sp_verify_areas.specs.Owners.{entry_at}
@@ -21,6 +24,7 @@ use Rattle.sp_verify_effects.specs.declared.asked_areas.Asked.{Asked}
 use Rattle.sp_verify_effects.specs.declared.edges.Edge.{Edge}
 use Rattle.sp_verify_effects.specs.declared.edges.Edge.TheVariants as edge
 use Rattle.sp_verify_effects.specs.declared.facts.Effect.{Effect}
+use Rattle.sp_verify_effects.specs.declared.facts.Effect.TheVariants as effect
 use Rattle.sp_verify_effects.specs.Allowances.{IsGiven, IsOwnEffect, allows_some}
 use Rattle.sp_verify_effects.specs.Turns.{is_inside}
 
@@ -42,17 +46,13 @@ target (edge.Started to index) = to
 target (edge.Called to) = to
 target (edge.Passed to y x) = to
 
--- a block answers, or takes a variable by reference
-abbrev pub is_of_rules : Layout → Bool
-is_of_rules l = l.answer || some_reference l.formals
-
--- the flags say that a block of the rules begins there
+-- the flags say that a block begins there that answers or is called inside itself
 abbrev pub has_block : Asked → ℕ → Bool
 has_block k m = k.all || flag_at k.blocks m
 
--- the block is one of the rules, by its layout or by the flags
+-- the block answers, or the flags have it
 abbrev pub is_asked_block : Asked → Layout → Bool
-is_asked_block k l = is_of_rules l || has_block k l.entry
+is_asked_block k l = l.answer || has_block k l.entry
 
 -- an instruction is below a bound, if there is one
 abbrev pub is_below : Option ℕ → ℕ → Bool
@@ -73,7 +73,8 @@ AsksChildren o k ts = (j : ℕ) (t : ChildTable) → slice_get ts j ≡ Some t �
 abbrev pub AsksTables : Option ℕ → Asked → List ForkTable → Type 0
 AsksTables o k fs = (t : ℕ) (tb : ForkTable) → slice_get fs t ≡ Some tb → AsksChildren o k tb.children
 
--- what a block does is asked about it, but for what it does to its own variables; so for all blocks of the rules
+-- what a block does is asked about it, but for what it does to its own variables; so for all blocks that answer or are
+-- called inside themselves
 abbrev pub AsksOutside : Asked → Layout → Type 0
 AsksOutside k l = (d : Effect) → (IsOwnEffect l d → ⊥) → is_asked k l.entry d ≡ true
 
@@ -89,7 +90,13 @@ inside_entry hs ls (Some (i.Call b up)) = if is_inside hs b up then entry_at (la
 inside_entry hs ls o = None
 
 module _ (c : Parts) where
-  -- the block that the instruction at p calls inside itself is one of the rules
+  -- what a called block does to a variable that the call passes by reference is asked about, unless it is its own
+  abbrev pub AsksCalls : Asked → Type 0
+  AsksCalls k = (a : Area) (p b up : ℕ) (ss : List Shape) (l : Layout) → IsArea c a → IsCalled c a p b up ss l
+      → (j x : ℕ) → IsActual l ss j x → (IsMember x l.variables → ⊥)
+      → (is_asked k l.entry (effect.Stores x) ≡ true) × (is_asked k l.entry (effect.Loads x) ≡ true)
+
+  -- the flags have the block that the instruction at p calls inside itself
   abbrev pub AsksInsideAt : Asked → ℕ → Type 0
   AsksInsideAt k p = (a : Area) (n : ℕ) → LiesOnlyIn c p a
       → inside_entry (homes c a) c.layouts (instr_at c p) ≡ Some n → has_block k n ≡ true
@@ -98,4 +105,5 @@ module _ (c : Parts) where
   pub record Asks (k : Asked) : Type 0 where
     pub tables : AsksTables None k c.forks
     pub layouts : AsksLayouts k c.layouts
+    pub calls : AsksCalls k
     pub inside : (p : ℕ) → AsksInsideAt k p

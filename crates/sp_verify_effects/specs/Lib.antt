@@ -13,3 +13,4 @@ pub mod Turns
 pub mod PassContexts
 pub mod Allowances
 pub mod AskedAreas
+pub mod AskedCalls

@@ -8,12 +8,14 @@ ghost use Rattle.sp_verify_effects.specs.Allowances.{Fits, FitsBlock, allows_som
 ghost use Rattle.sp_verify_effects.specs.AskedAreas.{Asks, AsksBelow, AsksChild, AsksChildren, AsksInsideAt};
 ghost use Rattle.sp_verify_effects.specs.AskedAreas.{AsksLayout, AsksLayouts, AsksOutside, AsksTables, allowance_at};
 ghost use Rattle.sp_verify_effects.specs.AskedAreas.{has_block, inside_entry, is_asked, is_asked_block, is_below};
-ghost use Rattle.sp_verify_effects.specs.AskedAreas.{is_marked, is_of_rules, target};
+ghost use Rattle.sp_verify_effects.specs.AskedAreas.{is_marked, target};
 ghost use Rattle.sp_verify_effects.specs.FactClosure.{FollowsEdges, FollowsRow, IsFollowed, Passes};
 ghost use Rattle.sp_verify_effects.specs.PassContexts.{IsPassContext};
+ghost use Rattle.sp_verify_effects.specs.Variables.{AreOwn};
 ghost use Rattle.sp_verify_rules.specs.Areas.{Area, homes as homes_of, instr_at};
 
 use crate::allowance::{Allowance, allows, fits, fits_block, passes_within};
+use crate::asked_calls::asks_calls;
 use crate::callers::{Groups, flag_groups, groups_of};
 use crate::common::{Common, common_of};
 use crate::edges::{Edge, edge_at};
@@ -21,10 +23,11 @@ use crate::facts::Effect;
 use crate::have;
 use crate::inside::is_inside;
 use crate::pass_context::PassContext;
+use crate::passed::{Passed, none_passed, passed_of};
 use sp_base::{List, Memory};
 use sp_code::{ChildTable, ForkTable, Instr, Layout, Parts};
 use sp_verify_areas::flags::{flag_at, mark, no_flags};
-use sp_verify_shapes::calls::some_reference;
+use std::collections::BTreeSet;
 
 /// Areas by their first instructions, and what of each is asked about.
 #[derive(Drop)]
@@ -37,8 +40,7 @@ pub struct Asked {
     /// do is not asked about.
     pub numbers: List<u32>,
     pub allowances: List<Allowance>,
-    /// Of each instruction, whether a block begins there that answers, takes a variable by reference or is called
-    /// inside itself.
+    /// Of each instruction, whether a block begins there that answers or is called inside itself.
     pub blocks: List<bool>,
 }
 
@@ -133,13 +135,6 @@ pub(crate) fn target(edge: Edge) -> u32
     }
 }
 
-// Whether a block answers, or takes a variable by reference.
-fn is_of_rules(l: &Layout) -> bool
-    ensures { result ≡ is_of_rules l.now }
-{
-    l.answer || some_reference(l.formals.items())
-}
-
 // Where the block begins that this instruction at p calls inside itself.
 fn inside_entry(g: &PassContext, p: u32, instr: Instr) -> Option<u32>
     requires known { IsPassContext g.now }
@@ -198,13 +193,20 @@ fn mark_tables(flags: &mut List<bool>, bound: Option<u32>, tables: &[ForkTable])
     }
 }
 
-// Sets those of blocks of which the rules ask what they do outside themselves.
+// Sets those of blocks that take a variable by reference.
+fn mark_passed(flags: &mut List<bool>, passed: &Passed) {
+    for (entry, _) in passed.iter() {
+        mark(flags, *entry as usize);
+    }
+}
+
+// Sets those of blocks that answer or are called inside themselves.
 fn mark_blocks(g: &PassContext, flags: &mut List<bool>)
     requires known { IsPassContext g.now }
 {
     let parts = g.code.parts();
     for l in parts.layouts.items() {
-        if is_of_rules(l) {
+        if l.answer {
             mark(flags, l.entry as usize);
         }
     }
@@ -277,7 +279,7 @@ fn asks_tables(asked: &Asked, bound: Option<u32>, tables: &[ForkTable]) -> Resul
 fn is_asked_block(asked: &Asked, l: &Layout) -> bool
     ensures { result ≡ is_asked_block asked.now l.now }
 {
-    is_of_rules(l) || asked.has_block(l.entry as usize)
+    l.answer || asked.has_block(l.entry as usize)
 }
 
 // Whether all that the area of a block may do, it does to variables of the block.
@@ -404,8 +406,9 @@ fn follows_edges(asked: &Asked, rows: &[List<Edge>]) -> bool
 }
 
 // Whether all that rules ask about is asked about.
-fn asks(g: &PassContext, asked: &Asked) -> Result<bool, Memory>
+fn asks(g: &PassContext, asked: &Asked, own: &BTreeSet<(u32, u32)>) -> Result<bool, Memory>
     requires known { IsPassContext g.now }
+    requires own { AreOwn g.now.code.now own.now.keys }
     ensures { IfOk result (λ b. b ≡ true → Asks g.now.code.now asked.now) }
 {
     let parts = g.code.parts();
@@ -413,7 +416,10 @@ fn asks(g: &PassContext, asked: &Asked) -> Result<bool, Memory>
     if tables {
         let layouts = have!(asks_layouts(asked, parts.layouts.items()));
         if layouts {
-            return Ok(asks_inside(g, asked));
+            let calls = have!(asks_calls(g, asked, own));
+            if calls {
+                return Ok(asks_inside(g, asked));
+            }
         }
     }
     Ok(false)
@@ -427,14 +433,16 @@ fn find_by(
     groups: &Groups,
     bound: Option<u32>,
     blocks: List<bool>,
+    passed: &Passed,
 ) -> Result<Asked, Memory> {
     let mut flags = have!(List::from_slice(blocks.alloc(), blocks.items()));
     mark_tables(&mut flags, bound, parts.forks.items());
+    mark_passed(&mut flags, passed);
     flag_groups(rows, groups, &mut flags);
     let Common {
         numbers,
         allowances,
-    } = have!(common_of(parts, rows, groups, &flags, bound, &blocks));
+    } = have!(common_of(parts, rows, groups, &flags, bound, &blocks, passed));
     Ok(Asked {
         all: false,
         flags,
@@ -445,14 +453,19 @@ fn find_by(
 }
 
 // What rules ask about, and what leads to it along the edges.
-fn find_asked(g: &PassContext, rows: &List<List<Edge>>) -> Result<Asked, Memory>
+fn find_asked(
+    g: &PassContext,
+    rows: &List<List<Edge>>,
+    own: &BTreeSet<(u32, u32)>,
+) -> Result<Asked, Memory>
     requires known { IsPassContext g.now }
 {
     let parts = g.code.parts();
     let mut blocks = have!(no_flags(parts.instrs.alloc(), parts.instrs.len()));
     mark_blocks(g, &mut blocks);
     let groups = have!(groups_of(rows));
-    find_by(parts, rows, &groups, None, blocks)
+    let passed = have!(passed_of(g, own, &blocks));
+    find_by(parts, rows, &groups, None, blocks, &passed)
 }
 
 /// What V6 asks about the children that begin below a bound, and what leads to it along the edges; nothing here is
@@ -465,7 +478,8 @@ pub(crate) fn find_below(
 ) -> Result<Asked, Memory> {
     let parts = g.code.parts();
     let blocks = have!(no_flags(parts.instrs.alloc(), parts.instrs.len()));
-    find_by(parts, rows, groups, bound, blocks)
+    let passed = none_passed(parts.instrs.alloc());
+    find_by(parts, rows, groups, bound, blocks, &passed)
 }
 
 /// The same, checked.
@@ -489,13 +503,18 @@ pub(crate) fn asked_below(
 }
 
 /// What rules ask about, and what leads to it along these edges.
-pub(crate) fn asked_of(g: &PassContext, rows: &List<List<Edge>>) -> Result<Asked, Memory>
+pub(crate) fn asked_of(
+    g: &PassContext,
+    rows: &List<List<Edge>>,
+    own: &BTreeSet<(u32, u32)>,
+) -> Result<Asked, Memory>
     requires known { IsPassContext g.now }
+    requires own { AreOwn g.now.code.now own.now.keys }
     ensures asks { IfOk result (Asks g.now.code.now) }
     ensures follows { IfOk result (FollowsEdges rows.now) }
 {
-    let some = have!(find_asked(g, rows));
-    let asks = have!(asks(g, &some));
+    let some = have!(find_asked(g, rows, own));
+    let asks = have!(asks(g, &some, own));
     if asks {
         if follows_edges(&some, rows.items()) {
             return Ok(some);

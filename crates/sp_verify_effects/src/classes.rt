@@ -2,7 +2,9 @@
 //! children and blocks come that have different ones. Nothing here has a contract: `asked_areas.rt` checks what is
 //! found with it.
 
-use crate::allowance::{Allowance, allowance_of, allowance_of_block, is_within, shared_by};
+use crate::allowance::{
+    Allowance, allowance_of, allowance_of_block, allowance_without, is_within, shared_by,
+};
 use crate::callers::NONE;
 use crate::have;
 use sp_base::{List, Memory};
@@ -172,6 +174,19 @@ pub(crate) fn class_of_block(
     put(classes, allowance)
 }
 
+/// The number of the allowance of all variables except these, if there is room for it.
+pub(crate) fn class_of_passed(
+    alloc: Global,
+    classes: &mut Classes,
+    passed: &BTreeSet<u32>,
+) -> Result<u32, Memory> {
+    if !take_room(classes, passed.len()) {
+        return Ok(NONE);
+    }
+    let allowance = have!(allowance_without(alloc, passed));
+    put(classes, allowance)
+}
+
 // How many variables it has, of each kind.
 fn size_of(allowance: &Allowance) -> usize {
     allowance
@@ -188,12 +203,21 @@ fn size_at(allowances: &List<Allowance>, number: u32) -> usize {
     }
 }
 
+// Whether the one of this number is a complement.
+fn is_complement(allowances: &List<Allowance>, number: u32) -> bool {
+    match allowances.get(number as usize) {
+        None => false,
+        Some(allowance) => allowance.complement,
+    }
+}
+
 // Whether it is the one of this number.
 fn is_at(allowances: &List<Allowance>, number: u32, allowance: &Allowance) -> bool {
     match allowances.get(number as usize) {
         None => false,
         Some(one) => {
             size_of(one) == size_of(allowance)
+                && allowance.complement == one.complement
                 && (allowance.stops || !one.stops)
                 && is_within(allowance, one)
         }
@@ -233,7 +257,7 @@ fn common_to(
 // The number of an allowance that two have in common: that of an earlier one that is the same, or a new one. None if it
 // has nothing.
 fn put_met(classes: &mut Classes, allowance: Allowance) -> Result<u32, Memory> {
-    if size_of(&allowance) == 0 && !allowance.stops {
+    if size_of(&allowance) == 0 && !allowance.stops && !allowance.complement {
         return Ok(NONE);
     }
     let key = (sum_of_set(&allowance.stored), sum_of_set(&allowance.loaded));
@@ -250,6 +274,22 @@ fn put_met(classes: &mut Classes, allowance: Allowance) -> Result<u32, Memory> {
                 put(classes, allowance)
             }
         }
+    }
+}
+
+// How many variables what two of them have in common may have at most. Complements come together to one that lacks what
+// one of them lacks.
+fn most_met(allowances: &List<Allowance>, one: u32, other: u32) -> usize {
+    let size = size_at(allowances, one);
+    let other_size = size_at(allowances, other);
+    if is_complement(allowances, one) && is_complement(allowances, other) {
+        size.saturating_add(other_size)
+    } else if is_complement(allowances, one) {
+        other_size
+    } else if is_complement(allowances, other) {
+        size
+    } else {
+        size.min(other_size)
     }
 }
 
@@ -285,7 +325,7 @@ fn meet(alloc: Global, classes: &mut Classes, one: u32, other: u32) -> Result<u3
     if lies_within(&classes.allowances, other, one) {
         return Ok(other);
     }
-    let size = size_at(&classes.allowances, one).min(size_at(&classes.allowances, other));
+    let size = most_met(&classes.allowances, one, other);
     if size > classes.room_met {
         return Ok(NONE);
     }

@@ -6,9 +6,12 @@
 use crate::allowance::{Allowance, passes_within};
 use crate::asked_areas::{is_below, target};
 use crate::callers::{Groups, NONE, number_of, set_number};
-use crate::classes::{Classes, UNKNOWN, class_of, class_of_block, may_compare, met, no_classes};
+use crate::classes::{
+    Classes, UNKNOWN, class_of, class_of_block, class_of_passed, may_compare, met, no_classes,
+};
 use crate::edges::Edge;
 use crate::have;
+use crate::passed::Passed;
 use sp_base::{List, Memory};
 use sp_code::{ChildTable, ForkTable, Layout, Parts};
 use sp_verify_areas::flags::flag_at;
@@ -21,16 +24,14 @@ pub(crate) struct Common {
     pub allowances: List<Allowance>,
 }
 
-// Gives a child its number.
-fn number_child(
+// Gives the area that begins at m the number of what this one and its own have in common.
+fn put_number(
     alloc: Global,
     classes: &mut Classes,
     numbers: &mut List<u32>,
-    place: (usize, usize),
-    child: &ChildTable,
+    m: usize,
+    number: u32,
 ) -> Result<(), Memory> {
-    let number = have!(class_of(alloc, classes, place, child));
-    let m = child.entry as usize;
     let now = have!(met(alloc, classes, number_of(numbers, m), number));
     set_number(numbers, m, now);
     Ok(())
@@ -47,7 +48,8 @@ fn number_children(
 ) -> Result<(), Memory> {
     for (k, child) in children.iter().enumerate() {
         if is_below(bound, child.entry) {
-            have!(number_child(alloc, classes, numbers, (t, k), child));
+            let number = have!(class_of(alloc, classes, (t, k), child));
+            have!(put_number(alloc, classes, numbers, child.entry as usize, number));
         }
     }
     Ok(())
@@ -79,9 +81,22 @@ fn number_blocks(
         let m = l.entry as usize;
         if flag_at(blocks, m) {
             let number = have!(class_of_block(alloc, classes, l));
-            let now = have!(met(alloc, classes, number_of(numbers, m), number));
-            set_number(numbers, m, now);
+            have!(put_number(alloc, classes, numbers, m, number));
         }
+    }
+    Ok(())
+}
+
+// Gives the blocks to which variables are passed theirs: all variables except these.
+fn number_passed(
+    alloc: Global,
+    classes: &mut Classes,
+    numbers: &mut List<u32>,
+    passed: &Passed,
+) -> Result<(), Memory> {
+    for (entry, set) in passed.iter() {
+        let number = have!(class_of_passed(alloc, classes, set));
+        have!(put_number(alloc, classes, numbers, *entry as usize, number));
     }
     Ok(())
 }
@@ -223,7 +238,8 @@ fn number_group(
 }
 
 /// The allowances of the areas whose flags are set, by the edges between areas, for the children that begin below a
-/// bound. There are flags of blocks too: of those of which the rules ask what they do outside themselves.
+/// bound. There are flags of blocks too, of those of which the rules ask what they do outside themselves, and blocks of
+/// which they ask what they do to variables that are passed.
 pub(crate) fn common_of(
     parts: &Parts,
     rows: &List<List<Edge>>,
@@ -231,6 +247,7 @@ pub(crate) fn common_of(
     flags: &List<bool>,
     bound: Option<u32>,
     blocks: &List<bool>,
+    passed: &Passed,
 ) -> Result<Common, Memory> {
     let alloc = rows.alloc();
     let mut numbers = List::of(have!(vec![in alloc; UNKNOWN; rows.len()]));
@@ -249,6 +266,7 @@ pub(crate) fn common_of(
         parts.layouts.items(),
         blocks
     ));
+    have!(number_passed(alloc, &mut classes, &mut numbers, passed));
     let pass = Pass {
         rows,
         groups,

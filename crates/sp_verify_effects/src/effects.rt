@@ -168,7 +168,7 @@ pub fn find_effects(g: &PassContext) -> Result<Effects, Memory>
 {
     let own = have!(own_of(g.code));
     let edges = have!(edges_of(g));
-    let asked = have!(asked_of(g, &edges));
+    let asked = have!(asked_of(g, &edges, &own));
     let effects = have!(effects_of(g, asked, &edges, own));
     Ok(effects)
 }

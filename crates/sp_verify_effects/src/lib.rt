@@ -20,12 +20,14 @@
 //! To know:
 //! - Each answer is exact. The only other one is want of memory.
 //! - An area is known by its first instruction: that of no other area, where V1 is kept.
-//! - The rules ask about children, about blocks that answer or take a variable by reference, and about blocks that are
-//!   called inside themselves (`specs/AskedAreas.antt`). What no such area comes to is not followed. `asked_areas.rt`
-//!   marks them with no contract, and looks whether the marks are right; else all areas are followed.
+//! - The rules ask about children, about blocks that answer or are called inside themselves, and what blocks do to the
+//!   variables that calls pass to them by reference (`specs/AskedAreas.antt`). What no such area comes to is not
+//!   followed. `asked_areas.rt` marks them with no contract, with the variables that `passed.rt` finds, and looks
+//!   whether the marks are right (at calls with `asked_calls.rt`); else all areas are followed.
 //! - What all children are handed that come to an area is not asked about it (`allowance.rt`, `specs/Allowances.antt`):
-//!   the rule lets them do it. So too what is done to the own variables of a block that comes to it. `common.rt` finds
-//!   that with no contract, and `asked_areas.rt` looks whether it is right.
+//!   the rule lets them do it. So too what is done to the own variables of a block that comes to it. If that takes
+//!   variables by reference, and the rules ask no more of it, only what is done to the variables which calls pass to it
+//!   is asked about. `common.rt` finds that with no contract, and `asked_areas.rt` looks whether it is right.
 //! - `facts.rt` is a set of facts about areas (`specs/Facts.antt`), `places.rt` and `own.rt` are what instructions do
 //!   themselves, `edges.rt` and `closure.rt` how facts go from area to area until nothing is new, `effects.rt` makes a
 //!   table of them, with the variables of blocks (`variables.rt`).
@@ -38,6 +40,7 @@
 pub mod allowance;
 pub mod areas;
 pub mod asked_areas;
+pub mod asked_calls;
 pub mod breach;
 pub mod callers;
 pub mod calls;
@@ -52,6 +55,7 @@ pub mod facts;
 pub mod inside;
 pub mod own;
 pub mod pass_context;
+pub mod passed;
 pub mod places;
 pub mod sets;
 pub mod side_effects;

@@ -61,6 +61,35 @@ pub(crate) fn members_of_both(
     Ok(both)
 }
 
+/// The variables that are in one of the sets, or in both.
+pub(crate) fn members_of_either(
+    alloc: Global,
+    one: &BTreeSet<u32>,
+    other: &BTreeSet<u32>,
+) -> Result<BTreeSet<u32>, Memory> {
+    let mut either = BTreeSet::new(alloc);
+    for x in one.iter() {
+        have!(either.insert(*x));
+    }
+    for x in other.iter() {
+        have!(either.insert(*x));
+    }
+    Ok(either)
+}
+
+/// The variables that are in the one set and not in the other one.
+pub(crate) fn members_of_one(
+    alloc: Global,
+    one: &BTreeSet<u32>,
+    other: &BTreeSet<u32>,
+) -> Result<BTreeSet<u32>, Memory> {
+    let mut only = BTreeSet::new(alloc);
+    for x in one.difference(other) {
+        have!(only.insert(*x));
+    }
+    Ok(only)
+}
+
 /// Adds the index of a forall, if there is one.
 pub(crate) fn add_index(set: &mut BTreeSet<u32>, index: Option<u32>) -> Result<(), Memory>
     ensures { OnOk result (set.new.keys ≡ with_index set.old.keys index) }

@@ -10,5 +10,5 @@ returns c = λ t.
     fits_handed c.args.allowance.now c.args.child.now m b
     (c.in-Ok.ensures.keys ∙ ap (λ ks. with_all ks c.items.result.now) c.new-handed.ensures.empty
     ∙ ap (with_all []) c.items.ensures)
-    (c.in-Ok-add_all.ensures.keys ∙ ap (with_all m.keys) c.items-2.ensures)
+    (c.in-Ok-add_all.ensures.keys ∙ ap (with_all m.keys) c.items-2.ensures) c.if-allowance.false
     (c.is_subset.ensures.0 c.if-not-is_subset.false) (c.is_subset-2.ensures.0 t)

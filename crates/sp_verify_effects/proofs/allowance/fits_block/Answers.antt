@@ -9,5 +9,6 @@ returns c = λ t.
     fits_variables c.args.allowance.now c.args.l.now b
     (c.in-Ok.ensures.keys ∙ ap (λ ks. with_all ks c.items.result.now) c.new-own.ensures.empty
     ∙ ap (with_all []) c.items.ensures)
+    c.if-allowance.false
     (sym c.allows.ensures ∙ c.if-allows.false)
     (c.is_subset.ensures.0 c.if-not-is_subset.false) (c.is_subset-2.ensures.0 t)
