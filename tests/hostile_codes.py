@@ -363,10 +363,10 @@ def chain_of_passed(blocks=100_000):
     return code(layouts, [*passed, "call 1 0", "end", "call 2 1", "return", *instrs])
 
 
-def calls_of_lists(operands=100_000, calls=100_000, unfit=False):
+def calls_of_lists(operands=100_000, calls=100_000, unfit=False, mixed=False):
     """Accepted: n operands are pushed once, and each of n calls puts one of its own on top. Or refused by V5: that of
-    the last call has too few cells."""
-    instrs = [f"addr 0 {k + 2}" for k in range(operands)] + ["const 0"]
+    the last call has too few cells. Mixed: each second operand is a value."""
+    instrs = ["const 1" if mixed and k % 2 else f"addr 0 {k + 2}" for k in range(operands)] + ["const 0"]
     after = operands + 2 + calls
     done = after + 3 * calls + 3
     instrs += [f"casej {k} {after + 3 * k}" for k in range(calls)] + [f"jump {after + 3 * calls}"]
@@ -376,7 +376,8 @@ def calls_of_lists(operands=100_000, calls=100_000, unfit=False):
     count = operands + calls
     formals = range(count + 2, count + operands + 3)
     layouts = [layout(0, 0, "-", [2] * (count - unfit) + [1] * unfit, range(2, count + 2)),
-               layout(1, done + 1, 0, [1] * len(formals), formals, ["reference 2"] * len(formals))]
+               layout(1, done + 1, 0, [1] * len(formals), formals,
+                      ["value 1" if mixed and k % 2 and k < operands else "reference 2" for k in range(len(formals))])]
     return code(layouts, instrs)
 
 
@@ -450,4 +451,5 @@ OPEN = {
     "chain_of_passed": chain_of_passed,
     "calls_of_lists": calls_of_lists,
     "calls_at_heights": calls_at_heights,
+    "unfit_mixed": lambda: calls_of_lists(unfit=True, mixed=True),
 }
