@@ -75,9 +75,9 @@ fn expect_meeting<R: Threads + Wait + Sync + Abort>(
 }
 
 // The one worker takes process 1 first, and enters with it before it takes process 2; two workers are in a turn at
-// once.
+// once. (The second one may come seconds later on a machine with much other work, so there are many looks.)
 #[test]
 fn turns_at_once(rt: HostRuntime) {
     expect_meeting(&rt, rt.alloc(), "1", 1000, 1);
-    expect_meeting(&rt, rt.alloc(), "2", 1_000_000_000, 0);
+    expect_meeting(&rt, rt.alloc(), "2", 30_000_000_000, 0);
 }
