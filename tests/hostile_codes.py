@@ -363,6 +363,11 @@ def chain_of_passed(blocks=100_000):
     return code(layouts, [*passed, "call 1 0", "end", "call 2 1", "return", *instrs])
 
 
+def two_cells_each(count, unfit):
+    """The sizes of n variables, of two cells each; the last one has one cell if it is not to fit a formal of two."""
+    return [2] * (count - 1) + [1 if unfit else 2]
+
+
 def calls_of_lists(operands=100_000, calls=100_000, unfit=False, mixed=False):
     """Accepted: n operands are pushed once, and each of n calls puts one of its own on top. Or refused by V5: that of
     the last call has too few cells. Mixed: each second operand is a value."""
@@ -375,7 +380,7 @@ def calls_of_lists(operands=100_000, calls=100_000, unfit=False, mixed=False):
     instrs += ["nocase", f"addr 0 {operands + 2}", "call 1 0", "end", "return"]
     count = operands + calls
     formals = range(count + 2, count + operands + 3)
-    layouts = [layout(0, 0, "-", [2] * (count - unfit) + [1] * unfit, range(2, count + 2)),
+    layouts = [layout(0, 0, "-", two_cells_each(count, unfit), range(2, count + 2)),
                layout(1, done + 1, 0, [1] * len(formals), formals,
                       ["value 1" if mixed and k % 2 and k < operands else "reference 2" for k in range(len(formals))])]
     return code(layouts, instrs)
@@ -399,7 +404,7 @@ def calls_at_heights(operands=200_000, calls=100_000, kinds=("reference 2",), un
         instrs += ["call 1 0", f"jump {drops + height - k - 1}"]
     instrs += gone + ["end", "return"]
     formals = range(height + 2, height + operands + 2)
-    layouts = [layout(0, 0, "-", [2] * (height - unfit) + [1] * unfit, range(2, height + 2)),
+    layouts = [layout(0, 0, "-", two_cells_each(height, unfit), range(2, height + 2)),
                layout(1, drops + height + 1, 0, [1] * operands, formals,
                       [kinds[k % len(kinds)] for k in range(operands)])]
     return code(layouts, instrs)
