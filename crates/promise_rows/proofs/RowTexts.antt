@@ -1,7 +1,7 @@
 -- What a text with a tree of the rows is: its program, and that it breaks no rule.
 use Rattle.std.proofs.Common.{◌≡◌, inl, inr, ℕ, ◌<◌, List, Ok, Err, sym, ◌∙◌, ap, subst, arith, Result}
 use Rattle.sp_base.specs.declared.halt.Refusal.{Refusal}
-use Rattle.sp_code.specs.Lengths.{tree_length}
+use Rattle.sp_code.specs.Places.{tree_length}
 use Rattle.sp_front.specs.Checks.{IsChecked, IsProgramOf}
 use Rattle.sp_front.proofs.OneAnswer.{OneTree}
 use Rattle.sp_tree.specs.Bare.{without_places}

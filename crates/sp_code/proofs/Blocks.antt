@@ -14,12 +14,12 @@ use Rattle.sp_code.specs.declared.code.Layout.{Layout}
 use Rattle.sp_code.specs.declared.code.ForkTable.{ForkTable}
 use Rattle.sp_code.specs.declared.code.Parts.{Parts}
 use Rattle.sp_code.specs.Scopes.{scopes_of}
-use Rattle.sp_code.specs.Places.{after_statement, after_block}
-use Rattle.sp_code.specs.Lengths.{stmt_length, tree_length}
+use Rattle.sp_code.specs.Places.{after_statement, after_block, tree_length}
+use Rattle.sp_code.specs.Lengths.{stmt_length}
 use Rattle.sp_code.specs.TreeCode.{tables_in, texts_in, texts_of, end_instr, code, tables, block_code, blocks_code}
 use Rattle.sp_code.specs.TreeCode.{blocks_texts, layout_of, layouts_from, blocks_tables, program_code}
 use Rattle.sp_code.specs.CodeOfTree.{HasAt, BlockAt, BlocksAt, IsSoundBlock}
-use Rattle.sp_code.proofs.Counts.{last_count, blocks_count, code_count, stmt_after}
+use Rattle.sp_code.proofs.Counts.{last_count, blocks_count, code_count, stmt_after, tree_after}
 use Rattle.sp_code.proofs.CodePositions.{has_front, has_back, stands, code_stop, tables_stop, texts_stop}
 
 -- a list stands in itself
@@ -69,7 +69,7 @@ module _ (p : Program) where
 
 module _ (p : Program) (moves shares : Stmt → List ℕ) where
   pub program_count : length (program_code p moves shares).instrs ≡ tree_length p
-  program_count = blocks_count p 0 0 0 0 p.blocks
+  program_count = blocks_count p 0 0 0 0 p.blocks ∙ sym (tree_after p)
 
   module _ (all : Parts) (callable : ℕ → Type 0) where
     -- the block that stands first

@@ -19,8 +19,7 @@ use Rattle.sp_code.specs.Scopes.{Sort, Ordinals, Channels, Many, NoSort, kind_of
 use Rattle.sp_code.specs.Scopes.{sort, size, slot, element_type, field_type, type_by, type_of, scopes_of}
 use Rattle.sp_code.specs.Places.{after_unary, after_standard, after_value, after_form, after_var, after_selectors}
 use Rattle.sp_code.specs.Places.{after_actuals, after_width, after_right, after_test, after_tests, after_statement}
-use Rattle.sp_code.specs.Places.{after_all}
-use Rattle.sp_code.specs.Places.{after_children, after_arms, after_block}
+use Rattle.sp_code.specs.Places.{after_all, after_children, after_arms, after_block, after_blocks, tree_length}
 use Rattle.sp_code.specs.Lengths.{unary_length, standard_length, value_length, form_length, var_length}
 use Rattle.sp_code.specs.Lengths.{selectors_length, actuals_length, width_length, right_length, tests_length}
 use Rattle.sp_code.specs.Lengths.{stmt_length, all_length, children_length, arms_length, blocks_length}
@@ -150,6 +149,13 @@ module _ (p : Program) where
     pub arms_after : (q : ℕ) (arms : Arms) → after_arms p q arms ≡ q + arms_length p arms
     arms_after q NoArm = omega arith
     arms_after q (Or (On ms s) rest) = omega (arith, stmt_after q s, arms_after (after_statement p q s + 1) rest)
+
+  blocks_after : (q : ℕ) (ks : List Block) → after_blocks p q ks ≡ q + blocks_length p ks
+  blocks_after q [] = omega arith
+  blocks_after q (k ∷ ks) = omega (arith, stmt_after q k.body, blocks_after (after_block p q k) ks)
+
+  pub tree_after : tree_length p ≡ blocks_length p p.blocks
+  tree_after = omega (arith, blocks_after 0 p.blocks)
 
 -- ---- lengths of code
 

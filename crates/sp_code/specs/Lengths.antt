@@ -1,6 +1,6 @@
--- All of this belongs to what the program promises (docs/promise.txt).
--- How many instructions the code of each part of a tree has: the table of lengths, which the limit of code is said by.
--- Laws promise that code as it is written has these lengths, so a tree too large is refused before code is made.
+-- None of this belongs to what the program promises: it is for contracts between crates.
+-- How many instructions the code of each part of a tree has: the table of lengths. Laws promise that code as it is
+-- written has these lengths, so a tree too large is refused before code is made.
 use Rattle.std.specs.Option.{option_map_or}
 use Rattle.std.specs.Prelude.{ℕ, ◌+◌, List, [], ◌∷◌, Option, length}
 use Rattle.sp_tree.specs.declared.operators.UnaryOp.{UnaryOp}
@@ -112,7 +112,3 @@ module _ (p : Program) where
   abbrev pub blocks_length : List Block → ℕ
   blocks_length [] = 0
   blocks_length (b ∷ bs) = stmt_length b.body + 1 + blocks_length bs
-
-  -- the length of a tree
-  abbrev pub tree_length : ℕ
-  tree_length = blocks_length p.blocks

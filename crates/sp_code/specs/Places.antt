@@ -1,6 +1,6 @@
 -- All of this belongs to what the program promises (docs/promise.txt).
--- Where the code of each part of a tree ends, from where it begins. Jumps and fork tables are said by it, here and in
--- the generator's contracts.
+-- Where the code of each part of a tree ends, from where it begins, and so the length of a tree. Jumps, fork tables and
+-- the limit of code are said by it, here and in the generator's contracts.
 use Rattle.std.specs.Option.{option_map_or}
 use Rattle.std.specs.Prelude.{ℕ, ◌+◌, ℤ, List, [], ◌∷◌, Option}
 use Rattle.sp_tree.specs.declared.operators.UnaryOp.{UnaryOp}
@@ -114,3 +114,12 @@ module _ (p : Program) where
   -- behind a block: its `return` or `end`
   abbrev pub after_block : ℕ → Block → ℕ
   after_block q b = after_statement q b.body + 1
+
+  -- behind all blocks
+  abbrev pub after_blocks : ℕ → List Block → ℕ
+  after_blocks q [] = q
+  after_blocks q (k ∷ ks) = after_blocks (after_block q k) ks
+
+  -- the length of a tree, which the limit of code is said by: where its code ends
+  abbrev pub tree_length : ℕ
+  tree_length = after_blocks 0 p.blocks

@@ -15,7 +15,8 @@ ghost use Rattle.sp_code.specs.System.{System, EntryLeads, IsSystem};
 ghost use Rattle.sp_code.specs.Ranks.{IsRanked, IsRankedAlong};
 ghost use Rattle.sp_code.specs.Budgets.{IsOver, most_steps};
 ghost use Rattle.sp_code.specs.Scopes.{Scope};
-ghost use Rattle.sp_code.specs.Lengths.{stmt_length, tree_length};
+ghost use Rattle.sp_code.specs.Lengths.{stmt_length};
+ghost use Rattle.sp_code.specs.Places.{tree_length};
 ghost use Rattle.sp_code.specs.TreeCode.{code, program_code};
 ghost use Rattle.sp_code.specs.CodeOfTree.{IsSoundBlock, BlocksAt};
 ghost use Rattle.sp_code.specs.NeverStops.{NeverStops};
@@ -53,8 +54,8 @@ pub fn systems_are_functions()
         → IsSystem plain g es u → t ≡ u }
 {}
 
-/// The code of a statement, and that of a whole program, has exactly the number of instructions that the table of
-/// lengths says.
+/// The code of a statement has exactly the number of instructions that the table of lengths says, and that of a whole
+/// program has the tree's length.
 pub fn code_has_its_length()
     ensures statement { (p : Program) (sc : List Scope) (t n q : ℕ) (s : Stmt)
         → length (code p sc t n q s) ≡ stmt_length p s }

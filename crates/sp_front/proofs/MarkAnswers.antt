@@ -6,7 +6,7 @@ use Rattle.sp_tree.specs.CheckedOf.{program_of}
 use Rattle.sp_tree.specs.declared.checked.Checked.{Checked}
 use Rattle.sp_tree.specs.Bare.{without_places}
 use Rattle.sp_code.specs.declared.code.Parts.{Parts}
-use Rattle.sp_code.specs.Lengths.{tree_length}
+use Rattle.sp_code.specs.Places.{tree_length}
 use Rattle.sp_generate.specs.GeneratorAnswers.{IsCodeOf}
 use Rattle.sp_lines.specs.declared.mark.Mark.{Mark}
 use Rattle.sp_lines.specs.Marks.{marks}

@@ -11,7 +11,7 @@ use Rattle.sp_tree.specs.CheckedOf.{program_of}
 use Rattle.sp_tree.specs.Places.{start}
 use Rattle.sp_tree.specs.PlainChecked as c
 use Rattle.sp_code.specs.declared.code.Parts.{Parts}
-use Rattle.sp_code.specs.Lengths.{tree_length}
+use Rattle.sp_code.specs.Places.{tree_length}
 use Rattle.sp_code.specs.Listing.{listing_text}
 use Rattle.sp_varsets.specs.AreSets.{AreSets}
 use Rattle.sp_front.specs.Compiles.{FirstBrokenOfPhases, IsAccepted}

@@ -7,7 +7,7 @@ use Rattle.sp_tree.specs.Bare.{without_places}
 use Rattle.sp_tree.specs.Breaches.{IsFirstBroken, IsTree}
 use Rattle.sp_tree.specs.CheckedOf.{program_of}
 use Rattle.sp_tree.specs.PlainSyntax as s
-use Rattle.sp_code.specs.Lengths.{tree_length}
+use Rattle.sp_code.specs.Places.{tree_length}
 use Rattle.sp_generate.specs.GeneratorAnswers.{IsCodeOf}
 use Rattle.sp_lines.specs.Marks.{marks}
 use Rattle.sp_shown.specs.Constants.{by_kind, constants_of}

@@ -6,7 +6,7 @@ use Rattle.sp_tree.specs.PlainChecked as c
 use Rattle.sp_tree.specs.Bare.{without_places}
 use Rattle.sp_tree.specs.Plain.{Program, Stmt}
 use Rattle.sp_code.specs.declared.code.Parts.{Parts}
-use Rattle.sp_code.specs.Lengths.{tree_length}
+use Rattle.sp_code.specs.Places.{tree_length}
 use Rattle.sp_code.specs.TreeCode.{program_code}
 use Rattle.sp_code.specs.Shares.{SetsAre}
 use Rattle.sp_length.specs.CappedLength.{capped_length}

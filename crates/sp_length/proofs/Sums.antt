@@ -1,11 +1,13 @@
 -- A told length is the same whatever part of it was told before.
-use Rattle.std.proofs.Common.{◌≡◌, ℕ, ◌+◌, true, false, refl, sym, arith, true≢false}
+use Rattle.std.proofs.Common.{◌≡◌, ℕ, ◌+◌, true, false, refl, sym, ap, arith, true≢false}
 use Rattle.std.specs.Prelude.{min}
 use Rattle.sp_base.proofs.Facts.{sum_capped}
-use Rattle.sp_tree.specs.Plain.{ExprForm, Selector, Index, Field, Selectors, Select, Whole, Actual, ByValue}
+use Rattle.sp_tree.specs.Plain.{Program, ExprForm, Selector, Index, Field, Selectors, Select, Whole, Actual, ByValue}
 use Rattle.sp_tree.specs.Plain.{ByReference, Actuals, Pass, Nothing}
 use Rattle.sp_code.specs.Scopes.{Sort, Ordinals, Channels, Many, NoSort}
-use Rattle.sp_code.specs.Lengths.{form_length, right_length, selectors_length, actuals_length}
+use Rattle.sp_code.specs.Lengths.{form_length, right_length, selectors_length, actuals_length, blocks_length}
+use Rattle.sp_code.specs.Places.{tree_length}
+use Rattle.sp_code.proofs.Counts.{tree_after}
 use Rattle.sp_length.specs.CappedLength.{capped_length}
 use Rattle.sp_length.specs.Trees.{is_many}
 
@@ -61,3 +63,7 @@ split_each m q b c r = omega arith
 pub each : (q b c r : ℕ) → capped_length (capped_length (capped_length (q + capped_length (1 + b)) + c) + r)
     ≡ capped_length (q + (b + c + 1 + r))
 each q b c r = split_each 4294967295 q b c r
+
+-- the sum over all blocks is the tree's length
+pub whole : (p : Program) → capped_length (blocks_length p p.blocks) ≡ capped_length (tree_length p)
+whole p = ap capped_length (sym (tree_after p))

@@ -2,7 +2,7 @@
 
 ghost use Rattle.std.specs.Prelude.{◌≡◌};
 ghost use Rattle.sp_tree.specs.PlainOf.{program_of};
-ghost use Rattle.sp_code.specs.Lengths.{tree_length};
+ghost use Rattle.sp_code.specs.Places.{tree_length};
 ghost use Rattle.sp_length.specs.CappedLength.{capped_length};
 
 use crate::statements::stmt_length;
@@ -11,7 +11,7 @@ use sp_tree::Checked;
 
 /// How many instructions the code of the program has, or 4,294,967,295 where it has more. It takes no memory. It
 /// recurses as deep as the tree is.
-#[tactic(auto, using(crate::proofs::Sums::summed))]
+#[tactic(auto, using(crate::proofs::Sums::summed, crate::proofs::Sums::whole))]
 pub fn length(program: &Checked) -> u32
     ensures { result ≡ capped_length (tree_length (program_of program.now)) }
 {

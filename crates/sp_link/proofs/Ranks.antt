@@ -28,9 +28,9 @@ use Rattle.sp_code.specs.Ranks.{ways, maximum_of, rank, IsRanked}
 use Rattle.sp_code.specs.Scopes.{Sort, Ordinals, Channels, Many, NoSort, Scope, OfIndex, is_given, kind_of, kind_at}
 use Rattle.sp_code.specs.Scopes.{sort, size, slot, element_type, field_type, type_by, type_of, scopes_of}
 use Rattle.sp_code.specs.CodeOfTree.{HasAt}
-use Rattle.sp_code.proofs.Blocks.{has_self, program_count}
+use Rattle.sp_code.proofs.Blocks.{has_self}
 use Rattle.sp_code.proofs.Counts.{value_count, value_after, test_after, tests_after, tests_count, stmt_after, all_after}
-use Rattle.sp_code.proofs.Counts.{arms_after, code_count, last_count}
+use Rattle.sp_code.proofs.Counts.{arms_after, code_count, last_count, blocks_count}
 use Rattle.sp_code.proofs.CodePositions.{has_front, has_back}
 use Rattle.sp_link.proofs.BoundedRanks.{AllMost, bounded_ranked, most_max}
 use Rattle.sp_link.proofs.StraightCode.{AllStraight, IsStraight, addr_straight, assign_straight, binary_straight, both}
@@ -561,6 +561,6 @@ ranked_by (x ∷ xs) h = bounded_ranked (x ∷ xs)
 pub program_ranked : (p : Program) (moves shares : Stmt → List ℕ) → IsRanked (program_code p moves shares).instrs
 program_ranked p moves shares =
     let all = (program_code p moves shares).instrs in
-    let c = program_count p moves shares in
+    let c = blocks_count p 0 0 0 0 p.blocks in
     ranked_by all (λ x l n. (let h = blocks all p 0 0 0 0 p.blocks (has_self all) x (omega arith) (omega (arith, l, c))
     n in omega (arith, h, c)))

@@ -7,7 +7,7 @@ use Rattle.std.specs.Prelude.{decimal, length}
 use Rattle.sp_base.specs.declared.limits.Limits.{Limits}
 use Rattle.sp_base.specs.declared.limits.Show.{Show}
 use Rattle.sp_base.specs.declared.limits.Show.TheVariants as show
-use Rattle.sp_code.specs.Lengths.{tree_length}
+use Rattle.sp_code.specs.Places.{tree_length}
 use Rattle.sp_execute.specs.declared.execution.Ran.{Ran}
 use Rattle.sp_execute.specs.Runs.{Executes, run_input}
 use Rattle.sp_execute.specs.Witnesses.{ShowsRace, witness_of}

@@ -19,7 +19,7 @@ ghost use Rattle.sp_types.specs.TypeFirst.{types_outcome};
 ghost use Rattle.sp_varsets.specs.AreSets.{AreSets, HaveOwnNumbers, HaveEarlierParents};
 ghost use Rattle.sp_interfere.specs.Rules.{rules_first};
 ghost use Rattle.sp_interfere.specs.Verdict.{IsVerdict};
-ghost use Rattle.sp_code.specs.Lengths.{tree_length};
+ghost use Rattle.sp_code.specs.Places.{tree_length};
 ghost use Rattle.sp_length.specs.CappedLength.{capped_length};
 ghost use Rattle.sp_lines.specs.Marks.{marks};
 ghost use Rattle.sp_generate.specs.GeneratorAnswers.{Answered};
