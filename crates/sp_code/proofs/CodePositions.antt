@@ -37,7 +37,7 @@ use Rattle.sp_code.specs.CodeOfTree.{SelectedAt, ActualsAt, OrdinalAt, WidthAt, 
 use Rattle.sp_code.specs.CodeOfTree.{StatementAt, AllAt, ChildrenAt, ArmsAt}
 use Rattle.sp_code.proofs.Counts.{value_after, form_after, var_after, actuals_after, width_after, tests_after}
 use Rattle.sp_code.proofs.Counts.{stmt_after, value_count, form_count, var_count, actuals_count, width_count}
-use Rattle.sp_code.proofs.Counts.{tests_count, code_count, texts_count, tables_count}
+use Rattle.sp_code.proofs.Counts.{tests_count, code_count, tables_count}
 
 -- the first part of what stands at q, and the part behind it
 pub has_front : {X : Type 0} (xs : List X) (q : ℕ) (a b : List X) → HasAt xs q (a ++ b) → HasAt xs q a
@@ -104,7 +104,7 @@ module _ (p : Program) (moves shares : Stmt → List ℕ) (all : Parts) (callabl
   tables_stop t q s = ap (λ (m : ℕ). t + m) (tables_count p moves shares q s)
 
   pub texts_stop : (n : ℕ) (s : Stmt) → n + length (texts_of s) ≡ n + texts_in s
-  texts_stop n s = ap (λ (m : ℕ). n + m) (texts_count s)
+  texts_stop n s = refl
 
   -- ---- variables and operators
 

@@ -24,8 +24,8 @@ use Rattle.sp_code.specs.Lengths.{unary_length, standard_length, value_length, f
 use Rattle.sp_code.specs.Lengths.{selectors_length, actuals_length, width_length, right_length, tests_length}
 use Rattle.sp_code.specs.Lengths.{stmt_length, all_length, children_length, arms_length, blocks_length}
 use Rattle.sp_code.specs.TreeCode.{unary_code, binary_instr, standard_code, write_instr, assign_instr, test_code}
-use Rattle.sp_code.specs.TreeCode.{tables_in, tables_in_all, tables_in_arms, texts_of, texts_of_all, texts_of_arms}
-use Rattle.sp_code.specs.TreeCode.{texts_in, texts_in_all, texts_in_arms, end_instr, value_code, form_code, var_code}
+use Rattle.sp_code.specs.TreeCode.{tables_in, tables_in_all, tables_in_arms}
+use Rattle.sp_code.specs.TreeCode.{texts_in, end_instr, value_code, form_code, var_code}
 use Rattle.sp_code.specs.TreeCode.{selectors_code, actuals_code, width_code, right_code, tests_code, code, code_all}
 use Rattle.sp_code.specs.TreeCode.{code_children, code_arms, block_code, blocks_code, tables, tables_all}
 use Rattle.sp_code.specs.TreeCode.{tables_children, tables_arms}
@@ -336,33 +336,11 @@ module _ (p : Program) where
       (last_count (code p (scopes_of p b) t n q k.body) (end_instr b) _ (code_count (scopes_of p b) t n q k.body))
       (blocks_count (suc b) (t + tables_in k.body) (n + texts_in k.body) (after_block p q k) ks)
 
--- ---- how many fork tables and texts
+-- ---- how many fork tables
 
 -- of two lists
 parts_count : {X : Type 0} (xs ys : List X) (m n : ℕ) → length xs ≡ m → length ys ≡ n → length (xs ++ ys) ≡ m + n
 parts_count xs ys m n e f = omega (arith, length-append xs ys, e, f)
-
-mutual
-  pub texts_count : (s : Stmt) → length (texts_of s) ≡ texts_in s
-  texts_count (Sequence ss) = texts_all_count ss
-  texts_count (If e a) = texts_count a
-  texts_count (IfElse e a b) = parts_count (texts_of a) (texts_of b) _ _ (texts_count a) (texts_count b)
-  texts_count (While e s) = texts_count s
-  texts_count (Repeat s e) = texts_count s
-  texts_count (For x from down to s) = texts_count s
-  texts_count (Case e arms) = texts_arms_count arms
-  texts_count (Parallel ss) = texts_all_count ss
-  texts_count (Forall x from to s) = texts_count s
-  texts_count _ = refl
-
-  pub texts_all_count : (ss : Stmts) → length (texts_of_all ss) ≡ texts_in_all ss
-  texts_all_count No = refl
-  texts_all_count (And s rest) = parts_count (texts_of s) (texts_of_all rest) _ _ (texts_count s) (texts_all_count rest)
-
-  pub texts_arms_count : (arms : Arms) → length (texts_of_arms arms) ≡ texts_in_arms arms
-  texts_arms_count NoArm = refl
-  texts_arms_count (Or (On ms s) rest) = parts_count (texts_of s) (texts_of_arms rest) _ _ (texts_count s)
-      (texts_arms_count rest)
 
 module _ (p : Program) (moves shares : Stmt → List ℕ) where
   abbrev T : ℕ → Stmt → List ForkTable

@@ -3,7 +3,7 @@
 -- and the proof of generated code reads it: it is said in lists, with no labels to be filled in later.
 use Rattle.std.specs.Option.{option_map_or}
 use Rattle.std.specs.Prelude.{ℕ, suc, ◌+◌, ◌==◌, ℤ, pos, List, [], ◌∷◌, ◌++◌, Option, Some, None, Bool, if◌then◌else◌}
-use Rattle.std.specs.Prelude.{slice_get, map}
+use Rattle.std.specs.Prelude.{slice_get, map, length}
 use Rattle.sp_tree.specs.Cells.{cells_by, sizes}
 use Rattle.sp_tree.specs.declared.checked.KindOf.{KindOf}
 use Rattle.sp_tree.specs.declared.checked.KindOf.TheVariants as kind
@@ -137,7 +137,7 @@ abbrev pub test_code : List ℤ → ℕ → List Instr
 test_code [] b = []
 test_code (m ∷ ms) b = i.Casej m b ∷ test_code ms b
 
--- how many fork tables and written texts a statement has
+-- how many fork tables a statement has
 abbrev mutual
   pub tables_in : Stmt → ℕ
   tables_in (Sequence ss) = tables_in_all ss
@@ -159,7 +159,7 @@ abbrev mutual
   tables_in_arms NoArm = 0
   tables_in_arms (Or (On ms s) rest) = tables_in s + tables_in_arms rest
 
--- the written texts of a statement, in order
+-- the written texts of a statement, in order, and how many there are
 abbrev mutual
   pub texts_of : Stmt → List (List ℕ)
   texts_of (Sequence ss) = texts_of_all ss
@@ -182,27 +182,8 @@ abbrev mutual
   texts_of_arms NoArm = []
   texts_of_arms (Or (On ms s) rest) = texts_of s ++ texts_of_arms rest
 
-abbrev mutual
-  pub texts_in : Stmt → ℕ
-  texts_in (Sequence ss) = texts_in_all ss
-  texts_in (If e a) = texts_in a
-  texts_in (IfElse e a b) = texts_in a + texts_in b
-  texts_in (While e s) = texts_in s
-  texts_in (Repeat s e) = texts_in s
-  texts_in (For x from down to s) = texts_in s
-  texts_in (Case e arms) = texts_in_arms arms
-  texts_in (Parallel ss) = texts_in_all ss
-  texts_in (Forall x from to s) = texts_in s
-  texts_in (WriteText t w) = 1
-  texts_in _ = 0
-
-  pub texts_in_all : Stmts → ℕ
-  texts_in_all No = 0
-  texts_in_all (And s rest) = texts_in s + texts_in_all rest
-
-  pub texts_in_arms : Arms → ℕ
-  texts_in_arms NoArm = 0
-  texts_in_arms (Or (On ms s) rest) = texts_in s + texts_in_arms rest
+abbrev pub texts_in : Stmt → ℕ
+texts_in s = length (texts_of s)
 
 -- at the end of a block: the program ends, any other returns
 abbrev pub end_instr : ℕ → Instr

@@ -18,7 +18,7 @@ use Rattle.sp_code.specs.TreeCode.{value_code, var_code, width_code, write_instr
 use Rattle.sp_code.specs.TreeCode.{code_all, code_children, code_arms, tables_in, tables_in_all, tables_in_arms}
 use Rattle.sp_code.specs.TreeCode.{texts_in, texts_of, texts_of_all, texts_of_arms}
 use Rattle.sp_code.proofs.Counts.{value_after, value_count, stmt_after, code_count, children_after, children_count}
-use Rattle.sp_code.proofs.Counts.{arms_after, arms_count, tests_after, tests_count, texts_count}
+use Rattle.sp_code.proofs.Counts.{arms_after, arms_count, tests_after, tests_count}
 use Rattle.sp_generate.specs.CodeBuffers.{WrittenCode}
 use Rattle.sp_generate.specs.Views.{call_code}
 use Rattle.sp_generate.specs.Steps.{for_instr, next_instr}
@@ -278,7 +278,7 @@ module _ (p : b.Program) (mv sh : ℕ → List ℕ) (sc : List Scope) where
   forks_place ts q s = two_of ts (tables p mv sh q s) _ (tables_count q s)
 
   pub texts_place : (xs : List (List ℕ)) (s : b.Stmt) → length (xs ++ texts_of s) ≡ length xs + texts_in s
-  texts_place xs s = two_of xs (texts_of s) _ (texts_count s)
+  texts_place xs s = two_of xs (texts_of s) (texts_in s) refl
 
   -- ---- sequences
 
