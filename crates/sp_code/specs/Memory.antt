@@ -1,7 +1,7 @@
 -- All of this belongs to what the program promises (docs/promise.txt).
 -- The memory of a process: its frames and its counts beside its store. It is the memory with which the machine's
 -- definition runs; the store is left open, for the plain maps of PlainStore.antt.
-use Rattle.std.specs.Prelude.{option_map}
+use Rattle.std.specs.Option.{option_map, option_map_or, unwrap_or}
 use Rattle.std.specs.Prelude.{ℕ, zero, suc, ◌+◌, ◌-◌, pos, nat_abs, List, [], ◌∷◌, Option, Some, None, Bool, true}
 use Rattle.std.specs.Prelude.{false, ◌&&◌, if◌then◌else◌, nat_lt, nat_le, length, drop, sum, slice_set, slice_index_or}
 use Rattle.sp_base.specs.declared.fault.Fault.TheVariants as fault
@@ -111,8 +111,7 @@ references k (e ∷ es) = references (suc k) es
 
 -- the cells of a layout's frame; a block that is not there has none
 abbrev pub sizes_of : Option Layout → List ℕ
-sizes_of None = []
-sizes_of (Some l) = l.sizes
+sizes_of l = option_map_or (λ l. l.sizes) l []
 
 abbrev pub cells_of_home : List Layout → Home → ℕ
 cells_of_home ls (OfBlock b) = sum (sizes_of (layout_of ls b))
@@ -135,13 +134,11 @@ answer_in ls (f ∷ fs) = answer_of ls f.number f.home
 
 -- the cells, or none
 abbrev pub cells_in : Option (List Cell) → List Cell
-cells_in None = []
-cells_in (Some cs) = cs
+cells_in cs = unwrap_or cs []
 
 -- so many cells from an offset on
 abbrev pub has_cells : Option (List Cell) → ℕ → ℕ → Bool
-has_cells None offset k = false
-has_cells (Some cs) offset k = nat_le (offset + k) (length cs)
+has_cells cs offset k = option_map_or (λ cs. nat_le (offset + k) (length cs)) cs false
 
 -- the input's position is variable 0 of frame 0
 abbrev pub position_at : Address
@@ -154,20 +151,17 @@ position_in _ = None
 
 -- the input from a position on
 abbrev pub left_after : List ℕ → Option ℕ → Option (List ℕ)
-left_after input None = None
-left_after input (Some n) = Some (drop n input)
+left_after input n = option_map (λ n. drop n input) n
 
 abbrev pub or_zero : Option ℕ → ℕ
-or_zero None = 0
-or_zero (Some n) = n
+or_zero n = unwrap_or n 0
 
 abbrev pub is_held : {A : Type 0} → Option A → Bool
 is_held None = false
 is_held (Some x) = true
 
 abbrev pub bytes_in : Option (List ℕ) → List ℕ
-bytes_in None = []
-bytes_in (Some bs) = bs
+bytes_in bs = unwrap_or bs []
 
 module _ {S : Type 0} (stores : Stores S) where
   -- the memory with another store
@@ -280,8 +274,7 @@ module _ {S : Type 0} (stores : Stores S) where
 
     -- where a block's code begins
     abbrev pub entry_of : Option Layout → ℕ
-    entry_of None = 0
-    entry_of (Some l) = l.entry
+    entry_of l = option_map_or (λ l. l.entry) l 0
 
     -- the first process of a run
     abbrev pub first_process : Config (Memory S)

@@ -1,7 +1,7 @@
 -- Some of this belongs to what the program promises (docs/promise.txt).
 -- The system of all processes of a run of code, along a journal. The laws of histories and the kernel's contracts
 -- speak of it, and sp_link compares it with the meaning: a step for each entry, with no worker and no queue in it.
-use Rattle.std.specs.Option.{option_map_or}
+use Rattle.std.specs.Option.{option_and_then, option_map, option_map_or, unwrap_or}
 use Rattle.std.specs.Prelude.{◌≡◌, ℕ, zero, suc, ◌+◌, ◌-◌, ◌==◌, ℤ, pos, ◌+ℤ◌, List, [], ◌∷◌, Option, Some, None, Bool}
 use Rattle.std.specs.Prelude.{true, false, if◌then◌else◌, cond, nat_lt, length, slice_get}
 use Rattle.sp_base.specs.declared.fault.Fault.{Fault}
@@ -47,8 +47,7 @@ first_number l = if l.block == 0 then 2 else 0
 
 -- a variable parameter stands for the entire variable that it refers to
 abbrev pub spot_of_address : Option Address → Option Spot
-spot_of_address None = None
-spot_of_address (Some a) = Some a.spot
+spot_of_address a = option_map (λ a. a.spot) a
 
 -- where variable k of a frame stands, by its formal if it is a parameter
 abbrev pub spot_by : Frame → ℕ → Option Formal → Option Spot
@@ -57,12 +56,10 @@ spot_by f k _ = Some (record { frame = f.number; variable = k })
 
 -- the same of a variable with this place among the layout's
 abbrev pub spot_at : Frame → Layout → Option ℕ → Option Spot
-spot_at f l None = None
-spot_at f l (Some k) = spot_by f k (slice_get l.formals k)
+spot_at f l k = option_and_then (λ k. spot_by f k (slice_get l.formals k)) k
 
 abbrev pub spot_of_layout : Frame → ℕ → Option Layout → Option Spot
-spot_of_layout f x None = None
-spot_of_layout f x (Some l) = spot_at f l (place_of x (first_number l) l.variables)
+spot_of_layout f x l = option_and_then (λ l. spot_at f l (place_of x (first_number l) l.variables)) l
 
 -- where variable x of the tree stands in a frame, if it is one of its variables
 abbrev pub spot_in : List Layout → Frame → Home → ℕ → Option Spot
@@ -94,8 +91,7 @@ spots_of ls fs (x ∷ xs) = with_spot (spot_of ls fs x) (spots_of ls fs xs)
 
 -- the index of child k of a forall
 abbrev pub index_by : ℤ → ℕ → Option ℕ → Option (ℕ × ℤ)
-index_by value k None = None
-index_by value k (Some x) = Some (0, value +ℤ pos k)
+index_by value k x = option_map (λ x. (0, value +ℤ pos k)) x
 
 -- what child k is handed
 abbrev pub handing_of : List Layout → List Frame → ℤ → ℕ → ChildTable → Handing
@@ -107,12 +103,10 @@ abbrev pub no_child : ChildTable
 no_child = record { entry = 0; moved = []; shared = []; index = None }
 
 abbrev pub child_or : Option ChildTable → ChildTable
-child_or None = no_child
-child_or (Some c) = c
+child_or c = unwrap_or c no_child
 
 abbrev pub table_or : Option ForkTable → ForkTable
-table_or None = record { children = [] }
-table_or (Some t) = t
+table_or t = unwrap_or t (record { children = [] })
 
 -- the handings of children i to i + n - 1
 abbrev pub plan_from : List Layout → List Frame → ForkTable → ℤ → ℕ → ℕ → List Handing
@@ -185,8 +179,7 @@ module _ {S : Type 0} where
 
   -- what the process waits with whose offer is pending
   abbrev pub pending_stop : System S → Option ℕ → Option Stop
-  pending_stop s None = None
-  pending_stop s (Some z) = stop_of (s.condition z)
+  pending_stop s z = option_and_then (λ z. stop_of (s.condition z)) z
 
   -- the fault of the total that would pass its limit: first F15, then F13 or F14
   abbrev pub one_more_entry : Limits → System S → Option Fault → Option Fault

@@ -1,7 +1,7 @@
 -- All of this belongs to what the program promises (docs/promise.txt).
 -- The code of each part of a tree, as a list of instructions; its fork tables and texts. The generator promises it,
 -- and the proof of generated code reads it: it is said in lists, with no labels to be filled in later.
-use Rattle.std.specs.Option.{option_map_or}
+use Rattle.std.specs.Option.{option_map_or, unwrap_or}
 use Rattle.std.specs.Prelude.{ℕ, suc, ◌+◌, ◌==◌, ℤ, pos, List, [], ◌∷◌, ◌++◌, Option, Some, None, Bool, if◌then◌else◌}
 use Rattle.std.specs.Prelude.{slice_get, map, length}
 use Rattle.sp_tree.specs.Cells.{cells_by, sizes}
@@ -36,8 +36,7 @@ use Rattle.sp_code.specs.Places.{after_value, after_tests, after_statement, afte
 
 -- a level, where there is one; 0 stands for a level that no accepted tree asks for
 abbrev pub or_none : Option ℕ → ℕ
-or_none None = 0
-or_none (Some n) = n
+or_none n = unwrap_or n 0
 
 -- an operator, where it has an instruction
 abbrev pub unary_code : UnaryOp → List Instr
@@ -245,8 +244,7 @@ module _ (p : Program) where
     actuals_code sc (Pass (ByReference v) rest) = var_code sc v ++ actuals_code sc rest
 
   abbrev pub width_code : List Scope → Option Expr → List Instr
-  width_code sc None = []
-  width_code sc (Some e) = value_code sc e
+  width_code sc e = option_map_or (value_code sc) e []
 
   -- the right side of an assignment
   abbrev pub right_code : List Scope → ℕ → Sort → ExprForm → List Instr
@@ -336,13 +334,11 @@ module _ (p : Program) where
   -- ---- layouts
 
   abbrev pub cells_of : Option Variable → ℕ
-  cells_of None = 0
-  cells_of (Some v) = cells_by (sizes p.kinds) v.role v.kind
+  cells_of v = option_map_or (λ v. cells_by (sizes p.kinds) v.role v.kind) v 0
 
   -- a parameter as a formal
   abbrev pub formal_by : Option Variable → Formal
-  formal_by None = formal.Value 0
-  formal_by (Some v) = formal_of v.role (size p v.kind)
+  formal_by v = option_map_or (λ v. formal_of v.role (size p v.kind)) v (formal.Value 0)
 
   -- the layout of block b, whose code stands at q
   abbrev pub layout_of : (b q : ℕ) → Block → Layout
