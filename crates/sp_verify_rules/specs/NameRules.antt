@@ -1,6 +1,7 @@
 -- All of this belongs to what the program promises (docs/promise.txt).
 -- Rule V1 of code files, point by point: what code names is there, layouts and tables are sound in themselves, and each
 -- instruction stands where it may. Each point says at which instruction it is broken.
+pub use Rattle.std.specs.Option.{is_some, is_none}
 use Rattle.std.specs.Prelude.{◌≡◌, ◌⊎◌, ◌≢◌, ℕ, ◌+◌, ◌≤◌, ◌<◌, ◌==◌, List, [], ◌∷◌, ◌++◌, Option, Some, None, Bool}
 use Rattle.std.specs.Prelude.{true, false, ◌&&◌, ◌||◌, not, slice_get, length, nat_lt}
 use Rattle.sp_tree.specs.Interference.{IsMember}
@@ -19,17 +20,9 @@ use Rattle.sp_verify_rules.specs.Areas.{instr_at}
 use Rattle.sp_verify_rules.specs.Areas.{table_named, child_of, homes, variable_at, leads_by}
 use Rattle.sp_verify_rules.specs.Reach.{IsArea, IsInCodeOf, nexts}
 
-abbrev pub is_some : {T : Type 0} → Option T → Bool
-is_some None = false
-is_some (Some x) = true
-
 abbrev pub is_in : ℕ → List ℕ → Bool
 is_in x [] = false
 is_in x (y ∷ ys) = (x == y) || is_in x ys
-
-abbrev pub is_none : {T : Type 0} → Option T → Bool
-is_none None = true
-is_none (Some x) = false
 
 -- ---- layouts
 
