@@ -1,6 +1,7 @@
 -- All of this belongs to what the program promises (docs/promise.txt).
 -- The system of all processes along a journal, with what is told of each entry: at which instruction its turn ended,
 -- and the message that passes there.
+use Rattle.std.specs.Option.{option_map}
 use Rattle.std.specs.Prelude.{◌≡◌, ℕ, ◌==◌, List, [], ◌∷◌, Option, Some, None}
 use Rattle.sp_cell.specs.declared.cell.Cell.{Cell}
 use Rattle.sp_cell.specs.Map.{Plain}
@@ -22,8 +23,7 @@ sent_by _ = None
 
 -- a message of this type, if one has these cells
 abbrev pub of_type : (message : ℕ) → Option (List Cell) → Option (ℕ × List Cell)
-of_type k None = None
-of_type k (Some cells) = Some (k, cells)
+of_type k cells = option_map (λ cells. (k, cells)) cells
 
 -- the type and the cells of the message of a stop: what is sent, or what a waiting send has that a receive meets
 abbrev pub passes_at : System Plain → Stop → Option (ℕ × List Cell)

@@ -1,7 +1,8 @@
 -- All of this belongs to what the program promises (docs/promise.txt).
 -- Expressions, variables and arguments, evaluated from left to right. Actions are made of it; each evaluation
 -- is a tree of reads and writes.
-use Rattle.std.specs.Prelude.{ℕ, ◌==◌, ℤ, pos, ◌-ℤ◌, nat_abs, int_le, List, [], ◌∷◌, ◌++◌, Option, Some, None, ◌&&◌}
+use Rattle.std.specs.Option.{option_map}
+use Rattle.std.specs.Prelude.{ℕ, ◌==◌, ℤ, pos, ◌-ℤ◌, nat_abs, int_le, List, [], ◌∷◌, ◌++◌, Option, None, ◌&&◌}
 use Rattle.std.specs.Prelude.{not, if◌then◌else◌, length, drop, slice_get}
 use Rattle.sp_base.specs.declared.fault.Fault.TheVariants as fault
 use Rattle.sp_tree.specs.declared.checked.KindOf.{KindOf}
@@ -116,11 +117,7 @@ element_at a n (kind.Array low high index element) =
 element_at _ _ _ = ill_formed
 
 abbrev pub field_kind : ℕ → KindOf → Option ℕ
-field_kind f (kind.Fields fs) = second (slice_get fs f)
-  where
-    second : Option (List ℕ × ℕ) → Option ℕ
-    second None = None
-    second (Some x) = Some x.1
+field_kind f (kind.Fields fs) = option_map (λ x. x.1) (slice_get fs f)
 field_kind _ _ = None
 
 module _ (g : RunInput) where
