@@ -65,5 +65,7 @@ pub each : (q b c r : ℕ) → capped_length (capped_length (capped_length (q + 
 each q b c r = split_each 4294967295 q b c r
 
 -- the sum over all blocks is the tree's length
-pub whole : (p : Program) → capped_length (blocks_length p p.blocks) ≡ capped_length (tree_length p)
-whole p = ap capped_length (sym (tree_after p))
+pub whole : (p : Program) → capped_length (0 + blocks_length p p.blocks) ≡ capped_length (tree_length p)
+whole p =
+    let same : 0 + blocks_length p p.blocks ≡ tree_length p = omega (arith, tree_after p) in
+    ap capped_length same

@@ -11,7 +11,7 @@ use sp_tree::Checked;
 
 /// How many instructions the code of the program has, or 4,294,967,295 where it has more. It takes no memory. It
 /// recurses as deep as the tree is.
-#[tactic(auto, using(crate::proofs::Sums::summed, crate::proofs::Sums::whole))]
+#[tactic(auto, using(crate::proofs::Sums::summed))]
 pub fn length(program: &Checked) -> u32
     ensures { result ≡ capped_length (tree_length (program_of program.now)) }
 {

@@ -1,7 +1,7 @@
 use Rattle.std.proofs.Common.{rules, ◌≡◌, map}
 use Rattle.sp_tree.specs.declared.checked.Form.TheFolds as folds
 use Rattle.sp_tree.specs.Plain.{Sequence}
-use Rattle.sp_tree.specs.PlainOf.{sends, receives, stmt_form_of}
+use Rattle.sp_tree.specs.PlainOf.{stmt_form_of}
 use Rattle.sp_tree.specs.CheckedOf as placed
 use Rattle.sp_tree.specs.Bare.{bare_statements}
 use Rattle.sp_tree.proofs.SingleStatements.{sends_bare, receives_bare}
