@@ -9,7 +9,6 @@ use sp_lines::Mark;
 use sp_tree::Checked;
 
 /// What a text's tree tells of its code: types, names and places.
-#[derive(Drop)]
 pub struct Symbols {
     /// The tree.
     pub checked: Checked,
@@ -17,6 +16,17 @@ pub struct Symbols {
     pub marks: List<Mark>,
     /// By the number of a type, the names of the constants of an enumeration, in order.
     pub constants: List<List<Text>>,
+}
+
+// By hand, so that it is proved once, here, and not in each crate that drops such a value.
+impl Drop for Symbols {
+    fn drop(self) {
+        let Symbols {
+            checked: _,
+            marks: _,
+            constants: _,
+        } = self;
+    }
 }
 
 /// The place of an instruction that no text has.
