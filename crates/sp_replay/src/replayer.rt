@@ -6,7 +6,6 @@ ghost use Rattle.sp_code.specs.declared.code.Parts.{Parts};
 ghost use Rattle.sp_code.specs.Sound.{IsSound, AreLimits, run_of};
 ghost use Rattle.sp_kernel.specs.Kernels.{code_run_of};
 ghost use Rattle.sp_machine.specs.FirstFrames.{first_fits as fits_first};
-ghost use Rattle.sp_replay.specs.declared.replayer.ReplayError.TheVariants.{Memory as OutOfMemory};
 ghost use Rattle.sp_replay.specs.FollowInvariant.{HoldsAllReady, RunsOn};
 ghost use Rattle.sp_replay.specs.Replays.{Replays};
 
@@ -40,14 +39,6 @@ pub enum ReplayError {
     /// Memory was refused.
     #[error("out of memory")]
     Memory,
-}
-
-impl From<Memory> for ReplayError {
-    ghost from_gives = { λ _ e. e ≡ OutOfMemory };
-
-    fn from(_error: Memory) -> ReplayError {
-        ReplayError::Memory
-    }
 }
 
 // The run at its start.
