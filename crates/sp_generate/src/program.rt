@@ -4,7 +4,6 @@ ghost use Rattle.std.specs.Prelude.{◌≡◌, ◌<◌, ◌↔◌, IsTrue, IfOk,
 ghost use Rattle.sp_tree.specs.CheckedOf.{program_of, block_of};
 ghost use Rattle.sp_writer.specs.Adds.{Keeps};
 ghost use Rattle.sp_generate.specs.BuffersAfter.{written, with_blocks, layouts_in};
-ghost use Rattle.sp_generate.specs.declared.program.GenError.TheVariants.{Memory as OutOfMemory};
 ghost use Rattle.sp_varsets.specs.AreSets.{AreSets};
 ghost use Rattle.sp_generate.specs.NumberedCode.{numbered_code};
 ghost use Rattle.sp_generate.specs.GeneratorAnswers.{Answered};
@@ -33,14 +32,6 @@ pub enum GenError {
     /// Memory was refused, or the forks would hand too much over.
     #[error("out of memory")]
     Memory,
-}
-
-impl From<Memory> for GenError {
-    ghost from_gives = { λ _ e. e ≡ OutOfMemory };
-
-    fn from(_error: Memory) -> GenError {
-        GenError::Memory
-    }
 }
 
 /// All blocks, in order, and their layouts.
@@ -128,6 +119,8 @@ pub fn generate(alloc: Global, checked: &Checked, sets: &Sets) -> Result<Code, G
     if hands_too_much(checked, sets) {
         return Err(GenError::Memory);
     }
-    let code = code_of(alloc, checked, sets)?;
-    Ok(code)
+    match code_of(alloc, checked, sets) {
+        Ok(code) => Ok(code),
+        Err(_) => Err(GenError::Memory),
+    }
 }
