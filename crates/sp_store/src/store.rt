@@ -34,11 +34,21 @@ use std::sync::Arc;
 /// The variables that one process holds. Contracts see the plain map from spots to what is own, shared, the output or
 /// away, the numbers of the own frames, the newest last, and the spots that were moved here when the store was made.
 /// Frame 0 of a run and the frame of an index are no own frames.
-#[derive(Drop)]
 pub struct Store {
     pub(crate) slots: Slots,
     own: Vec<u64>,
     moved: List<Spot>,
+}
+
+// By hand, so that it is proved once, here, and not in each crate that drops a store.
+impl Drop for Store {
+    fn drop(self) {
+        let Store {
+            slots: _,
+            own: _,
+            moved: _,
+        } = self;
+    }
 }
 
 impl Model for Store {
