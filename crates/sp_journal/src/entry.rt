@@ -39,9 +39,16 @@ pub struct Entry {
 }
 
 /// The one record of a run: its events in their order.
-#[derive(Drop, PartialEq, Eq)]
+#[derive(PartialEq, Eq)]
 pub struct Journal {
     pub entries: List<Entry>,
+}
+
+// By hand, so that it is proved once, here, and not in each crate that drops a journal.
+impl Drop for Journal {
+    fn drop(self) {
+        let Journal { entries: _ } = self;
+    }
 }
 
 /// How a process came to be: by which process, which of that one's forks, and as which child of it. Forks and

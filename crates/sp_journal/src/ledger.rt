@@ -31,14 +31,27 @@ pub(crate) struct Made {
 /// A journal that grows entry by entry, with the tables of what its entries have given so far. Every name of it is
 /// found in time of the name's length and the logarithm of the forks, so who needs many names of a journal asks a
 /// ledger. A fork takes one place however many children it has.
-#[derive(Drop)]
 pub struct Ledger {
     journal: Journal,
     processes: u64,
     families: List<Family>,
     openings: List<Opening>,
     made: HashMap<u32, Made>,
-    alloc: Global,
+    pub(crate) alloc: Global,
+}
+
+// By hand, so that it is proved once, here, and not at each place that drops a ledger.
+impl Drop for Ledger {
+    fn drop(self) {
+        let Ledger {
+            journal: _,
+            processes: _,
+            families: _,
+            openings: _,
+            made: _,
+            alloc: _,
+        } = self;
+    }
 }
 
 impl Ledger {
@@ -75,7 +88,14 @@ impl Ledger {
     pub fn into_journal(self) -> Journal
         ensures { result ≡ self.journal }
     {
-        let Ledger { journal, .. } = self;
+        let Ledger {
+            journal,
+            processes: _,
+            families: _,
+            openings: _,
+            made: _,
+            alloc: _,
+        } = self;
         journal
     }
 

@@ -1,18 +1,27 @@
-//! How a run ends, and the verdict on it.
+//! How a run ends, and the verdict on it. The drops are by hand, so that each is proved once, here, and not in each
+//! crate that drops such a value.
 
 use crate::entry::Way;
 use sp_base::{ChanName, Fault, List, ProcName};
 
 /// A process that waits at the end of a run, and for what.
-#[derive(Drop)]
 pub struct Waiter {
     pub process: ProcName,
     pub way: Way,
     pub channel: ChanName,
 }
 
+impl Drop for Waiter {
+    fn drop(self) {
+        let Waiter {
+            process: _,
+            way: _,
+            channel: _,
+        } = self;
+    }
+}
+
 /// How a run ends.
-#[derive(Drop)]
 pub enum End {
     /// The root ended.
     Done,
@@ -24,8 +33,21 @@ pub enum End {
     Memory,
 }
 
+impl Drop for End {
+    fn drop(self) {
+        match self {
+            End::Done | End::Memory => {}
+            End::Deadlock(_) => {}
+            End::Fault {
+                process: _,
+                fault: _,
+            } => {}
+        }
+    }
+}
+
 /// Whether the result of a run depends on the schedule.
-#[derive(Drop, PartialEq, Eq)]
+#[derive(PartialEq, Eq)]
 pub enum Verdict {
     /// It does not.
     Ordered,
@@ -39,4 +61,18 @@ pub enum Verdict {
     },
     /// The run ended by a fault and was not judged.
     Unjudged,
+}
+
+impl Drop for Verdict {
+    fn drop(self) {
+        match self {
+            Verdict::Ordered | Verdict::Unjudged => {}
+            Verdict::Race {
+                way: _,
+                channel: _,
+                earlier: _,
+                later: _,
+            } => {}
+        }
+    }
 }

@@ -23,7 +23,6 @@ use std::alloc::Global;
 use std::collections::HashMap;
 
 /// What has been read so far, and how the names of it are found by their texts.
-#[derive(Drop)]
 pub(crate) struct Reader {
     alloc: Global,
     version: Version,
@@ -32,6 +31,19 @@ pub(crate) struct Reader {
     families: HashMap<String, u64>,
     /// By the name of each channel its number.
     channels: HashMap<String, u32>,
+}
+
+// By hand, so that it is one call on each way out of `read_journal`.
+impl Drop for Reader {
+    fn drop(self) {
+        let Reader {
+            alloc: _,
+            version: _,
+            ledger: _,
+            families: _,
+            channels: _,
+        } = self;
+    }
 }
 
 impl Reader {
@@ -54,7 +66,13 @@ impl Reader {
     pub(crate) fn into_journal(self) -> Journal
         ensures { result ≡ self.ledger.journal }
     {
-        let Reader { ledger, .. } = self;
+        let Reader {
+            alloc: _,
+            version: _,
+            ledger,
+            families: _,
+            channels: _,
+        } = self;
         ledger.into_journal()
     }
 
