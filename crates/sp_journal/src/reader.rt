@@ -104,7 +104,8 @@ impl Reader {
     /// The event that these words tell. Other bytes may give any answer.
     fn told(&self, word: &[u8], of: &[u8]) -> Option<Event>
         requires { IsReader self.now }
-        ensures fork { (n : ℕ) → n < 2 ^ 32 → word.now ≡ codes "fork" → of.now ≡ decimal n → result ≡ Some (event.Fork n) }
+        ensures fork { (n : ℕ) → n < 2 ^ 32 → word.now ≡ codes "fork" → of.now ≡ decimal n
+            → result ≡ Some (event.Fork n) }
         ensures send { (c : ℕ) → c < (births_read self.now).channels → word.now ≡ codes "send"
             → of.now ≡ channel_text (chan_name (channel (births_read self.now) c)) → result ≡ Some (event.Send c) }
         ensures receive { (c : ℕ) → c < (births_read self.now).channels → word.now ≡ codes "receive"
