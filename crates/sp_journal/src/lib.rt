@@ -13,7 +13,7 @@
 //! - `Ledger::processes`, `channels`: how many there are. `birth`, `name`, `channel`: exactly what the journal gives
 //!   to a number that is there. `into_journal`: the journal alone.
 //! - `Ledger::put_entry`: puts exactly the text of an entry that can come next last, or leaves the bytes as before.
-//!   `Way::word`: the way's text.
+//!   `put_entry_text`: the same into a writer. `Way::word`: the way's text.
 //! - `split_first`: what stands before and after the first of a byte. `text_of`: ASCII bytes as a text. Both are for
 //!   readers of texts, that of code files too.
 //! - Types: `Entry`, `Event`, `Way`, `Birth`, `Opening`; `Note` (what one call of the kernel did); `End`, `Waiter`
@@ -64,4 +64,4 @@ pub use journal_reader::{ReadError, read_journal};
 pub use law::one_journal_of_a_text;
 pub use ledger::Ledger;
 pub use outcome::{End, Verdict, Waiter};
-pub use print::print_journal;
+pub use print::{print_journal, put_entry_text};

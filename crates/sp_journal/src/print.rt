@@ -92,8 +92,9 @@ fn put_event(out: &mut Writer<u8>, ledger: &Ledger, entry: Entry)
     }
 }
 
-/// Puts the text of an entry that can come next, without a line feed.
-fn put_entry_text(out: &mut Writer<u8>, ledger: &Ledger, entry: Entry)
+/// Puts the text of an entry that can come next in the ledger, without a line feed. A writer that is refused memory
+/// keeps that in mind.
+pub fn put_entry_text(out: &mut Writer<u8>, ledger: &Ledger, entry: Entry)
     requires ledger { IsLedger ledger.now }
     requires next { CanFollow (births ledger.now.journal.entries) entry }
     ensures { Adds out.old out.new (entry_text (births ledger.now.journal.entries) entry) }

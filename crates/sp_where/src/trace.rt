@@ -3,7 +3,6 @@
 ghost use Rattle.std.specs.Prelude.{◌≡◌, IfOk};
 ghost use Rattle.sp_journal.specs.Births.{births, CanFollow, IsNameable};
 ghost use Rattle.sp_journal.specs.Ledger.{IsLedger};
-ghost use Rattle.sp_journal.specs.Texts.{entry_text};
 ghost use Rattle.sp_base.specs.Places.{place_text};
 ghost use Rattle.sp_where.specs.Traces.{message_text, passed, place_of_event, trace_line, trace_text};
 ghost use Rattle.sp_writer.specs.Adds.{Adds};
@@ -12,7 +11,7 @@ use crate::symbols::Symbols;
 use crate::values::put_value;
 use sp_base::{List, Memory};
 use sp_cell::Cell;
-use sp_journal::{Entry, Event, Journal, Ledger};
+use sp_journal::{Entry, Event, Journal, Ledger, put_entry_text};
 use sp_lines::Told;
 use sp_writer::Writer;
 use std::alloc::Global;
@@ -70,16 +69,6 @@ fn put_passed(
     }
 }
 
-/// Puts the entry, as in a journal.
-fn put_entry(out: &mut Writer<u8>, ledger: &Ledger, entry: Entry)
-    requires ledger { IsLedger ledger.now }
-    requires next { CanFollow (births ledger.now.journal.entries) entry }
-    ensures { Adds out.old out.new (entry_text (births ledger.now.journal.entries) entry) }
-{
-    let done = ledger.put_entry(&mut out.items, entry);
-    out.note(done);
-}
-
 /// Puts the line of an entry that can come next in the ledger, under this index, with what is told of it: the place of
 /// its statement, or for a fault that of its part, the entry, and the value that passes.
 pub fn put_line(
@@ -99,7 +88,7 @@ pub fn put_line(
     out.extend(b" ");
     put_event_place(out, symbols, entry.event, told.instruction);
     out.extend(b" ");
-    put_entry(out, ledger, entry);
+    put_entry_text(out, ledger, entry);
     put_passed(out, ledger, symbols, entry.event, &told.message);
     out.extend(b"\n");
 }

@@ -10,7 +10,7 @@ pub returns : goal.returns
 returns c = λ kept.
     let g = c.extend-3.ensures kept in
     let f = c.put_passed.ensures g.0 in
-    let e = c.put_entry.ensures f.0 in
+    let e = c.put_entry_text.ensures f.0 in
     let d = c.extend-2.ensures e.0 in
     let p = c.put_event_place.ensures d.0 in
     let b = c.extend.ensures p.0 in
