@@ -1,7 +1,6 @@
 -- The rules at a list of declarations are those at the first, and then those at the others.
 use Rattle.std.proofs.Common.{◌≡◌, refl, ap, ◌∙◌, ℕ, ◌+◌, ◌<◌, List, [], ◌∷◌, ◌++◌, length, get_or, drop, add-one}
-use Rattle.std.proofs.Common.{append_assoc, Option, Result, Ok, sym as back_of}
-use Rattle.sp_base.specs.declared.halt.Refusal.{Refusal}
+use Rattle.std.proofs.Common.{append_assoc, Option, Bool, true, false, ◌||◌, ◌&&◌, not, sym as back_of}
 use Rattle.std.proofs.Math.Seq.{drop-cons}
 use Rattle.std.proofs.lemmas.List.{drop-drop}
 use Rattle.sp_tree.specs.declared.checked.Variable as checked
@@ -13,24 +12,38 @@ use Rattle.sp_tree.specs.declared.named.NamedStmt as stmt
 use Rattle.sp_tree.specs.NamedOf.{statement_of}
 use Rattle.sp_tree.specs.PhaseResults.{FirstRefusal}
 use Rattle.sp_types.specs.declared.tables.Ordinal.{Ordinal}
+use Rattle.sp_tree.specs.declared.named.NamedConst.{NamedConst}
+use Rattle.sp_types.specs.Tables.{are_bounds, are_wrong, const_value, has_wrong_sign, is_long, value_by}
 use Rattle.sp_types.specs.DeclarationFirsts.{constants_first, cells_first}
 use Rattle.sp_types.specs.TypeWalk.{statement_place}
 
 pub place_is : (s : stmt.NamedStmt) → statement_place (statement_of s) ≡ s.at
 place_is s = search stmt.the_lemmas
 
--- what a call that did not fail gives
-abbrev pub ok : {A : Type 0} → A → Result A Refusal
-ok x = Ok x
-
-pub ok_injective : {A : Type 0} (x y : A) → ok x ≡ ok y → y ≡ x
-ok_injective x y e = cc
-
 pub constants_on : (known : List (Option Ordinal)) (c : NamedConstant) (cs : List NamedConstant)
     (first : FirstRefusal) →
     constants_first known (c ∷ cs) first ≡ constants_first known cs (constants_first known (c ∷ []) first)
 constants_on known (constant.Value c) cs first = refl
 constants_on known (constant.Enumerated k i) cs first = refl
+
+-- bounds have no fault where neither of them is wrong by itself, and both not together
+pub are_sound : (known : List (Option Ordinal)) (a b : NamedConst) (x y r : Bool)
+    → x ≡ (is_long a.value || has_wrong_sign a.negative (value_by known a.value))
+    → y ≡ (is_long b.value || has_wrong_sign b.negative (value_by known b.value))
+    → r ≡ are_wrong (const_value known a) (const_value known b) → are_bounds known a b ≡ not (x || (y || r))
+are_sound known a b x y r x_is y_is r_is =
+    by (is_long a.value) (is_long b.value) (has_wrong_sign a.negative (value_by known a.value))
+    (has_wrong_sign b.negative (value_by known b.value)) (are_wrong (const_value known a) (const_value known b))
+    ∙ (λ j. not (back_of x_is j || (back_of y_is j || back_of r_is j)))
+  where
+    by : (la lb wa wb r : Bool)
+        → (not la && (not lb && (not wa && (not wb && not r)))) ≡ not ((la || wa) || ((lb || wb) || r))
+    by true lb wa wb r = refl
+    by false true true wb r = refl
+    by false true false wb r = refl
+    by false false true wb r = refl
+    by false false false true r = refl
+    by false false false false r = refl
 
 -- without cells nothing is found
 none_left : (places : List Place) (first : FirstRefusal) → cells_first places [] first ≡ first
@@ -78,12 +91,12 @@ variables_next kinds i x xs =
 pub variables_step : (kinds : List (Option ℕ)) (i j : ℕ) (x : checked.Variable)
     (xs ys out more all : List checked.Variable) →
     out ++ checked_variables (drop i kinds) ys ≡ all → ys ≡ x ∷ xs
-    → more ≡ out ++ checked_variables (drop i kinds) (x ∷ []) → ok (i + 1) ≡ ok j →
+    → more ≡ out ++ checked_variables (drop i kinds) (x ∷ []) → j ≡ i + 1 →
     more ++ checked_variables (drop j kinds) xs ≡ all
 variables_step kinds i j x xs ys out more all invariant front more_is next_is =
     ap (λ (m : List checked.Variable). m ++ checked_variables (drop j kinds) xs) more_is ∙
     ap (λ (k : ℕ). (out ++ checked_variables (drop i kinds) (x ∷ [])) ++ checked_variables (drop k kinds) xs)
-    (ok_injective (i + 1) j next_is) ∙
+    next_is ∙
     append_assoc out (checked_variables (drop i kinds) (x ∷ [])) (checked_variables (drop (i + 1) kinds) xs) ∙
     ap (λ (r : List checked.Variable). out ++ r) (back_of (variables_next kinds i x xs)) ∙
     ap (λ (r : List checked.Variable). out ++ checked_variables (drop i kinds) r) (back_of front) ∙

@@ -83,12 +83,11 @@ pub fn type_blocks(
     let mut out = Vec::new(alloc);
     let mut n = 0;
     for b in blocks.into_vec() {
-        let start = walk.number(count_before(b.body.at, bodies));
+        let start = count_before(walk, b.body.at, bodies);
         walk.note(check_frame(b.at, numbers, cells, n, variables));
         let block = type_block(b, alloc, t, walk, start);
         walk.push(&mut out, block);
-        let next = walk.number(sum(n, 1));
-        n = next;
+        n = sum(walk, n, 1);
     }
     List::of(out)
 }

@@ -1,26 +1,25 @@
 //! The number of each block's first statement: numbers go by the order of the text.
 
-ghost use Rattle.std.specs.Prelude.{◌≡◌, map, Ok};
-ghost use Rattle.sp_tree.specs.PhaseResults.{Answers};
+ghost use Rattle.std.specs.Prelude.{◌≡◌, map};
+ghost use Rattle.sp_tree.specs.Carried.{Keeps};
 ghost use Rattle.sp_tree.specs.NamedOf.{block_of};
 ghost use Rattle.sp_types.specs.TypeWalk.{bodies, is_earlier, count_before};
 
-use crate::have;
 use crate::statement_counts::{statement_counted, sum};
-use sp_base::{Halt, List, Place};
-use sp_tree::NamedBlock;
+use sp_base::{List, Place};
+use sp_tree::{NamedBlock, Walk};
 use std::alloc::Global;
 
 /// For each block, the place of its statement part and how many statements it has.
-pub fn bodies(alloc: Global, blocks: &[NamedBlock]) -> Result<List<(Place, u32)>, Halt>
-    ensures { Answers result (Ok (bodies (map block_of blocks.now))) }
+pub fn bodies(alloc: Global, walk: &mut Walk, blocks: &[NamedBlock]) -> List<(Place, u32)>
+    ensures { Keeps walk.old walk.new walk.old.first (result ≡ bodies (map block_of blocks.now)) }
 {
     let mut out = Vec::new(alloc);
     for b in blocks {
-        let n = have!(statement_counted(&b.body, 0));
-        have!(out.push((b.body.at, n)));
+        let n = statement_counted(walk, &b.body, 0);
+        walk.push(&mut out, (b.body.at, n));
     }
-    Ok(List::of(out))
+    List::of(out)
 }
 
 fn earlier(a: Place, b: Place) -> bool
@@ -30,14 +29,14 @@ fn earlier(a: Place, b: Place) -> bool
 }
 
 /// How many statements stand in the parts that begin before a place.
-pub fn count_before(at: Place, bodies: &[(Place, u32)]) -> Result<u32, Halt>
-    ensures { Answers result (Ok (count_before 0 at bodies.now)) }
+pub fn count_before(walk: &mut Walk, at: Place, bodies: &[(Place, u32)]) -> u32
+    ensures { Keeps walk.old walk.new walk.old.first (result ≡ count_before 0 at bodies.now) }
 {
     let mut k = 0;
     for b in bodies {
         if earlier(b.0, at) {
-            k = have!(sum(k, b.1));
+            k = sum(walk, k, b.1);
         }
     }
-    Ok(k)
+    k
 }

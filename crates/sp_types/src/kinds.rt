@@ -1,21 +1,23 @@
-//! The declared types, in order of declaration, from their definitions.
+//! The declared types, in order of declaration, from their definitions, with the rules at their bounds.
 
-ghost use Rattle.std.specs.Prelude.{◌≡◌, ◌++◌, ◌∷◌, [], map, List, Ok, OnOk};
-ghost use Rattle.sp_tree.specs.PhaseResults.{Answers};
-ghost use Rattle.sp_types.specs.Tables.{are_wrong, are_bounds, fields_by, array_of, type_number, kinds_by};
+ghost use Rattle.std.specs.Prelude.{◌≡◌, ◌++◌, ◌∷◌, [], List, map};
+ghost use Rattle.sp_tree.specs.Carried.{Keeps};
+ghost use Rattle.sp_tree.specs.declared.named.NamedKindForm.TheVariants as definition;
+ghost use Rattle.sp_types.specs.Tables.{are_wrong, fields_by, array_of, type_number, kinds_by};
 ghost use Rattle.sp_types.specs.Tables.{kinds_from};
+ghost use Rattle.sp_types.specs.DeclarationFirsts.{bounds_first, kinds_first};
 
-use crate::have;
+use crate::field_table::KindWithFields;
 use crate::numbers::type_number;
-use crate::signed_constants::{const_value, has_wrong_sign, is_long, value_by};
+use crate::signed_constants::const_value;
 use crate::tables::Ordinal;
 use crate::values::number_or;
-use sp_base::{Halt, List, Text};
-use sp_tree::{KindOf, NamedConst, NamedKind, NamedKindForm};
+use sp_base::{List, Rule, Text};
+use sp_tree::{KindOf, NamedConst, NamedKind, NamedKindForm, Walk, breaks_if};
 use std::alloc::Global;
 
 /// Two bounds have different types, or the lower is above the upper.
-pub fn are_wrong(a: Option<Ordinal>, b: Option<Ordinal>) -> bool
+fn are_wrong(a: Option<Ordinal>, b: Option<Ordinal>) -> bool
     ensures { result ≡ are_wrong a b }
 {
     match a {
@@ -27,131 +29,128 @@ pub fn are_wrong(a: Option<Ordinal>, b: Option<Ordinal>) -> bool
     }
 }
 
-/// Bounds without any fault.
-fn are_bounds(known: &[Option<Ordinal>], a: &NamedConst, b: &NamedConst) -> Result<bool, Halt>
-    ensures { Answers result (Ok (are_bounds known.now a.now b.now)) }
-{
-    let bare_low = have!(value_by(known, &a.value));
-    let bare_high = have!(value_by(known, &b.value));
-    let low = have!(const_value(known, a));
-    let high = have!(const_value(known, b));
-    Ok(
-        !is_long(&a.value)
-            && (!is_long(&b.value)
-                && (!has_wrong_sign(a.negative, bare_low)
-                    && (!has_wrong_sign(b.negative, bare_high) && !are_wrong(low, high)))),
-    )
-}
-
-/// An array. One whose bounds have a fault has no elements.
+/// An array, and Y14 and Y13 at its bounds. One whose bounds have a fault has no elements.
+#[tactic(auto, using(crate::proofs::DeclarationRules::are_sound))]
 fn array_of(
+    walk: &mut Walk,
     known: &[Option<Ordinal>],
     a: &NamedConst,
     b: &NamedConst,
     element: u32,
-) -> Result<KindOf, Halt>
-    ensures { Answers result (Ok (array_of known.now a.now b.now element)) }
+) -> KindOf
+    ensures { Keeps walk.old walk.new (bounds_first known.now (definition.Array a.now b.now element) walk.old.first)
+        (result ≡ array_of known.now a.now b.now element) }
 {
-    let low = have!(const_value(known, a));
-    let high = have!(const_value(known, b));
-    let index = match low {
+    let low = const_value(walk, known, a);
+    walk.note(breaks_if(Rule::Y14, a.at, low.is_wrong));
+    let high = const_value(walk, known, b);
+    walk.note(breaks_if(Rule::Y14, b.at, high.is_wrong));
+    let are_wrong = are_wrong(low.value, high.value);
+    walk.note(breaks_if(Rule::Y13, b.at, are_wrong));
+    let index = match low.value {
         None => 0,
         Some(o) => o.kind,
     };
-    if have!(are_bounds(known, a, b)) {
-        Ok(KindOf::Array {
-            low: number_or(1, low),
-            high: number_or(0, high),
-            index,
-            element,
-        })
-    } else {
-        Ok(KindOf::Array {
+    if low.is_wrong || high.is_wrong || are_wrong {
+        KindOf::Array {
             low: 1,
             high: 0,
             index,
             element,
-        })
+        }
+    } else {
+        KindOf::Array {
+            low: number_or(1, low.value),
+            high: number_or(0, high.value),
+            index,
+            element,
+        }
     }
 }
 
 fn fields_of(
     alloc: Global,
+    walk: &mut Walk,
     numbers: &[u32],
     fields: List<(Text, u32)>,
-) -> Result<List<(Text, u32)>, Halt>
-    ensures { Answers result (Ok (fields_by numbers.now fields)) }
+) -> List<(Text, u32)>
+    ensures { Keeps walk.old walk.new walk.old.first (result ≡ fields_by numbers.now fields) }
 {
     let mut out = Vec::new(alloc);
     for f in fields.into_vec() {
         let kind = type_number(numbers, f.1);
-        out.push((f.0, kind))?;
+        walk.push(&mut out, (f.0, kind));
     }
-    Ok(List::of(out))
+    List::of(out)
 }
 
-fn messages_of(alloc: Global, numbers: &[u32], kinds: &[u32]) -> Result<List<u32>, Halt>
-    ensures { Answers result (Ok (map (type_number numbers.now) kinds.now)) }
+fn messages_of(alloc: Global, walk: &mut Walk, numbers: &[u32], kinds: &[u32]) -> List<u32>
+    ensures { Keeps walk.old walk.new walk.old.first (result ≡ map (type_number numbers.now) kinds.now) }
 {
     let mut out = Vec::new(alloc);
     for k in kinds {
-        have!(out.push(type_number(numbers, *k)));
+        walk.push(&mut out, type_number(numbers, *k));
     }
-    Ok(List::of(out))
+    List::of(out)
 }
 
-fn push(out: &mut Vec<KindOf>, kind: KindOf) -> Result<(), Halt>
-    ensures memory { Answers result (Ok tt) }
-    ensures after { OnOk result (out.new.items ≡ out.old.items ++ kind ∷ []) }
+/// One type more behind others, with what is looked up in it.
+fn push(alloc: Global, walk: &mut Walk, out: &mut Vec<KindWithFields>, kind: KindOf)
+    ensures { Keeps walk.old walk.new walk.old.first (out.new.items ≡ out.old.items ++ kind ∷ []) }
 {
-    out.push(kind)?;
-    Ok(())
+    match KindWithFields::of(alloc, kind) {
+        Ok(kind) => walk.push(out, kind),
+        Err(_) => walk.is_lost = true,
+    }
 }
 
-/// One more type behind others; another name of a type is none.
+/// One more type behind others, and the rules at its bounds; another name of a type is none.
 fn push_kind(
     alloc: Global,
+    walk: &mut Walk,
     numbers: &[u32],
     known: &[Option<Ordinal>],
     form: NamedKindForm,
-    out: &mut Vec<KindOf>,
-) -> Result<(), Halt>
-    ensures memory { Answers result (Ok tt) }
-    ensures after { OnOk result (out.new.items ≡ out.old.items ++ kinds_by numbers.now known.now form) }
+    out: &mut Vec<KindWithFields>,
+)
+    ensures { Keeps walk.old walk.new (bounds_first known.now form walk.old.first)
+        (out.new.items ≡ out.old.items ++ kinds_by numbers.now known.now form) }
 {
     match form {
-        NamedKindForm::Integer => push(out, KindOf::Integer),
-        NamedKindForm::Boolean => push(out, KindOf::Boolean),
-        NamedKindForm::Char => push(out, KindOf::Char),
-        NamedKindForm::Alias(_) => Ok(()),
-        NamedKindForm::Enumeration(n) => push(out, KindOf::Enumeration(n)),
+        NamedKindForm::Integer => push(alloc, walk, out, KindOf::Integer),
+        NamedKindForm::Boolean => push(alloc, walk, out, KindOf::Boolean),
+        NamedKindForm::Char => push(alloc, walk, out, KindOf::Char),
+        NamedKindForm::Alias(_) => {}
+        NamedKindForm::Enumeration(n) => push(alloc, walk, out, KindOf::Enumeration(n)),
         NamedKindForm::Array(a, b, e) => {
-            let array = have!(array_of(known, &a, &b, type_number(numbers, e)));
-            push(out, array)
+            let array = array_of(walk, known, &a, &b, type_number(numbers, e));
+            push(alloc, walk, out, array);
         }
         NamedKindForm::Fields(fields) => {
-            let fields = have!(fields_of(alloc, numbers, fields));
-            push(out, KindOf::Fields(fields))
+            let fields = fields_of(alloc, walk, numbers, fields);
+            push(alloc, walk, out, KindOf::Fields(fields));
         }
         NamedKindForm::Channel(kinds) => {
-            let kinds = have!(messages_of(alloc, numbers, kinds.items()));
-            push(out, KindOf::Channel(kinds))
+            let kinds = messages_of(alloc, walk, numbers, kinds.items());
+            push(alloc, walk, out, KindOf::Channel(kinds));
         }
     }
 }
 
-/// The types, in order of declaration.
+/// The types, in order of declaration, each with what is looked up in it: Y13 and Y14 at their bounds.
 pub fn kinds_of(
     alloc: Global,
+    walk: &mut Walk,
     numbers: &[u32],
     known: &[Option<Ordinal>],
     kinds: List<NamedKind>,
-) -> Result<List<KindOf>, Halt>
-    ensures { Answers result (Ok (kinds_from numbers.now known.now kinds)) }
+) -> List<KindWithFields>
+    ensures { Keeps walk.old walk.new (kinds_first known.now kinds walk.old.first)
+        (result ≡ kinds_from numbers.now known.now kinds) }
 {
     let mut out = Vec::new(alloc);
     for k in kinds.into_vec() {
-        have!(push_kind(alloc, numbers, known, k.form, &mut out));
+        push_kind(alloc, walk, numbers, known, k.form, &mut out);
     }
-    Ok(List::of(out))
+    List::of(out)
 }

@@ -1,13 +1,12 @@
 //! The types that declared names stand for.
 
-ghost use Rattle.std.specs.Prelude.{◌≡◌, [], Ok};
-ghost use Rattle.sp_tree.specs.PhaseResults.{Answers};
+ghost use Rattle.std.specs.Prelude.{◌≡◌, []};
+ghost use Rattle.sp_tree.specs.Carried.{Keeps};
 ghost use Rattle.sp_types.specs.Tables.{number_by, next_by, numbers_from, type_number};
 
-use crate::have;
 use crate::statement_counts::sum;
-use sp_base::{Halt, List};
-use sp_tree::{NamedKind, NamedKindForm};
+use sp_base::List;
+use sp_tree::{NamedKind, NamedKindForm, Walk};
 use std::alloc::Global;
 
 /// The number of a declared name's type.
@@ -30,25 +29,25 @@ fn number_by(known: &[u32], next: u32, form: &NamedKindForm) -> u32
     }
 }
 
-fn next_by(next: u32, form: &NamedKindForm) -> Result<u32, Halt>
-    ensures { Answers result (Ok (next_by next form.now)) }
+fn next_by(walk: &mut Walk, next: u32, form: &NamedKindForm) -> u32
+    ensures { Keeps walk.old walk.new walk.old.first (result ≡ next_by next form.now) }
 {
     match form {
-        NamedKindForm::Alias(_) => Ok(next),
-        _ => sum(next, 1),
+        NamedKindForm::Alias(_) => next,
+        _ => sum(walk, next, 1),
     }
 }
 
 /// The number of the type that each declared name stands for.
-pub fn numbers_of(alloc: Global, kinds: &[NamedKind]) -> Result<List<u32>, Halt>
-    ensures { Answers result (Ok (numbers_from [] 0 kinds.now)) }
+pub fn numbers_of(alloc: Global, walk: &mut Walk, kinds: &[NamedKind]) -> List<u32>
+    ensures { Keeps walk.old walk.new walk.old.first (result ≡ numbers_from [] 0 kinds.now) }
 {
     let mut known = Vec::new(alloc);
     let mut next = 0;
     for k in kinds {
         let number = number_by(known.as_slice(), next, &k.form);
-        have!(known.push(number));
-        next = have!(next_by(next, &k.form));
+        walk.push(&mut known, number);
+        next = next_by(walk, next, &k.form);
     }
-    Ok(List::of(known))
+    List::of(known)
 }

@@ -1,6 +1,6 @@
 //! Assignments, calls of procedures, and calls of standard procedures as the single statements that they stand for.
 
-ghost use Rattle.std.specs.Prelude.{◌≡◌, false, map, Ok};
+ghost use Rattle.std.specs.Prelude.{◌≡◌, false, map};
 ghost use Rattle.std.specs.Vec.Iter.{into_iter_items};
 ghost use Rattle.sp_tree.specs.NamedOf.{argument_of, arguments};
 ghost use Rattle.sp_tree.specs.PlainNamed.{Perform};
@@ -17,16 +17,14 @@ ghost use Rattle.sp_types.specs.CheckedTree.{checked_arguments, checked_statemen
 ghost use Rattle.sp_types.specs.CheckedTree.{singles, numbered_statements, expanded_form};
 ghost use Rattle.sp_types.specs.Expectations.{part_forms, part_first};
 ghost use Rattle.sp_tree.specs.declared.meaning.StandardProcedure.TheVariants as procedure;
-ghost use Rattle.sp_tree.specs.PhaseResults.{AnswersAs};
 
 use crate::calls::{Part, target, type_parts};
 use crate::expressions::type_wanted;
-use crate::have;
 use crate::pass_results::Typed;
 use crate::rules::Wanted;
 use crate::statement_counts::{parts_count, sum};
 use crate::tables::Tables;
-use sp_base::{Halt, List, Place};
+use sp_base::{List, Place};
 use sp_tree::{Expr, Form, NamedArg, StandardProcedure, Stmt, Var, Walk};
 use std::alloc::Global;
 use std::vec::IntoIter;
@@ -93,75 +91,45 @@ fn type_channel(alloc: Global, t: &Tables, walk: &mut Walk, a: NamedArg) -> Type
 }
 
 /// Values sent on one channel: one alone is a single statement, of several the channel stands once in memory.
-#[tactic(auto, using(crate::proofs::SeveralOnChannel::sends_are))]
-fn sent(n: u32, at: Place, channel: Expr, values: List<Expr>) -> Result<Form, Halt>
-    ensures { AnswersAs checked.statement_form_of result
-        (Ok (expanded_form n at (send_forms (checked.expression_of channel) (map checked.expression_of values)))) }
+#[tactic(auto, using(crate::proofs::SeveralOnChannel::each_sent))]
+fn sent(n: u32, at: Place, channel: Expr, values: List<Expr>) -> Form
+    ensures { checked.statement_form_of result
+        ≡ expanded_form n at (send_forms (checked.expression_of channel) (map checked.expression_of values)) }
 {
-    let mut values = values.into_vec();
-    match values.pop() {
-        None => Ok(Form::SendEach {
+    let mut values = values;
+    if values.len() == 1 {
+        match values.pop() {
+            None => Form::Empty,
+            Some(value) => Form::Send(channel, value),
+        }
+    } else {
+        Form::SendEach {
             at,
             number: n,
             channel,
-            values: List::of(values),
-        }),
-        Some(last) => {
-            if values.is_empty() {
-                Ok(Form::Send(channel, last))
-            } else {
-                values.push(last)?;
-                Ok(Form::SendEach {
-                    at,
-                    number: n,
-                    channel,
-                    values: List::of(values),
-                })
-            }
+            values,
         }
     }
 }
 
 /// Variables received on one channel: one alone is a single statement, of several the channel stands once in memory.
-#[tactic(auto, using(crate::proofs::SeveralOnChannel::receives_are))]
-fn received(n: u32, at: Place, channel: Expr, variables: List<Var>) -> Result<Form, Halt>
-    ensures { AnswersAs checked.statement_form_of result
-        (Ok (expanded_form n at (receive_forms (checked.expression_of channel) (map checked.variable_of variables)))) }
+#[tactic(auto, using(crate::proofs::SeveralOnChannel::each_received))]
+fn received(n: u32, at: Place, channel: Expr, variables: List<Var>) -> Form
+    ensures { checked.statement_form_of result
+        ≡ expanded_form n at (receive_forms (checked.expression_of channel) (map checked.variable_of variables)) }
 {
-    let mut variables = variables.into_vec();
-    match variables.pop() {
-        None => Ok(Form::ReceiveEach {
+    let mut variables = variables;
+    if variables.len() == 1 {
+        match variables.pop() {
+            None => Form::Empty,
+            Some(variable) => Form::Receive(channel, variable),
+        }
+    } else {
+        Form::ReceiveEach {
             at,
             number: n,
             channel,
-            variables: List::of(variables),
-        }),
-        Some(last) => {
-            if variables.is_empty() {
-                Ok(Form::Receive(channel, last))
-            } else {
-                variables.push(last)?;
-                Ok(Form::ReceiveEach {
-                    at,
-                    number: n,
-                    channel,
-                    variables: List::of(variables),
-                })
-            }
-        }
-    }
-}
-
-/// The form. If there is none it loses the walk and gives an empty one.
-fn found(walk: &mut Walk, form: Result<Form, Halt>) -> Form
-    ensures { (x : c.Form) → AnswersAs checked.statement_form_of form (Ok x)
-        → Keeps walk.old walk.new walk.old.first (checked.statement_form_of result ≡ x) }
-{
-    match form {
-        Ok(form) => form,
-        Err(_) => {
-            walk.is_lost = true;
-            Form::Empty
+            variables,
         }
     }
 }
@@ -178,7 +146,7 @@ fn type_send(alloc: Global, t: &Tables, walk: &mut Walk, args: List<NamedArg>, a
         Some(a) => {
             let channel = type_channel(alloc, t, walk, a);
             let values = type_values(alloc, t, walk, xs, channel.kind);
-            found(walk, sent(t.next, at, channel.tree, values))
+            sent(t.next, at, channel.tree, values)
         }
     }
 }
@@ -195,46 +163,46 @@ fn type_receive(alloc: Global, t: &Tables, walk: &mut Walk, args: List<NamedArg>
         Some(a) => {
             let channel = type_channel(alloc, t, walk, a);
             let variables = type_variables(alloc, t, walk, xs, channel.kind);
-            found(walk, received(t.next, at, channel.tree, variables))
+            received(t.next, at, channel.tree, variables)
         }
     }
 }
 
 /// Statements at one place, numbered from a number on.
-fn numbered(alloc: Global, n: u32, at: Place, forms: List<Form>) -> Result<List<Stmt>, Halt>
-    ensures { AnswersAs (map checked.statement_of) result
-        (Ok (numbered_statements n at (map checked.statement_form_of forms))) }
+fn numbered(alloc: Global, walk: &mut Walk, n: u32, at: Place, forms: List<Form>) -> List<Stmt>
+    ensures { Keeps walk.old walk.new walk.old.first (map checked.statement_of result
+        ≡ numbered_statements n at (map checked.statement_form_of forms)) }
 {
     let mut out = Vec::new(alloc);
     let mut n = n;
     for form in forms.into_vec() {
-        out.push(Stmt {
-            number: n,
-            at,
-            form,
-        })?;
-        n = have!(sum(n, 1));
+        walk.push(
+            &mut out,
+            Stmt {
+                number: n,
+                at,
+                form,
+            },
+        );
+        n = sum(walk, n, 1);
     }
-    Ok(List::of(out))
+    List::of(out)
 }
 
 /// Statements at one place as one: a single one is itself, several stand in a sequence.
-fn expanded(alloc: Global, n: u32, at: Place, forms: List<Form>) -> Result<Form, Halt>
-    ensures { AnswersAs checked.statement_form_of result
-        (Ok (expanded_form n at (map checked.statement_form_of forms))) }
+#[tactic(auto, using(crate::proofs::SeveralOnChannel::several_of))]
+fn expanded(alloc: Global, walk: &mut Walk, n: u32, at: Place, forms: List<Form>) -> Form
+    ensures { Keeps walk.old walk.new walk.old.first
+        (checked.statement_form_of result ≡ expanded_form n at (map checked.statement_form_of forms)) }
 {
-    let mut forms = forms.into_vec();
-    match forms.pop() {
-        None => Ok(Form::Sequence(List::new(alloc))),
-        Some(last) => {
-            if forms.is_empty() {
-                Ok(last)
-            } else {
-                forms.push(last)?;
-                let ss = have!(numbered(alloc, n, at, List::of(forms)));
-                Ok(Form::Sequence(ss))
-            }
+    let mut forms = forms;
+    if forms.len() == 1 {
+        match forms.pop() {
+            None => Form::Empty,
+            Some(form) => form,
         }
+    } else {
+        Form::Sequence(numbered(alloc, walk, n, at, forms))
     }
 }
 
@@ -253,7 +221,7 @@ fn type_each(
         ≡ expanded_form t.now.next at (part_forms t.now part (arguments (map argument_of args)))) }
 {
     let forms = type_parts(alloc, t, walk, part, args);
-    found(walk, expanded(alloc, t.next, at, forms))
+    expanded(alloc, walk, t.next, at, forms)
 }
 
 /// A call of `readln`.
@@ -265,7 +233,7 @@ fn type_readln(alloc: Global, t: &Tables, walk: &mut Walk, args: List<NamedArg>,
 {
     let mut forms = type_parts(alloc, t, walk, Part::Read, args).into_vec();
     walk.push(&mut forms, Form::ReadLine);
-    found(walk, expanded(alloc, t.next, at, List::of(forms)))
+    expanded(alloc, walk, t.next, at, List::of(forms))
 }
 
 /// A call of `writeln`.
@@ -277,7 +245,7 @@ fn type_writeln(alloc: Global, t: &Tables, walk: &mut Walk, args: List<NamedArg>
 {
     let mut forms = type_parts(alloc, t, walk, Part::Write, args).into_vec();
     walk.push(&mut forms, Form::WriteLine);
-    found(walk, expanded(alloc, t.next, at, List::of(forms)))
+    expanded(alloc, walk, t.next, at, List::of(forms))
 }
 
 /// A call of a standard procedure. Its single statements have the next numbers, unless there is one alone.
@@ -295,7 +263,7 @@ pub fn type_perform(
         ≡ checked_statement_form t.old at (Perform p (arguments (map argument_of args)))) }
     ensures after { walk.new.is_lost ≡ false → t.new ≡ form_after t.old (Perform p (arguments (map argument_of args))) }
 {
-    let count = walk.number(parts_count(p, args.items()));
+    let count = parts_count(walk, p, args.items());
     let form = match p {
         StandardProcedure::Read => type_each(alloc, t, walk, Part::Read, args, at),
         StandardProcedure::Readln => type_readln(alloc, t, walk, args, at),

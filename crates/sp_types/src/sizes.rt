@@ -1,15 +1,15 @@
 //! The cells of types and frames, counted up to just above the limit (`specs/CellCaps.antt`).
 
-ghost use Rattle.std.specs.Prelude.{◌≡◌, ◌+◌, ◌*◌, ◌∷◌, List, [], slice_get, Ok};
-ghost use Rattle.sp_tree.specs.PhaseResults.{Answers};
+ghost use Rattle.std.specs.Prelude.{◌≡◌, ◌+◌, ◌*◌, ◌∷◌, List, [], slice_get};
+ghost use Rattle.sp_tree.specs.Carried.{Keeps};
 ghost use Rattle.sp_tree.specs.Cells.{count, fields_size, first_or};
 ghost use Rattle.sp_types.specs.TypeRules.{frame_cells};
 ghost use Rattle.sp_types.specs.CellCaps.{capped_count, capped_by, capped_sizes};
 
-use crate::have;
+use crate::field_table::KindWithFields;
 use crate::numbers::type_number;
-use sp_base::{Halt, List, Text};
-use sp_tree::{KindOf, Role, Variable};
+use sp_base::{List, Text};
+use sp_tree::{KindOf, Role, Variable, Walk};
 use std::alloc::Global;
 
 /// One more than a type or a frame may have.
@@ -76,10 +76,11 @@ fn size_by(known: &[u32], k: &KindOf) -> u32
     ensures { result ≡ capped_by known.now k.now }
 {
     match k {
-        KindOf::Integer => 1,
-        KindOf::Boolean => 1,
-        KindOf::Char => 1,
-        KindOf::Enumeration(_) => 1,
+        KindOf::Integer
+        | KindOf::Boolean
+        | KindOf::Char
+        | KindOf::Enumeration(_)
+        | KindOf::Channel(_) => 1,
         KindOf::Array {
             low,
             high,
@@ -87,20 +88,19 @@ fn size_by(known: &[u32], k: &KindOf) -> u32
             element,
         } => array_cells(*low, *high, cells_at(known, *element)),
         KindOf::Fields(fields) => fields_cells(known, fields.items()),
-        KindOf::Channel(_) => 1,
     }
 }
 
 /// The cells of each type.
-pub fn sizes_of(alloc: Global, kinds: &[KindOf]) -> Result<List<u32>, Halt>
-    ensures { Answers result (Ok (capped_sizes kinds.now)) }
+pub fn sizes_of(alloc: Global, walk: &mut Walk, kinds: &[KindWithFields]) -> List<u32>
+    ensures { Keeps walk.old walk.new walk.old.first (result ≡ capped_sizes kinds.now) }
 {
     let mut known = Vec::new(alloc);
     for k in kinds {
-        let n = size_by(known.as_slice(), k);
-        have!(known.push(n));
+        let n = size_by(known.as_slice(), k.kind());
+        walk.push(&mut known, n);
     }
-    Ok(List::of(known))
+    List::of(known)
 }
 
 /// A variable's cells in a block's frame: the consoles and the index of a forall have none, and a variable parameter

@@ -174,7 +174,7 @@ fn type_choices(
     ensures after { walk.new.is_lost ≡ false → t.new ≡ arms_after t.old (arms (map arm_of choices)) }
 {
     let e = type_wanted(alloc, t, walk, e, Wanted::Selector);
-    walk.take(check_choices(alloc, t, e.kind, choices.items(), walk.first));
+    check_choices(alloc, t, walk, e.kind, choices.items());
     let choices = type_arms(choices, alloc, t, walk);
     Form::Case(e.tree, choices)
 }
@@ -354,7 +354,7 @@ fn type_arm(a: NamedArm, alloc: Global, t: &mut Tables, walk: &mut Walk) -> Arm
     ensures after { walk.new.is_lost ≡ false → t.new ≡ arm_after t.old (arm_of a) }
 {
     let NamedArm { constants, body } = a;
-    let constants = walk.list(alloc, constant_numbers(alloc, t, constants.items()));
+    let constants = constant_numbers(alloc, t, walk, constants.items());
     let body = type_statement(body, alloc, t, walk);
     Arm { constants, body }
 }

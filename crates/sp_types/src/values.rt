@@ -90,7 +90,7 @@ pub fn type_field(
             Some((number, kind)) => {
                 walk.note(None);
                 Typed {
-                    tree: walk.number(narrow(number)),
+                    tree: narrow(walk, number),
                     kind: Some(kind),
                 }
             }

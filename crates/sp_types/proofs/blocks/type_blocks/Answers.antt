@@ -36,12 +36,12 @@ loop-b-preserved c =
       tt,
       tt,
       λ k.
-          let (kept, same_at_end, next_is) = c.number-next.ensures (n + 1) c.sum.ensures k in
+          let (kept, same_at_end, next_is) = c.sum-n.ensures k in
           let (typed, same_next, out_is) = c.push.ensures kept in
           let (noted, block_first, block_is) = c.type_block-block.ensures.tree typed in
           let after = c.type_block-block.ensures.after typed in
-          let (counted, same, start_is) = c.number-start.ensures (count_before 0 c.in-Some.b.body.at all)
-          c.count_before.ensures (sym (λ j. (c.note.ensures j).is_lost) ∙ noted) in
+          let (counted, same, start_is) = c.count_before-start.ensures
+          (sym (λ j. (c.note.ensures j).is_lost) ∙ noted) in
           let (from, first_is, tree_is, after_is) = c.loop-b.invariant.2 counted in
           let start = start_is ∙ ap (λ at. count_before 0 at all) (sym (place_is c.in-Some.b.body)) in
           let tables = after ∙ (λ j. statement_after (with_first_number t (start j)) b.body) in
