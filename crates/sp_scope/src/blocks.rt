@@ -97,7 +97,7 @@ pub fn name_block(b: SynBlock, alloc: Global, scopes: &mut Scopes, walk: &mut Wa
 {
     let SynBlock { parts, body } = b;
     let answer = scopes.answer();
-    let indices = walk.list(alloc, indices(alloc, &body, scopes.block()));
+    let indices = indices(alloc, walk, &body, scopes.block());
     let parts = name_parts(parts, alloc, scopes, walk);
     let body = name_statement(alloc, scopes, walk, body);
     BlockParts {

@@ -5,7 +5,7 @@ ghost use Rattle.sp_tree.specs.NamedTree.{named_value, named_const, named_consta
 ghost use Rattle.sp_tree.specs.Carried.{Keeps};
 ghost use Rattle.sp_scope.specs.Firsts.{value_first, constants_first, bound_first};
 
-use crate::declarations::{check_constant, check_own_constant, constant_number};
+use crate::declarations::{check_own_constant, constant_number, constant_rule};
 use crate::scopes::Scopes;
 use sp_base::List;
 use sp_tree::{
@@ -20,7 +20,7 @@ pub fn check_value(scopes: &Scopes, v: &SynValue, first: FirstRefusal) -> FirstR
     match v {
         SynValue::Number(_) => first,
         SynValue::Quoted(_) => first,
-        SynValue::Named(x) => earlier_refusal(first, check_constant(scopes, x)),
+        SynValue::Named(x) => earlier_refusal(first, constant_rule(x.at, scopes.find(&x.text))),
     }
 }
 

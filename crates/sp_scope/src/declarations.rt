@@ -11,7 +11,8 @@ use crate::scopes::Scopes;
 use sp_base::{Place, Rule};
 use sp_tree::{FirstRefusal, Meaning, Name, Sort, breaks, breaks_if, earlier_refusal};
 
-fn constant_rule(at: Place, m: Option<&Meaning>) -> FirstRefusal
+/// A name that has to be a constant: N1, N3.
+pub fn constant_rule(at: Place, m: Option<&Meaning>) -> FirstRefusal
     ensures { result ≡ use_rule AsConstant at (option_copied m.entry) }
 {
     match m {
@@ -29,13 +30,6 @@ fn kind_rule(at: Place, m: Option<&Meaning>) -> FirstRefusal
         Some(Meaning::Kind(_)) => None,
         Some(_) => breaks(Rule::N3, at),
     }
-}
-
-/// A constant: N1, N3.
-pub fn check_constant(scopes: &Scopes, x: &Name) -> FirstRefusal
-    ensures { result ≡ broken_rule scopes.now (Uses x.now AsConstant) }
-{
-    constant_rule(x.at, scopes.find(&x.text))
 }
 
 /// A type: N1, N3.

@@ -1,6 +1,6 @@
 //! The walk through expressions, with numbers for names.
 
-ghost use Rattle.std.specs.Prelude.{◌≡◌, map};
+ghost use Rattle.std.specs.Prelude.{◌≡◌, map, option_map};
 ghost use Rattle.std.specs.Option.{option_copied};
 ghost use Rattle.sp_scope.specs.Walks.{width_of};
 ghost use Rattle.sp_tree.specs.Carried.{Keeps};
@@ -10,14 +10,13 @@ ghost use Rattle.sp_tree.specs.Scopes.{find, Env};
 ghost use Rattle.sp_tree.specs.NameWalk.{is_whole};
 ghost use Rattle.sp_tree.specs.NamedTree.{named_expression, named_form, named_operand, named_selectors, named_selector};
 ghost use Rattle.sp_tree.specs.NamedTree.{named_arguments, named_argument, named_width, operand_named, function_named};
-ghost use Rattle.sp_tree.specs.NamedTree.{variable_number, variable_read};
+ghost use Rattle.sp_tree.specs.NamedTree.{variable_number};
 ghost use Rattle.sp_tree.specs.NamedOf as named;
 ghost use Rattle.sp_tree.specs.PlainNamed as n;
 ghost use Rattle.sp_tree.specs.SyntaxOf.{expression_of, expression_form_of, variable_of, selector_of, selectors};
 ghost use Rattle.sp_tree.specs.SyntaxOf.{argument_of, arguments, width};
 ghost use Rattle.sp_scope.specs.Firsts.{expression_first, form_first, operand_first, selector_first, selectors_first};
 ghost use Rattle.sp_scope.specs.Firsts.{arguments_first, argument_first, passed_first, passed_name_first, width_first};
-ghost use Rattle.std.specs.Prelude.{option_map, Some};
 ghost use Rattle.sp_tree.specs.PlainSyntax.{ExpressionAt, Read, Apply};
 ghost use Rattle.sp_tree.specs.declared.syntax.Name.{Name};
 
@@ -26,7 +25,7 @@ use crate::rules::{
     bare_rule, function_rule, needs_variable, operand_rule, target_rule, width_rule,
 };
 use crate::scopes::Scopes;
-use sp_base::{Boxed, List, Place};
+use sp_base::{List, Place};
 use sp_tree::{
     BinaryOp, FirstRefusal, Meaning, Name, NamedArg, NamedExpr, NamedExprForm, NamedSelector,
     NamedVar, Passing, SynArg, SynExpr, SynExprForm, SynSelector, SynVar, UnaryOp, Walk,
@@ -46,20 +45,6 @@ pub fn name_expression(alloc: Global, scopes: &Scopes, walk: &mut Walk, e: SynEx
 }
 
 #[cycle(expression)]
-fn name_boxed(
-    alloc: Global,
-    scopes: &Scopes,
-    walk: &mut Walk,
-    e: Boxed<SynExpr>,
-) -> Option<Boxed<NamedExpr>>
-    ensures { Keeps walk.old walk.new (expression_first scopes.now (expression_of e) walk.old.first)
-        (option_map named.expression_of result ≡ Some (named_expression scopes.now (expression_of e))) }
-{
-    let e = name_expression(alloc, scopes, walk, e.into_inner());
-    walk.boxed(alloc, e)
-}
-
-#[cycle(expression)]
 fn name_form(alloc: Global, scopes: &Scopes, walk: &mut Walk, form: SynExprForm) -> NamedExprForm
     ensures { Keeps walk.old walk.new (form_first scopes.now (expression_form_of form) walk.old.first)
         (named.expression_form_of result ≡ named_form scopes.now (expression_form_of form)) }
@@ -70,23 +55,23 @@ fn name_form(alloc: Global, scopes: &Scopes, walk: &mut Walk, form: SynExprForm)
         SynExprForm::Read(v) => name_operand(alloc, scopes, walk, v),
         SynExprForm::Call(f, args) => name_function(alloc, scopes, walk, f, args),
         SynExprForm::Unary(op, a) => {
-            let a = name_boxed(alloc, scopes, walk, a);
-            unary_form(op, a)
+            let a = name_expression(alloc, scopes, walk, a.into_inner());
+            unary_form(alloc, walk, op, a)
         }
         SynExprForm::Binary(op, a, b) => {
-            let a = name_boxed(alloc, scopes, walk, a);
-            let b = name_boxed(alloc, scopes, walk, b);
-            binary_form(op, a, b)
+            let a = name_expression(alloc, scopes, walk, a.into_inner());
+            let b = name_expression(alloc, scopes, walk, b.into_inner());
+            binary_form(alloc, walk, op, a, b)
         }
     }
 }
 
-/// An operand under its operator. If it is missing, the walk is lost, and this is no answer.
-fn unary_form(op: UnaryOp, a: Option<Boxed<NamedExpr>>) -> NamedExprForm
-    ensures { (x : n.Expression) → option_map named.expression_of a ≡ Some x
-        → named.expression_form_of result ≡ n.Unary op x }
+/// An operand under its operator. Where there is no box for it, the walk is lost, and this is no answer.
+fn unary_form(alloc: Global, walk: &mut Walk, op: UnaryOp, a: NamedExpr) -> NamedExprForm
+    ensures { Keeps walk.old walk.new walk.old.first
+        (named.expression_form_of result ≡ n.Unary op (named.expression_of a)) }
 {
-    match a {
+    match walk.boxed(alloc, a) {
         Some(a) => NamedExprForm::Unary(op, a),
         None => NamedExprForm::Number(0),
     }
@@ -94,19 +79,21 @@ fn unary_form(op: UnaryOp, a: Option<Boxed<NamedExpr>>) -> NamedExprForm
 
 /// Both operands, in the same way.
 fn binary_form(
+    alloc: Global,
+    walk: &mut Walk,
     op: BinaryOp,
-    a: Option<Boxed<NamedExpr>>,
-    b: Option<Boxed<NamedExpr>>,
+    a: NamedExpr,
+    b: NamedExpr,
 ) -> NamedExprForm
-    ensures { (x y : n.Expression) → option_map named.expression_of a ≡ Some x
-        → option_map named.expression_of b ≡ Some y → named.expression_form_of result ≡ n.Binary op x y }
+    ensures { Keeps walk.old walk.new walk.old.first
+        (named.expression_form_of result ≡ n.Binary op (named.expression_of a) (named.expression_of b)) }
 {
-    match a {
-        Some(a) => match b {
+    match walk.boxed(alloc, a) {
+        Some(a) => match walk.boxed(alloc, b) {
             Some(b) => NamedExprForm::Binary(op, a, b),
             None => NamedExprForm::Unary(UnaryOp::Plus, a),
         },
-        None => unary_form(UnaryOp::Plus, b),
+        None => unary_form(alloc, walk, UnaryOp::Plus, b),
     }
 }
 
@@ -146,19 +133,12 @@ fn operand_form(
             NamedExprForm::Call(*block, x.at, List::new(alloc))
         }
         Some(Meaning::StandardFunction(f)) => NamedExprForm::Standard(*f, List::new(alloc)),
-        m => variable_read(variable_number(m), x, xs),
+        m => NamedExprForm::Read(NamedVar {
+            variable: variable_number(m),
+            at: x.at,
+            selectors: xs,
+        }),
     }
-}
-
-fn variable_read(number: u32, x: &Name, xs: List<NamedSelector>) -> NamedExprForm
-    ensures { named.expression_form_of result
-        ≡ variable_read number x.now (named.selectors (map named.selector_of xs)) }
-{
-    NamedExprForm::Read(NamedVar {
-        variable: number,
-        at: x.at,
-        selectors: xs,
-    })
 }
 
 /// The number of a variable, and 0 where the name is none.

@@ -3,7 +3,7 @@
 ghost use Rattle.std.specs.Prelude.{◌≡◌, ◌++◌, Ok, OnOk};
 ghost use Rattle.sp_tree.specs.PhaseResults.{Answers};
 ghost use Rattle.sp_tree.specs.Scopes.{inner_env};
-ghost use Rattle.sp_tree.specs.NameWalk.{references, block_meaning, title_local};
+ghost use Rattle.sp_tree.specs.NameWalk.{block_meaning, title_local};
 ghost use Rattle.sp_tree.specs.NamedTree.{answer_named, answer_of};
 ghost use Rattle.sp_tree.specs.NamedOf as named;
 ghost use Rattle.sp_scope.specs.Walks.{seen_block, heading_named, declared_by};
@@ -15,7 +15,7 @@ use crate::block_parts::{BlockParts, Heading};
 use crate::blocks::block_in_front;
 use crate::declarations::{check_declares, check_kind, kind_number};
 use crate::have;
-use crate::numbers::{next_block, next_variable};
+use crate::numbers::{behind, next_variable};
 use crate::scopes::Scopes;
 use crate::variables::{name_formals, numbers};
 use sp_base::{Halt, List};
@@ -74,7 +74,7 @@ pub fn name_heading(
         (result ≡ heading_named scopes.now x.now fs.now answer.now) }
 {
     walk.note(check_declares(scopes, x, Sort::Block));
-    let block = walk.number(next_block(scopes.counts()));
+    let block = walk.number(behind(scopes.counts().blocks, 1));
     let formals = name_formals(alloc, scopes, walk, fs, block);
     walk.first = check_answer(scopes, answer, walk.first);
     let results = walk.list(alloc, name_answer(alloc, scopes, block, x, answer));
@@ -99,6 +99,7 @@ fn push_flags(out: &mut Vec<bool>, xs: &[Name], by_reference: bool) -> Result<()
     Ok(())
 }
 
+/// For each parameter, whether it is a variable parameter.
 fn all_flags(alloc: Global, fs: &[SynFormal]) -> Result<List<bool>, Halt>
     ensures { Answers result (Ok (all_flags fs.now)) }
 {
@@ -109,14 +110,7 @@ fn all_flags(alloc: Global, fs: &[SynFormal]) -> Result<List<bool>, Halt>
     Ok(List::of(out))
 }
 
-/// For each parameter, whether it is a variable parameter.
 #[tactic(auto, using(crate::proofs::ScopeTables::flags_are))]
-fn references(alloc: Global, fs: &[SynFormal]) -> Result<List<bool>, Halt>
-    ensures { Answers result (Ok (references fs.now)) }
-{
-    all_flags(alloc, fs)
-}
-
 fn block_meaning(
     alloc: Global,
     scopes: &Scopes,
@@ -125,8 +119,8 @@ fn block_meaning(
 ) -> Result<Meaning, Halt>
     ensures { Answers result (Ok (block_meaning scopes.now.local fs.now answer.now)) }
 {
-    let block = have!(next_block(scopes.counts()));
-    let references = have!(references(alloc, fs));
+    let block = have!(behind(scopes.counts().blocks, 1));
+    let references = have!(all_flags(alloc, fs));
     match answer {
         None => Ok(Meaning::Procedure { block, references }),
         Some(_) => Ok(Meaning::Function { block, references }),

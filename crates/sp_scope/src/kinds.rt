@@ -8,12 +8,12 @@ ghost use Rattle.sp_tree.specs.PhaseResults.{Answers};
 ghost use Rattle.sp_tree.specs.NamedTree.{named_value, named_const, fields_named, groups_named, messages_named};
 ghost use Rattle.sp_tree.specs.NamedTree.{kind_named, enumeration_constants, constants_named};
 ghost use Rattle.sp_scope.specs.Fields.{names_contain, names_behind, fields_held, groups_held};
-ghost use Rattle.sp_scope.specs.Firsts.{groups_first, messages_first, kind_first};
+ghost use Rattle.sp_scope.specs.Firsts.{messages_first, kind_first};
 
 use crate::constants::check_bound;
 use crate::declarations::{check_own_kind, constant_number, kind_number};
 use crate::have;
-use crate::numbers::{count_of, more};
+use crate::numbers::{behind, count_of};
 use crate::scopes::Scopes;
 use sp_base::{Halt, List, Rule, Text};
 use sp_tree::{
@@ -82,20 +82,8 @@ fn check_messages(scopes: &Scopes, own: &Name, ts: &[Name], first: FirstRefusal)
     first
 }
 
-#[tactic(auto, using(crate::proofs::NameOrders::groups_are))]
-fn check_record(
-    alloc: Global,
-    scopes: &Scopes,
-    own: &Name,
-    gs: &[SynGroup],
-    first: FirstRefusal,
-) -> Result<FirstRefusal, Halt>
-    ensures { Answers result (Ok (groups_first scopes.now own.now [] gs.now first)) }
-{
-    check_groups(alloc, scopes, own, gs, first)
-}
-
 /// The definition of the type `own`, without the constants of an enumeration: N1 to N4.
+#[tactic(auto, using(crate::proofs::NameOrders::groups_are))]
 pub fn check_kind_form(
     alloc: Global,
     scopes: &Scopes,
@@ -113,7 +101,7 @@ pub fn check_kind_form(
             let first = check_bound(scopes, own, &b.value, first);
             Ok(earlier_refusal(first, check_own_kind(scopes, own, t)))
         }
-        SynKind::Record(gs) => check_record(alloc, scopes, own, gs.items(), first),
+        SynKind::Record(gs) => check_groups(alloc, scopes, own, gs.items(), first),
         SynKind::Channel(ts) => Ok(check_messages(scopes, own, ts.items(), first)),
     }
 }
@@ -214,7 +202,7 @@ fn enumerate(alloc: Global, kind: u32, xs: &[Name]) -> Result<List<NamedConstant
     let mut ordinal = 0u32;
     for _x in xs {
         out.push(NamedConstant::Enumerated { kind, ordinal })?;
-        ordinal = have!(more(ordinal));
+        ordinal = have!(behind(ordinal, 1));
     }
     Ok(List::of(out))
 }

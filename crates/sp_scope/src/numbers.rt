@@ -1,20 +1,13 @@
-//! The next numbers of constants, types, variables and blocks. One that would not fit 32 bits is answered as want of
+//! Numbers behind others, and the next number of a variable. One that would not fit 32 bits is answered as want of
 //! memory.
 
 ghost use Rattle.std.specs.Prelude.{◌+◌, Ok};
 ghost use Rattle.sp_tree.specs.PhaseResults.{Answers};
-ghost use Rattle.sp_tree.specs.Scopes.{next_constant, next_kind, next_variable, next_block};
+ghost use Rattle.sp_tree.specs.Scopes.{next_variable};
 
 use crate::have;
 use sp_base::Halt;
 use sp_tree::Counts;
-
-/// The next number, which is too large for memory above 2^32.
-pub fn more(n: u32) -> Result<u32, Halt>
-    ensures { Answers result (Ok (n + 1)) }
-{
-    behind(n, 1)
-}
 
 /// A length as a number.
 pub fn count_of(n: usize) -> Result<u32, Halt>
@@ -36,31 +29,10 @@ pub fn behind(n: u32, m: u32) -> Result<u32, Halt>
     }
 }
 
-/// The number of the next constant.
-pub fn next_constant(counts: Counts) -> Result<u32, Halt>
-    ensures { Answers result (Ok (next_constant counts)) }
-{
-    behind(counts.constants, 3)
-}
-
-/// The number of the next type.
-pub fn next_kind(counts: Counts) -> Result<u32, Halt>
-    ensures { Answers result (Ok (next_kind counts)) }
-{
-    behind(counts.kinds, 3)
-}
-
 /// The number of the next variable.
 pub fn next_variable(counts: Counts) -> Result<u32, Halt>
     ensures { Answers result (Ok (next_variable counts)) }
 {
     let n = have!(behind(counts.variables, counts.results));
     behind(n, 2)
-}
-
-/// The number of the next procedure or function.
-pub fn next_block(counts: Counts) -> Result<u32, Halt>
-    ensures { Answers result (Ok (next_block counts)) }
-{
-    behind(counts.blocks, 1)
 }

@@ -18,7 +18,7 @@ use crate::constants::check_value;
 use crate::declarations::{check_declares, check_kind, kind_number};
 use crate::have;
 use crate::kinds::{check_kind_form, copy_const, name_enumerated, name_kind};
-use crate::numbers::{next_constant, next_kind};
+use crate::numbers::behind;
 use crate::scopes::Scopes;
 use crate::variables::{declare_variables, push_variables};
 use sp_base::{Halt, List};
@@ -34,7 +34,7 @@ fn declare_constant(alloc: Global, scopes: &mut Scopes, x: &Name) -> Result<(), 
         ≡ inner_env scopes.old.around (with_declaration scopes.old.local x.now.text sort.Constant
         (meaning.Constant (next_constant scopes.old.local.counts)))) }
 {
-    let number = have!(next_constant(scopes.counts()));
+    let number = have!(behind(scopes.counts().constants, 3));
     scopes.declare(alloc, &x.text, Sort::Constant, Meaning::Constant(number))
 }
 
@@ -43,7 +43,7 @@ fn declare_type(alloc: Global, scopes: &mut Scopes, x: &Name) -> Result<(), Halt
     ensures memory { Answers result (Ok tt) }
     ensures after { OnOk result (scopes.new ≡ inner_env scopes.old.around (type_local scopes.old.local x.now)) }
 {
-    let number = have!(next_kind(scopes.counts()));
+    let number = have!(behind(scopes.counts().kinds, 3));
     scopes.declare(alloc, &x.text, Sort::Kind, Meaning::Kind(number))
 }
 
@@ -87,7 +87,7 @@ pub fn name_constant(
 fn kind_part(alloc: Global, scopes: &Scopes, walk: &mut Walk, x: &Name, k: &SynKind) -> Named
     ensures { Keeps walk.old walk.new walk.old.first (named.program_of result ≡ kind_part scopes.now x.now k.now) }
 {
-    let number = walk.number(next_kind(scopes.counts()));
+    let number = walk.number(behind(scopes.counts().kinds, 3));
     let constants = walk.list(alloc, name_enumerated(alloc, number, k));
     let mut kinds = Vec::new(alloc);
     match name_kind(alloc, scopes, k) {

@@ -11,7 +11,7 @@ ghost use Rattle.sp_tree.specs.NamedOf as named;
 ghost use Rattle.sp_tree.specs.SyntaxOf as plain;
 ghost use Rattle.sp_tree.specs.declared.checked.Role.TheVariants as role;
 ghost use Rattle.sp_scope.specs.Files.{files_flagged};
-ghost use Rattle.sp_scope.specs.Firsts.{files_first, block_first};
+ghost use Rattle.sp_scope.specs.Firsts.{block_first};
 ghost use Rattle.sp_tree.specs.Carried.{Keeps};
 ghost use Rattle.sp_scope.specs.Walks.{PassesTo, seen_block, standard_tables, own_tables};
 
@@ -45,12 +45,6 @@ fn check_flagged(xs: &[Name], first: FirstRefusal) -> FirstRefusal
         }
     }
     first
-}
-
-fn check_files(xs: &[Name], first: FirstRefusal) -> FirstRefusal
-    ensures { result ≡ files_first [] xs.now first }
-{
-    check_flagged(xs, first)
 }
 
 fn standard_constants(alloc: Global, at: Place) -> Result<List<NamedConstant>, Halt>
@@ -208,7 +202,7 @@ fn resolve_parts(
     ensures { AnswersAs named.program_of result
         (name_resolution (plain.program_of (record { name = name; heading = heading; block = block }))) }
 {
-    let first = check_files(heading.items(), None);
+    let first = check_flagged(heading.items(), None);
     let inner = have!(name_program(alloc, block, first));
     match inner.first {
         Some(r) => Err(Halt::Refused(r)),

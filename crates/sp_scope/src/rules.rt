@@ -3,7 +3,7 @@
 ghost use Rattle.std.specs.Prelude.{◌≡◌};
 ghost use Rattle.std.specs.Option.{option_copied};
 ghost use Rattle.sp_tree.specs.NameRules.{function_takes, procedure_takes, function_rule, procedure_rule, operand_rule};
-ghost use Rattle.sp_tree.specs.NameRules.{alone_rule, selects_rule, variable_rule, target_rule, assign_rule, is_local};
+ghost use Rattle.sp_tree.specs.NameRules.{target_rule, assign_rule, is_local};
 ghost use Rattle.sp_tree.specs.NameRules.{loop_rule, width_rule, bare_rule, needs_variable};
 
 use sp_base::{Place, Rule};
@@ -47,43 +47,22 @@ pub fn function_rule(at: Place, count: usize, m: Option<&Meaning>) -> FirstRefus
     }
 }
 
-fn alone_rule(at: Place, m: Option<&Meaning>) -> FirstRefusal
-    ensures { result ≡ alone_rule at (option_copied m.entry) }
-{
-    match m {
-        Some(Meaning::Constant(_)) => None,
-        Some(Meaning::Variable { .. }) => None,
-        m => function_rule(at, 0, m),
-    }
-}
-
-fn selects_rule(at: Place, m: Option<&Meaning>) -> FirstRefusal
-    ensures { result ≡ selects_rule at (option_copied m.entry) }
-{
-    match m {
-        None => breaks(Rule::N1, at),
-        Some(Meaning::Variable { .. }) => None,
-        Some(_) => breaks(Rule::N3, at),
-    }
-}
-
 /// A name in an expression, without selectors or with them: N1, N3, N6.
 pub fn operand_rule(at: Place, whole: bool, m: Option<&Meaning>) -> FirstRefusal
     ensures { result ≡ operand_rule at whole (option_copied m.entry) }
 {
     if whole {
-        alone_rule(at, m)
+        match m {
+            Some(Meaning::Constant(_)) => None,
+            Some(Meaning::Variable { .. }) => None,
+            m => function_rule(at, 0, m),
+        }
     } else {
-        selects_rule(at, m)
-    }
-}
-
-fn variable_rule(at: Place, role: Role) -> FirstRefusal
-    ensures { result ≡ variable_rule at role }
-{
-    match role {
-        Role::Index => breaks(Rule::N7, at),
-        _ => None,
+        match m {
+            None => breaks(Rule::N1, at),
+            Some(Meaning::Variable { .. }) => None,
+            Some(_) => breaks(Rule::N3, at),
+        }
     }
 }
 
@@ -93,7 +72,10 @@ pub fn target_rule(at: Place, m: Option<&Meaning>) -> FirstRefusal
 {
     match m {
         None => breaks(Rule::N1, at),
-        Some(Meaning::Variable { role, .. }) => variable_rule(at, *role),
+        Some(Meaning::Variable { role, .. }) => match role {
+            Role::Index => breaks(Rule::N7, at),
+            _ => None,
+        },
         Some(Meaning::Constant(_)) => breaks(Rule::N7, at),
         Some(Meaning::Function { .. }) => breaks(Rule::N7, at),
         Some(Meaning::StandardFunction(_)) => breaks(Rule::N7, at),

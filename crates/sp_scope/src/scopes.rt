@@ -13,7 +13,7 @@ ghost use Rattle.sp_scope.specs.Firsts.{Leaves};
 ghost use Rattle.sp_scope.specs.Walks.{entries_of};
 
 use crate::have;
-use crate::numbers::{more, next_variable};
+use crate::numbers::{behind, next_variable};
 use crate::standard::standard;
 use indexmap::IndexMap;
 use sp_base::{Halt, Text};
@@ -93,16 +93,16 @@ fn one_more(sort: Sort, counts: Counts) -> Result<Counts, Halt>
     let mut counts = counts;
     match sort {
         Sort::Constant => {
-            counts.constants = have!(more(counts.constants));
+            counts.constants = have!(behind(counts.constants, 1));
         }
         Sort::Kind => {
-            counts.kinds = have!(more(counts.kinds));
+            counts.kinds = have!(behind(counts.kinds, 1));
         }
         Sort::Variable => {
-            counts.variables = have!(more(counts.variables));
+            counts.variables = have!(behind(counts.variables, 1));
         }
         Sort::Block => {
-            counts.blocks = have!(more(counts.blocks));
+            counts.blocks = have!(behind(counts.blocks, 1));
         }
     }
     Ok(counts)
@@ -193,7 +193,7 @@ impl Scopes {
             None => Ok(()),
             Some(_) => {
                 let number = have!(next_variable(self.counts));
-                let results = have!(more(self.counts.results));
+                let results = have!(behind(self.counts.results, 1));
                 self.answer = number;
                 self.counts.results = results;
                 Ok(())

@@ -1,6 +1,6 @@
 //! The walk through statements, with numbers for names.
 
-ghost use Rattle.std.specs.Prelude.{◌≡◌, map, false, option_map, Some};
+ghost use Rattle.std.specs.Prelude.{◌≡◌, map, false, option_map};
 ghost use Rattle.std.specs.Option.{option_copied};
 ghost use Rattle.sp_tree.specs.Carried.{Keeps};
 ghost use Rattle.sp_tree.specs.Scopes.{find, inner_env, local_of_outer};
@@ -123,24 +123,8 @@ pub fn name_statement(alloc: Global, scopes: &mut Scopes, walk: &mut Walk, s: Sy
     NamedStmt { at, form }
 }
 
-#[cycle(statement)]
-fn name_boxed_statement(
-    alloc: Global,
-    scopes: &mut Scopes,
-    walk: &mut Walk,
-    s: Boxed<SynStmt>,
-) -> Option<Boxed<NamedStmt>>
-    ensures found { Keeps walk.old walk.new (statement_first scopes.old.around scopes.old.local
-        (statement_of s) walk.old.first)
-        (option_map named.statement_of result ≡ Some (named_statement scopes.old.around scopes.old.local
-        (statement_of s))) }
-    ensures after { walk.new.is_lost ≡ false → scopes.new ≡ inner_env scopes.old.around
-        (statement_local scopes.old.local (statement_of s)) }
-{
-    let s = name_statement(alloc, scopes, walk, s.into_inner());
-    walk.boxed(alloc, s)
-}
-
+/// The form of a statement. Where there is no box for a statement inside, the walk is lost, and what stands in its
+/// place is no answer.
 #[cycle(statement)]
 fn name_statement_form(
     alloc: Global,
@@ -162,14 +146,20 @@ fn name_statement_form(
         SynForm::Sequence(ss) => NamedForm::Sequence(name_statements(alloc, scopes, walk, ss)),
         SynForm::If(e, a, b) => {
             let e = name_expression(alloc, scopes, walk, e);
-            let a = name_boxed_statement(alloc, scopes, walk, a);
+            let a = name_statement(alloc, scopes, walk, a.into_inner());
             let b = name_else(alloc, scopes, walk, b);
-            if_form(e, a, b)
+            match walk.boxed(alloc, a) {
+                Some(a) => NamedForm::If(e, a, b),
+                None => NamedForm::Assume(e),
+            }
         }
         SynForm::While(e, a) => {
             let e = name_expression(alloc, scopes, walk, e);
-            let a = name_boxed_statement(alloc, scopes, walk, a);
-            while_form(e, a)
+            let a = name_statement(alloc, scopes, walk, a.into_inner());
+            match walk.boxed(alloc, a) {
+                Some(a) => NamedForm::While(e, a),
+                None => NamedForm::Assume(e),
+            }
         }
         SynForm::Repeat(ss, e) => name_repeat(alloc, scopes, walk, ss, e),
         SynForm::Case(e, choices) => {
@@ -216,28 +206,6 @@ fn name_else(
             let s = name_statement(alloc, scopes, walk, b.into_inner());
             walk.boxed(alloc, s)
         }
-    }
-}
-
-/// An `if`. If its statement is missing, the walk is lost, and this is no answer.
-fn if_form(e: NamedExpr, a: Option<Boxed<NamedStmt>>, b: Option<Boxed<NamedStmt>>) -> NamedForm
-    ensures { (s : n.Statement) → option_map named.statement_of a ≡ Some s → named.statement_form_of result
-        ≡ n.If (named.expression_of e) s (named.else_part (option_map named.statement_of b)) }
-{
-    match a {
-        Some(a) => NamedForm::If(e, a, b),
-        None => while_form(e, b),
-    }
-}
-
-/// A `while`, in the same way.
-fn while_form(e: NamedExpr, a: Option<Boxed<NamedStmt>>) -> NamedForm
-    ensures { (s : n.Statement) → option_map named.statement_of a ≡ Some s
-        → named.statement_form_of result ≡ n.While (named.expression_of e) s }
-{
-    match a {
-        Some(a) => NamedForm::While(e, a),
-        None => NamedForm::Assume(e),
     }
 }
 
@@ -290,59 +258,17 @@ fn name_for(
     walk.note(loop_rule(scopes.block(), name.at, m));
     let from = name_expression(alloc, scopes, walk, from);
     let to = name_expression(alloc, scopes, walk, to);
-    let body = name_boxed_statement(alloc, scopes, walk, body);
-    for_form(variable, name.at, from, down, to, body)
-}
-
-/// A `for`. If its statement is missing, the walk is lost, and this is no answer.
-fn for_form(
-    variable: u32,
-    at: Place,
-    from: NamedExpr,
-    down: bool,
-    to: NamedExpr,
-    body: Option<Boxed<NamedStmt>>,
-) -> NamedForm
-    ensures { (s : n.Statement) → option_map named.statement_of body ≡ Some s → named.statement_form_of result
-        ≡ n.For variable at (named.expression_of from) down (named.expression_of to) s }
-{
-    match body {
+    let body = name_statement(alloc, scopes, walk, body.into_inner());
+    match walk.boxed(alloc, body) {
         Some(body) => NamedForm::For {
             variable,
-            at,
+            at: name.at,
             from,
             down,
             to,
             body,
         },
-        None => {
-            drop(to);
-            NamedForm::Assume(from)
-        }
-    }
-}
-
-/// A forall, in the same way.
-fn forall_form(
-    index: u32,
-    from: NamedExpr,
-    to: NamedExpr,
-    body: Option<Boxed<NamedStmt>>,
-) -> NamedForm
-    ensures { (s : n.Statement) → option_map named.statement_of body ≡ Some s → named.statement_form_of result
-        ≡ n.Forall index (named.expression_of from) (named.expression_of to) s }
-{
-    match body {
-        Some(body) => NamedForm::Forall {
-            index,
-            from,
-            to,
-            body,
-        },
-        None => {
-            drop(to);
-            NamedForm::Assume(from)
-        }
+        None => NamedForm::Assume(from),
     }
 }
 
@@ -366,8 +292,16 @@ fn name_forall(
     let index = walk.number(next_variable(scopes.counts()));
     let from = name_expression(alloc, scopes, walk, from);
     let to = name_expression(alloc, scopes, walk, to);
-    let body = name_element(alloc, scopes, walk, body, &name);
-    forall_form(index, from, to, body)
+    let body = name_element(alloc, scopes, walk, body.into_inner(), &name);
+    match walk.boxed(alloc, body) {
+        Some(body) => NamedForm::Forall {
+            index,
+            from,
+            to,
+            body,
+        },
+        None => NamedForm::Assume(from),
+    }
 }
 
 /// The element statement of a forall, in a block of its own with the index.
@@ -376,13 +310,13 @@ fn name_element(
     alloc: Global,
     scopes: &mut Scopes,
     walk: &mut Walk,
-    body: Boxed<SynStmt>,
+    body: SynStmt,
     x: &Name,
-) -> Option<Boxed<NamedStmt>>
+) -> NamedStmt
     ensures found { Keeps walk.old walk.new (element_first scopes.old.around scopes.old.local x.now
         (statement_of body) walk.old.first)
-        (option_map named.statement_of result ≡ Some (named_statement (blocks_around scopes.old.around scopes.old.local)
-        (local_of_index scopes.old.local x.now) (statement_of body))) }
+        (named.statement_of result ≡ named_statement (blocks_around scopes.old.around scopes.old.local)
+        (local_of_index scopes.old.local x.now) (statement_of body)) }
     ensures after { walk.new.is_lost ≡ false → scopes.new ≡ inner_env scopes.old.around
         (local_of_outer scopes.old.local (statement_local (local_of_index scopes.old.local x.now)
         (statement_of body))) }
@@ -400,19 +334,19 @@ fn name_indexed(
     alloc: Global,
     scopes: &mut Scopes,
     walk: &mut Walk,
-    body: Boxed<SynStmt>,
+    body: SynStmt,
     x: &Name,
-) -> Option<Boxed<NamedStmt>>
+) -> NamedStmt
     ensures found { Keeps walk.old walk.new (indexed_first scopes.old.around scopes.old.local x.now
         (statement_of body) walk.old.first)
-        (option_map named.statement_of result
-        ≡ Some (named_statement scopes.old.around (index_local scopes.old.local x.now) (statement_of body))) }
+        (named.statement_of result
+        ≡ named_statement scopes.old.around (index_local scopes.old.local x.now) (statement_of body)) }
     ensures after { walk.new.is_lost ≡ false → scopes.new ≡ inner_env scopes.old.around
         (statement_local (index_local scopes.old.local x.now) (statement_of body)) }
 {
     walk.note(check_declares(scopes, x, Sort::Variable));
     walk.after(declare_variable(alloc, scopes, x, Role::Index));
-    name_boxed_statement(alloc, scopes, walk, body)
+    name_statement(alloc, scopes, walk, body)
 }
 
 #[cycle(statement)]

@@ -11,7 +11,7 @@ ghost use Rattle.sp_scope.specs.Firsts.{names_first, formals_first, heading_firs
 
 use crate::declarations::{check_declares, check_kind, kind_number};
 use crate::have;
-use crate::numbers::{more, next_variable};
+use crate::numbers::{behind, next_variable};
 use crate::scopes::Scopes;
 use sp_base::{Halt, List};
 use sp_tree::{Meaning, Name, Role, Sort, SynFormal, Variable, Walk};
@@ -145,7 +145,7 @@ pub fn numbers(alloc: Global, n: u32, xs: &[Variable]) -> Result<List<u32>, Halt
     let mut n = n;
     for _x in xs {
         have!(out.push(n));
-        n = have!(more(n));
+        n = have!(behind(n, 1));
     }
     Ok(List::of(out))
 }

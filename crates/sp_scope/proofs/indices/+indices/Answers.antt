@@ -11,11 +11,11 @@ push_arms-loop-a-preserved t c = grind (arith, common_steps)
 pub push_branches-loop-b-preserved : goal.push_branches-loop-b-preserved
 push_branches-loop-b-preserved t c = grind (arith, common_steps)
 
-pub push_statements-returns-clause-after : goal.push_statements-returns-clause-after
-push_statements-returns-clause-after t c = grind (arith, common_steps)
+pub push_statements-returns : goal.push_statements-returns
+push_statements-returns t c = grind (arith, common_steps)
 
-pub push_arms-returns-clause-after : goal.push_arms-returns-clause-after
-push_arms-returns-clause-after t c = grind (arith, common_steps)
+pub push_arms-returns : goal.push_arms-returns
+push_arms-returns t c = grind (arith, common_steps)
 
-pub push_branches-returns-clause-after : goal.push_branches-returns-clause-after
-push_branches-returns-clause-after t c = grind (arith, common_steps)
+pub push_branches-returns : goal.push_branches-returns
+push_branches-returns t c = grind (arith, common_steps)

@@ -1,4 +1,4 @@
-use Rattle.std.proofs.Common.{arith, sym, ◌∙◌, Some}
+use Rattle.std.proofs.Common.{arith, sym, ◌∙◌}
 use Rattle.std.proofs.lemmas.Grind.{common_steps}
 use Rattle.sp_tree.specs.PhaseResults.{earlier_refusal}
 use Rattle.sp_tree.specs.SyntaxOf.{expression_of, statement_of}
@@ -54,7 +54,7 @@ name_indexed-returns-clause-found t c k =
     let body = statement_of c.args.body in
     let around = c.args.scopes.now.around in
     let local = index_local c.args.scopes.now.local c.args.x.now in
-    let b = c.name_boxed_statement.ensures.found k in
+    let b = c.name_statement.ensures.found k in
     let a = c.after.ensures b.0 in
     let o = noted c.declare_variable.result c.declare_variable.ensures.after a.2 in (
       sym (λ j. (c.note.ensures j).is_lost) ∙ a.0,
@@ -62,15 +62,15 @@ name_indexed-returns-clause-found t c k =
           ∙ (λ j. statement_first around local body (c.note.ensures j).first)
           ∙ (λ j. statement_first around local body
           (earlier_refusal c.args.walk.now.first (c.check_declares.ensures j))),
-      b.2 ∙ (λ j. Some (named_statement (o j).around (o j).local body)),
+      b.2 ∙ (λ j. named_statement (o j).around (o j).local body),
     )
 
 pub name_indexed-returns-clause-after : goal.name_indexed-returns-clause-after
 name_indexed-returns-clause-after t c k =
-    let b = c.name_boxed_statement.ensures.found k in
+    let b = c.name_statement.ensures.found k in
     let a = c.after.ensures b.0 in
     let o = noted c.declare_variable.result c.declare_variable.ensures.after a.2 in
-    c.name_boxed_statement.ensures.after k
+    c.name_statement.ensures.after k
     ∙ (λ j. inner_env (o j).around (statement_local (o j).local (statement_of c.args.body)))
 
 pub name_element-returns-clause-found : goal.name_element-returns-clause-found
@@ -86,7 +86,7 @@ name_element-returns-clause-found t c k =
     (local_of_inner (c.block-block.ensures j) (c.answer-answer.ensures j) local)) in (
       a.0,
       b.1 ∙ (λ j. indexed_first (o j).around (o j).local x body (a.1 j)),
-      b.2 ∙ (λ j. Some (named_statement (o j).around (index_local (o j).local x) body)),
+      b.2 ∙ (λ j. named_statement (o j).around (index_local (o j).local x) body),
     )
 
 pub name_element-returns-clause-after : goal.name_element-returns-clause-after

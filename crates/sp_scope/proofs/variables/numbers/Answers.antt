@@ -8,5 +8,5 @@ loop-x-preserved c = grind (arith, common_steps)
 pub returns : goal.returns
 returns c = grind (arith, common_steps)
 
-pub returns-in-Err-more : goal.returns-in-Err-more
-returns-in-Err-more c = grind (arith, common_steps)
+pub returns-in-Err-behind : goal.returns-in-Err-behind
+returns-in-Err-behind c = grind (arith, common_steps)
