@@ -1,5 +1,4 @@
 mod ScopeTables
-mod Carrying
 mod NameOrders
 mod Tables
 mod NameRows

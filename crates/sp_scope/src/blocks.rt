@@ -2,17 +2,17 @@
 
 ghost use Rattle.std.specs.Prelude.{◌≡◌, ◌∷◌, false, map};
 ghost use Rattle.sp_tree.specs.Scopes.{inner_env};
-ghost use Rattle.sp_tree.specs.NameWalk.{part_local, parts_local, title_local};
+ghost use Rattle.sp_tree.specs.NameWalk.{part_local, parts_local};
 ghost use Rattle.sp_tree.specs.NamedTree.{parts_named, part_named, inside_named, nothing_named, appended_tables};
 ghost use Rattle.sp_tree.specs.NamedOf as named;
 ghost use Rattle.sp_tree.specs.PlainSyntax.{Proc};
 ghost use Rattle.sp_tree.specs.SyntaxOf.{block_of, part_of, parts};
-ghost use Rattle.sp_scope.specs.Walks.{seen_block, declared_by};
+ghost use Rattle.sp_scope.specs.Walks.{seen_block};
 ghost use Rattle.sp_tree.specs.Carried.{Keeps};
-ghost use Rattle.sp_scope.specs.Firsts.{parts_first, part_first, block_first, block_local, inner_first, inner_local};
-ghost use Rattle.sp_scope.specs.Firsts.{opened_first, opened_local, opened_named, inner_named};
+ghost use Rattle.sp_scope.specs.Firsts.{parts_first, part_first, block_first, block_local};
+ghost use Rattle.sp_scope.specs.Firsts.{opened_first, opened_local, opened_named};
 
-use crate::block_parts::{BlockParts, Heading};
+use crate::block_parts::BlockParts;
 use crate::headings::{declare_title, name_heading, procedure_part};
 use crate::indices::indices;
 use crate::parts::{name_constant, name_type, name_variables};
@@ -164,37 +164,12 @@ fn name_procedure(
         (part_local scopes.old.local (Proc x.now fs.now answer.now (block_of b).parts (block_of b).body)) }
 {
     let heading = name_heading(alloc, scopes, walk, x, fs, answer);
-    name_titled(b, alloc, scopes, walk, heading, x, fs, answer)
+    declare_title(alloc, scopes, walk, x, fs, answer);
+    let inner = name_opened(b, alloc, scopes, walk, heading.block, fs, answer);
+    procedure_part(alloc, walk, heading, x, answer, inner)
 }
 
-/// A procedure behind its heading.
-#[cycle(block)]
-fn name_titled(
-    b: Boxed<SynBlock>,
-    alloc: Global,
-    scopes: &mut Scopes,
-    walk: &mut Walk,
-    h: Heading,
-    x: &Name,
-    fs: &[SynFormal],
-    answer: &Option<Name>,
-) -> Named
-    ensures found { Keeps walk.old walk.new
-        (opened_first h.block scopes.old.around (title_local scopes.old.local x.now fs.now answer.now) fs.now answer.now
-        (block_of b).parts (block_of b).body walk.old.first)
-        (named.program_of result ≡ declared_by h x.now answer.now
-        (opened_named h.block scopes.old.around (title_local scopes.old.local x.now fs.now answer.now) fs.now answer.now
-        (block_of b).parts (block_of b).body)) }
-    ensures after { walk.new.is_lost ≡ false → scopes.new ≡ inner_env scopes.old.around
-        (opened_local h.block (title_local scopes.old.local x.now fs.now answer.now) fs.now answer.now
-        (block_of b).parts (block_of b).body) }
-{
-    walk.after(declare_title(alloc, scopes, x, fs, answer));
-    let inner = name_opened(b, alloc, scopes, walk, h.block, fs, answer);
-    procedure_part(alloc, walk, h, x, answer, inner)
-}
-
-/// The block of a procedure, from the block around it.
+/// The block of a procedure with its parameters, in a scope of its own, from the block around it.
 #[cycle(block)]
 fn name_opened(
     b: Boxed<SynBlock>,
@@ -215,31 +190,10 @@ fn name_opened(
 {
     let outer = scopes.block();
     let outer_answer = scopes.answer();
-    walk.after(scopes.open(alloc, block, 0));
-    let inner = name_inner(b, alloc, scopes, walk, fs, answer);
+    scopes.open(alloc, walk, block, 0);
+    declare_formals(alloc, scopes, walk, fs);
+    scopes.number_answer(walk, answer);
+    let inner = name_block(b.into_inner(), alloc, scopes, walk);
     scopes.leave(outer, outer_answer);
     inner
-}
-
-/// The block of a procedure with its parameters, in a scope of its own.
-#[cycle(block)]
-fn name_inner(
-    b: Boxed<SynBlock>,
-    alloc: Global,
-    scopes: &mut Scopes,
-    walk: &mut Walk,
-    fs: &[SynFormal],
-    answer: &Option<Name>,
-) -> BlockParts
-    ensures found { Keeps walk.old walk.new
-        (inner_first scopes.old.around scopes.old.local fs.now answer.now (block_of b).parts (block_of b).body
-        walk.old.first)
-        (seen_block result ≡ inner_named scopes.old.around scopes.old.local fs.now answer.now
-        (block_of b).parts (block_of b).body) }
-    ensures after { walk.new.is_lost ≡ false → scopes.new ≡ inner_env scopes.old.around
-        (inner_local scopes.old.local fs.now answer.now (block_of b).parts (block_of b).body) }
-{
-    declare_formals(alloc, scopes, walk, fs);
-    walk.after(scopes.number_answer(answer));
-    name_block(b.into_inner(), alloc, scopes, walk)
 }

@@ -35,24 +35,24 @@ pub fn check_bound(scopes: &Scopes, own: &Name, v: &SynValue, first: FirstRefusa
     }
 }
 
-fn name_value(scopes: &Scopes, v: SynValue) -> NamedValue
-    ensures { result ≡ named_value scopes.now v }
+fn name_value(alloc: Global, scopes: &Scopes, walk: &mut Walk, v: &SynValue) -> NamedValue
+    ensures { Keeps walk.old walk.new walk.old.first (result ≡ named_value scopes.now v.now) }
 {
     match v {
-        SynValue::Number(n) => NamedValue::Number(n),
-        SynValue::Quoted(t) => NamedValue::Quoted(t),
+        SynValue::Number(n) => NamedValue::Number(*n),
+        SynValue::Quoted(t) => NamedValue::Quoted(walk.text(alloc, t)),
         SynValue::Named(x) => NamedValue::Constant(constant_number(scopes.find(&x.text))),
     }
 }
 
 /// A constant with its sign.
-pub fn name_const(scopes: &Scopes, c: SynConst) -> NamedConst
-    ensures { result ≡ named_const scopes.now c }
+pub fn name_const(alloc: Global, scopes: &Scopes, walk: &mut Walk, c: &SynConst) -> NamedConst
+    ensures { Keeps walk.old walk.new walk.old.first (result ≡ named_const scopes.now c.now) }
 {
     NamedConst {
         at: c.at,
         negative: c.negative,
-        value: name_value(scopes, c.value),
+        value: name_value(alloc, scopes, walk, &c.value),
     }
 }
 
@@ -61,15 +61,16 @@ pub fn name_constants(
     alloc: Global,
     scopes: &Scopes,
     walk: &mut Walk,
-    cs: List<SynConst>,
+    cs: &[SynConst],
 ) -> List<NamedConst>
-    ensures { Keeps walk.old walk.new (constants_first scopes.now cs walk.old.first)
-        (result ≡ named_constants scopes.now cs) }
+    ensures { Keeps walk.old walk.new (constants_first scopes.now cs.now walk.old.first)
+        (result ≡ named_constants scopes.now cs.now) }
 {
     let mut out = Vec::new(alloc);
-    for c in cs.into_vec() {
+    for c in cs {
         walk.first = check_value(scopes, &c.value, walk.first);
-        walk.push(&mut out, name_const(scopes, c));
+        let constant = name_const(alloc, scopes, walk, c);
+        walk.push(&mut out, constant);
     }
     List::of(out)
 }

@@ -1,7 +1,6 @@
 //! The walk through headings of procedures and functions.
 
-ghost use Rattle.std.specs.Prelude.{◌≡◌, ◌++◌, Ok, OnOk};
-ghost use Rattle.sp_tree.specs.PhaseResults.{Answers};
+ghost use Rattle.std.specs.Prelude.{◌≡◌, ◌++◌};
 ghost use Rattle.sp_tree.specs.Scopes.{inner_env};
 ghost use Rattle.sp_tree.specs.NameWalk.{block_meaning, title_local};
 ghost use Rattle.sp_tree.specs.NamedTree.{answer_named, answer_of};
@@ -14,11 +13,10 @@ ghost use Rattle.sp_scope.specs.Firsts.{answer_first, title_first};
 use crate::block_parts::{BlockParts, Heading};
 use crate::blocks::block_in_front;
 use crate::declarations::{check_declares, check_kind, kind_number};
-use crate::have;
 use crate::numbers::{behind, next_variable};
 use crate::scopes::Scopes;
 use crate::variables::{name_formals, numbers};
-use sp_base::{Halt, List};
+use sp_base::List;
 use sp_tree::{
     FirstRefusal, Meaning, Name, Named, NamedAnswer, Role, Sort, SynFormal, Variable, Walk,
     earlier_refusal,
@@ -37,26 +35,30 @@ fn check_answer(scopes: &Scopes, answer: &Option<Name>, first: FirstRefusal) -> 
 fn name_answer(
     alloc: Global,
     scopes: &Scopes,
+    walk: &mut Walk,
     block: u32,
     x: &Name,
     answer: &Option<Name>,
-) -> Result<List<Variable>, Halt>
-    ensures { Answers result (Ok (answer_named scopes.now block x.now answer.now)) }
+) -> List<Variable>
+    ensures { Keeps walk.old walk.new walk.old.first (result ≡ answer_named scopes.now block x.now answer.now) }
 {
-    let mut out = Vec::new(alloc);
     match answer {
-        None => Ok(List::of(out)),
+        None => List::new(alloc),
         Some(t) => {
-            let name = have!(x.text.duplicate(alloc));
+            let name = walk.text(alloc, &x.text);
             let kind = kind_number(scopes.find(&t.text));
-            out.push(Variable {
-                name,
-                kind,
-                block,
-                role: Role::Answer,
-                at: x.at,
-            })?;
-            Ok(List::of(out))
+            let mut out = Vec::new(alloc);
+            walk.push(
+                &mut out,
+                Variable {
+                    name,
+                    kind,
+                    block,
+                    role: Role::Answer,
+                    at: x.at,
+                },
+            );
+            List::of(out)
         }
     }
 }
@@ -74,12 +76,12 @@ pub fn name_heading(
         (result ≡ heading_named scopes.now x.now fs.now answer.now) }
 {
     walk.note(check_declares(scopes, x, Sort::Block));
-    let block = walk.number(behind(scopes.counts().blocks, 1));
+    let block = behind(walk, scopes.counts().blocks, 1);
     let formals = name_formals(alloc, scopes, walk, fs, block);
     walk.first = check_answer(scopes, answer, walk.first);
-    let results = walk.list(alloc, name_answer(alloc, scopes, block, x, answer));
-    let number = walk.number(next_variable(scopes.counts()));
-    let numbers = walk.list(alloc, numbers(alloc, number, formals.items()));
+    let results = name_answer(alloc, scopes, walk, block, x, answer);
+    let number = next_variable(walk, scopes.counts());
+    let numbers = numbers(alloc, walk, number, formals.items());
     Heading {
         block,
         parent: scopes.block(),
@@ -89,41 +91,40 @@ pub fn name_heading(
     }
 }
 
-fn push_flags(out: &mut Vec<bool>, xs: &[Name], by_reference: bool) -> Result<(), Halt>
-    ensures memory { Answers result (Ok tt) }
-    ensures after { OnOk result (out.new.items ≡ out.old.items ++ flags by_reference xs.now) }
+fn push_flags(walk: &mut Walk, out: &mut Vec<bool>, xs: &[Name], by_reference: bool)
+    ensures { Keeps walk.old walk.new walk.old.first (out.new.items ≡ out.old.items ++ flags by_reference xs.now) }
 {
     for _x in xs {
-        have!(out.push(by_reference));
+        walk.push(out, by_reference);
     }
-    Ok(())
 }
 
 /// For each parameter, whether it is a variable parameter.
-fn all_flags(alloc: Global, fs: &[SynFormal]) -> Result<List<bool>, Halt>
-    ensures { Answers result (Ok (all_flags fs.now)) }
+fn all_flags(alloc: Global, walk: &mut Walk, fs: &[SynFormal]) -> List<bool>
+    ensures { Keeps walk.old walk.new walk.old.first (result ≡ all_flags fs.now) }
 {
     let mut out = Vec::new(alloc);
     for f in fs {
-        have!(push_flags(&mut out, f.names.items(), f.by_reference));
+        push_flags(walk, &mut out, f.names.items(), f.by_reference);
     }
-    Ok(List::of(out))
+    List::of(out)
 }
 
 #[tactic(auto, using(crate::proofs::ScopeTables::flags_are))]
 fn block_meaning(
     alloc: Global,
     scopes: &Scopes,
+    walk: &mut Walk,
     fs: &[SynFormal],
     answer: &Option<Name>,
-) -> Result<Meaning, Halt>
-    ensures { Answers result (Ok (block_meaning scopes.now.local fs.now answer.now)) }
+) -> Meaning
+    ensures { Keeps walk.old walk.new walk.old.first (result ≡ block_meaning scopes.now.local fs.now answer.now) }
 {
-    let block = have!(behind(scopes.counts().blocks, 1));
-    let references = have!(all_flags(alloc, fs));
+    let block = behind(walk, scopes.counts().blocks, 1);
+    let references = all_flags(alloc, walk, fs);
     match answer {
-        None => Ok(Meaning::Procedure { block, references }),
-        Some(_) => Ok(Meaning::Function { block, references }),
+        None => Meaning::Procedure { block, references },
+        Some(_) => Meaning::Function { block, references },
     }
 }
 
@@ -131,16 +132,16 @@ fn block_meaning(
 pub fn declare_title(
     alloc: Global,
     scopes: &mut Scopes,
+    walk: &mut Walk,
     x: &Name,
     fs: &[SynFormal],
     answer: &Option<Name>,
-) -> Result<(), Halt>
-    ensures memory { Answers result (Ok tt) }
-    ensures after { OnOk result (scopes.new ≡ inner_env scopes.old.around
+)
+    ensures { Keeps walk.old walk.new walk.old.first (scopes.new ≡ inner_env scopes.old.around
         (title_local scopes.old.local x.now fs.now answer.now)) }
 {
-    let m = have!(block_meaning(alloc, scopes, fs, answer));
-    scopes.declare(alloc, &x.text, Sort::Block, m)
+    let m = block_meaning(alloc, scopes, walk, fs, answer);
+    scopes.declare(alloc, walk, &x.text, Sort::Block, m);
 }
 
 fn answer_of(variable: u32, answer: &Option<Name>) -> Option<NamedAnswer>

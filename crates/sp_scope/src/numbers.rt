@@ -1,38 +1,40 @@
-//! Numbers behind others, and the next number of a variable. One that would not fit 32 bits is answered as want of
-//! memory.
+//! Numbers behind others, and the next number of a variable. One that would not fit 32 bits loses the walk, as want of
+//! memory does.
 
-ghost use Rattle.std.specs.Prelude.{◌+◌, Ok};
-ghost use Rattle.sp_tree.specs.PhaseResults.{Answers};
+ghost use Rattle.std.specs.Prelude.{◌≡◌, ◌+◌};
+ghost use Rattle.sp_tree.specs.Carried.{Keeps};
 ghost use Rattle.sp_tree.specs.Scopes.{next_variable};
 
-use crate::have;
-use sp_base::Halt;
-use sp_tree::Counts;
+use sp_tree::{Counts, Walk};
 
 /// A length as a number.
-pub fn count_of(n: usize) -> Result<u32, Halt>
-    ensures { Answers result (Ok n) }
+pub fn count_of(walk: &mut Walk, n: usize) -> u32
+    ensures { Keeps walk.old walk.new walk.old.first (result ≡ n) }
 {
     if n > 4294967295 {
-        return Err(Halt::Memory);
+        walk.is_lost = true;
+        return 0;
     }
-    Ok(n as u32)
+    n as u32
 }
 
-/// A number behind others, which is too large for memory above 2^32.
-pub fn behind(n: u32, m: u32) -> Result<u32, Halt>
-    ensures { Answers result (Ok (n + m)) }
+/// A number behind others.
+pub fn behind(walk: &mut Walk, n: u32, m: u32) -> u32
+    ensures { Keeps walk.old walk.new walk.old.first (result ≡ n + m) }
 {
     match n.checked_add(m) {
-        Some(k) => Ok(k),
-        None => Err(Halt::Memory),
+        Some(k) => k,
+        None => {
+            walk.is_lost = true;
+            0
+        }
     }
 }
 
 /// The number of the next variable.
-pub fn next_variable(counts: Counts) -> Result<u32, Halt>
-    ensures { Answers result (Ok (next_variable counts)) }
+pub fn next_variable(walk: &mut Walk, counts: Counts) -> u32
+    ensures { Keeps walk.old walk.new walk.old.first (result ≡ next_variable counts) }
 {
-    let n = have!(behind(counts.variables, counts.results));
-    behind(n, 2)
+    let n = behind(walk, counts.variables, counts.results);
+    behind(walk, n, 2)
 }

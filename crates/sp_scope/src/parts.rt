@@ -1,7 +1,6 @@
 //! The walk through parts that declare constants, types and variables.
 
-ghost use Rattle.std.specs.Prelude.{◌≡◌, false, Ok, OnOk};
-ghost use Rattle.sp_tree.specs.PhaseResults.{Answers};
+ghost use Rattle.std.specs.Prelude.{◌≡◌, false};
 ghost use Rattle.sp_tree.specs.Scopes.{inner_env, with_declaration, next_constant};
 ghost use Rattle.sp_tree.specs.declared.meaning.Meaning.TheVariants as meaning;
 ghost use Rattle.sp_tree.specs.declared.meaning.Sort.TheVariants as sort;
@@ -14,47 +13,49 @@ ghost use Rattle.sp_tree.specs.NameFirst.{at_site};
 ghost use Rattle.sp_tree.specs.Carried.{Keeps};
 ghost use Rattle.sp_scope.specs.Firsts.{part_first, enumerated_first, kind_first, kind_constants_first};
 
-use crate::constants::check_value;
+use crate::constants::{check_value, name_const};
 use crate::declarations::{check_declares, check_kind, kind_number};
-use crate::have;
-use crate::kinds::{check_kind_form, copy_const, name_enumerated, name_kind};
+use crate::kinds::{check_kind_form, name_enumerated, name_kind};
 use crate::numbers::behind;
 use crate::scopes::Scopes;
 use crate::variables::{declare_variables, push_variables};
-use sp_base::{Halt, List};
+use sp_base::List;
 use sp_tree::{
     Meaning, Name, Named, NamedConstant, NamedKind, Role, Sort, SynConst, SynKind, Walk,
 };
 use std::alloc::Global;
 
 /// Declares a constant in the innermost block.
-fn declare_constant(alloc: Global, scopes: &mut Scopes, x: &Name) -> Result<(), Halt>
-    ensures memory { Answers result (Ok tt) }
-    ensures after { OnOk result (scopes.new
+fn declare_constant(alloc: Global, scopes: &mut Scopes, walk: &mut Walk, x: &Name)
+    ensures { Keeps walk.old walk.new walk.old.first (scopes.new
         ≡ inner_env scopes.old.around (with_declaration scopes.old.local x.now.text sort.Constant
         (meaning.Constant (next_constant scopes.old.local.counts)))) }
 {
-    let number = have!(behind(scopes.counts().constants, 3));
-    scopes.declare(alloc, &x.text, Sort::Constant, Meaning::Constant(number))
+    let number = behind(walk, scopes.counts().constants, 3);
+    scopes.declare(
+        alloc,
+        walk,
+        &x.text,
+        Sort::Constant,
+        Meaning::Constant(number),
+    );
 }
 
 /// Declares a type in the innermost block.
-fn declare_type(alloc: Global, scopes: &mut Scopes, x: &Name) -> Result<(), Halt>
-    ensures memory { Answers result (Ok tt) }
-    ensures after { OnOk result (scopes.new ≡ inner_env scopes.old.around (type_local scopes.old.local x.now)) }
+fn declare_type(alloc: Global, scopes: &mut Scopes, walk: &mut Walk, x: &Name)
+    ensures { Keeps walk.old walk.new walk.old.first
+        (scopes.new ≡ inner_env scopes.old.around (type_local scopes.old.local x.now)) }
 {
-    let number = have!(behind(scopes.counts().kinds, 3));
-    scopes.declare(alloc, &x.text, Sort::Kind, Meaning::Kind(number))
+    let number = behind(walk, scopes.counts().kinds, 3);
+    scopes.declare(alloc, walk, &x.text, Sort::Kind, Meaning::Kind(number));
 }
 
 fn constant_part(alloc: Global, scopes: &Scopes, walk: &mut Walk, c: &SynConst) -> Named
     ensures { Keeps walk.old walk.new walk.old.first (named.program_of result ≡ constant_part scopes.now c.now) }
 {
     let mut constants = Vec::new(alloc);
-    match copy_const(alloc, scopes, c) {
-        Ok(value) => walk.push(&mut constants, NamedConstant::Value(value)),
-        Err(_) => walk.is_lost = true,
-    }
+    let constant = name_const(alloc, scopes, walk, c);
+    walk.push(&mut constants, NamedConstant::Value(constant));
     Named {
         constants: List::of(constants),
         kinds: List::new(alloc),
@@ -80,20 +81,18 @@ pub fn name_constant(
     walk.note(check_declares(scopes, x, Sort::Constant));
     walk.first = check_value(scopes, &c.value, walk.first);
     let part = constant_part(alloc, scopes, walk, c);
-    walk.after(declare_constant(alloc, scopes, x));
+    declare_constant(alloc, scopes, walk, x);
     part
 }
 
 fn kind_part(alloc: Global, scopes: &Scopes, walk: &mut Walk, x: &Name, k: &SynKind) -> Named
     ensures { Keeps walk.old walk.new walk.old.first (named.program_of result ≡ kind_part scopes.now x.now k.now) }
 {
-    let number = walk.number(behind(scopes.counts().kinds, 3));
-    let constants = walk.list(alloc, name_enumerated(alloc, number, k));
+    let number = behind(walk, scopes.counts().kinds, 3);
+    let constants = name_enumerated(alloc, walk, number, k);
+    let form = name_kind(alloc, scopes, walk, k);
     let mut kinds = Vec::new(alloc);
-    match name_kind(alloc, scopes, k) {
-        Ok(form) => walk.push(&mut kinds, NamedKind { at: x.at, form }),
-        Err(_) => walk.is_lost = true,
-    }
+    walk.push(&mut kinds, NamedKind { at: x.at, form });
     Named {
         constants,
         kinds: List::of(kinds),
@@ -109,7 +108,7 @@ fn declare_constants(alloc: Global, scopes: &mut Scopes, walk: &mut Walk, xs: &[
 {
     for x in xs {
         walk.note(check_declares(scopes, x, Sort::Constant));
-        walk.after(declare_constant(alloc, scopes, x));
+        declare_constant(alloc, scopes, walk, x);
     }
 }
 
@@ -140,7 +139,7 @@ pub fn name_type(
         (part_local scopes.old.local (Kind x.now k.now)) }
 {
     let part = name_definition(alloc, scopes, walk, x, k);
-    walk.after(declare_type(alloc, scopes, x));
+    declare_type(alloc, scopes, walk, x);
     declare_enumerated(alloc, scopes, walk, k);
     part
 }
@@ -152,7 +151,7 @@ fn name_definition(alloc: Global, scopes: &Scopes, walk: &mut Walk, x: &Name, k:
         (named.program_of result ≡ kind_part scopes.now x.now k.now) }
 {
     walk.note(check_declares(scopes, x, Sort::Kind));
-    walk.take(check_kind_form(alloc, scopes, x, k, walk.first));
+    check_kind_form(alloc, scopes, walk, x, k);
     kind_part(alloc, scopes, walk, x, k)
 }
 
@@ -163,7 +162,7 @@ fn variables_part(alloc: Global, scopes: &Scopes, walk: &mut Walk, xs: &[Name], 
     let kind = kind_number(scopes.find(&t.text));
     let mut variables = Vec::new(alloc);
     let block = scopes.block();
-    walk.after(push_variables(alloc, &mut variables, xs, block, Role::Local, kind));
+    push_variables(alloc, walk, &mut variables, xs, block, Role::Local, kind);
     Named {
         constants: List::new(alloc),
         kinds: List::new(alloc),

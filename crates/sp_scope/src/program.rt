@@ -2,7 +2,7 @@
 //! declares.
 
 ghost use Rattle.std.specs.Prelude.{◌≡◌, ◌∷◌, [], true, false, None, Some, Ok};
-ghost use Rattle.sp_tree.specs.PhaseResults.{Answers, AnswersAs};
+ghost use Rattle.sp_tree.specs.PhaseResults.{AnswersAs};
 ghost use Rattle.sp_tree.specs.NamedTree.{standard_constants, standard_kinds, consoles, program_tables, inside_named};
 ghost use Rattle.sp_tree.specs.Scopes.{standard_scope, empty_local};
 ghost use Rattle.sp_tree.specs.SyntaxOf.{block_of};
@@ -47,8 +47,8 @@ fn check_flagged(xs: &[Name], first: FirstRefusal) -> FirstRefusal
     first
 }
 
-fn standard_constants(alloc: Global, at: Place) -> Result<List<NamedConstant>, Halt>
-    ensures { Answers result (Ok (standard_constants at)) }
+fn standard_constants(alloc: Global, walk: &mut Walk, at: Place) -> List<NamedConstant>
+    ensures { Keeps walk.old walk.new walk.old.first (result ≡ standard_constants at) }
 {
     let falsehood = NamedConstant::Enumerated {
         kind: 1,
@@ -63,12 +63,17 @@ fn standard_constants(alloc: Global, at: Place) -> Result<List<NamedConstant>, H
         negative: None,
         value: NamedValue::Number(MAXINT as u64),
     });
-    let out = Vec::from_array(alloc, [falsehood, truth, greatest])?;
-    Ok(List::of(out))
+    match Vec::from_array(alloc, [falsehood, truth, greatest]) {
+        Ok(out) => List::of(out),
+        Err(_) => {
+            walk.is_lost = true;
+            List::new(alloc)
+        }
+    }
 }
 
-fn standard_kinds(alloc: Global, at: Place) -> Result<List<NamedKind>, Halt>
-    ensures { Answers result (Ok (standard_kinds at)) }
+fn standard_kinds(alloc: Global, walk: &mut Walk, at: Place) -> List<NamedKind>
+    ensures { Keeps walk.old walk.new walk.old.first (result ≡ standard_kinds at) }
 {
     let integer = NamedKind {
         at,
@@ -82,32 +87,44 @@ fn standard_kinds(alloc: Global, at: Place) -> Result<List<NamedKind>, Halt>
         at,
         form: NamedKindForm::Char,
     };
-    let out = Vec::from_array(alloc, [integer, boolean, character])?;
-    Ok(List::of(out))
+    match Vec::from_array(alloc, [integer, boolean, character]) {
+        Ok(out) => List::of(out),
+        Err(_) => {
+            walk.is_lost = true;
+            List::new(alloc)
+        }
+    }
 }
 
-fn console(alloc: Global, name: &str, at: Place) -> Result<Variable, Halt>
-    ensures { Answers result (Ok (record { name = name.now; kind = 2; block = 0; role = role.Console; at = at })) }
+fn console(alloc: Global, walk: &mut Walk, name: &str, at: Place) -> Variable
+    ensures { Keeps walk.old walk.new walk.old.first
+        (result ≡ record { name = name.now; kind = 2; block = 0; role = role.Console; at = at }) }
 {
-    let bytes = have!(Vec::from_slice(alloc, name.as_bytes()));
-    Ok(Variable {
-        name: Text::of(bytes),
+    let name = match Vec::from_slice(alloc, name.as_bytes()) {
+        Ok(bytes) => Text::of(bytes),
+        Err(_) => {
+            walk.is_lost = true;
+            Text::of(Vec::new(alloc))
+        }
+    };
+    Variable {
+        name,
         kind: 2,
         block: 0,
         role: Role::Console,
         at,
-    })
+    }
 }
 
-fn consoles(alloc: Global, at: Place) -> Result<List<Variable>, Halt>
-    ensures { Answers result (Ok (consoles at)) }
+fn consoles(alloc: Global, walk: &mut Walk, at: Place) -> List<Variable>
+    ensures { Keeps walk.old walk.new walk.old.first (result ≡ consoles at) }
 {
-    let input = have!(console(alloc, "input", at));
-    let output = have!(console(alloc, "output", at));
+    let input = console(alloc, walk, "input", at);
+    let output = console(alloc, walk, "output", at);
     let mut out = Vec::new(alloc);
-    out.push(input)?;
-    out.push(output)?;
-    Ok(List::of(out))
+    walk.push(&mut out, input);
+    walk.push(&mut out, output);
+    List::of(out)
 }
 
 /// The standard declarations, as tables of their own.
@@ -115,9 +132,9 @@ fn standard_tables(alloc: Global, walk: &mut Walk, at: Place) -> Named
     ensures { Keeps walk.old walk.new walk.old.first (named.program_of result ≡ standard_tables at) }
 {
     Named {
-        constants: walk.list(alloc, standard_constants(alloc, at)),
-        kinds: walk.list(alloc, standard_kinds(alloc, at)),
-        variables: walk.list(alloc, consoles(alloc, at)),
+        constants: standard_constants(alloc, walk, at),
+        kinds: standard_kinds(alloc, walk, at),
+        variables: consoles(alloc, walk, at),
         blocks: List::new(alloc),
     }
 }

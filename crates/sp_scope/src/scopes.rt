@@ -4,6 +4,7 @@
 
 ghost use Rattle.std.specs.Prelude.{◌≡◌, nat_le, ◌∷◌, [], map, None, Ok, OnOk};
 ghost use Rattle.std.specs.Option.{option_copied, is_some};
+ghost use Rattle.sp_tree.specs.Carried.{Keeps};
 ghost use Rattle.sp_tree.specs.PhaseResults.{Answers};
 ghost use Rattle.sp_tree.specs.Scopes.{find_in, look, find, put, count, with_one_more, declaration_limit};
 ghost use Rattle.sp_tree.specs.Scopes.{empty_local, standard_scope, with_declaration};
@@ -17,7 +18,7 @@ use crate::numbers::{behind, next_variable};
 use crate::standard::standard;
 use indexmap::IndexMap;
 use sp_base::{Halt, Text};
-use sp_tree::{Counts, Meaning, Name, Sort};
+use sp_tree::{Counts, Meaning, Name, Sort, Walk};
 use std::alloc::Global;
 use std::marker::Model;
 use std::mem;
@@ -45,19 +46,13 @@ impl Model for Scopes {
     } };
 }
 
-fn look_in<'a>(b: &'a IndexMap<Text, Meaning>, name: &Text) -> Option<&'a Meaning>
-    ensures { option_copied result ≡ look b.now.entries name.now }
-{
-    b.get(name)
-}
-
 /// The innermost of these blocks that declares the name, the last first.
 fn find_in<'a>(bs: &'a [IndexMap<Text, Meaning>], name: &Text) -> Option<&'a Meaning>
     ensures { option_copied result ≡ find_in (map entries_of bs.now) name.now None }
 {
     match bs.split_last() {
         None => None,
-        Some((b, rest)) => match look_in(b, name) {
+        Some((b, rest)) => match b.get(name) {
             Some(m) => Some(m),
             None => find_in(rest, name),
         },
@@ -74,38 +69,18 @@ pub fn put(b: &mut IndexMap<Text, Meaning>, name: Text, m: Meaning) -> Result<()
     Ok(())
 }
 
-/// How many of a sort were declared.
-fn count(sort: Sort, counts: Counts) -> u32
-    ensures { result ≡ count sort counts }
-{
-    match sort {
-        Sort::Constant => counts.constants,
-        Sort::Kind => counts.kinds,
-        Sort::Variable => counts.variables,
-        Sort::Block => counts.blocks,
-    }
-}
-
 /// One more of a sort.
-fn one_more(sort: Sort, counts: Counts) -> Result<Counts, Halt>
-    ensures { Answers result (Ok (with_one_more sort counts)) }
+fn one_more(walk: &mut Walk, sort: Sort, counts: Counts) -> Counts
+    ensures { Keeps walk.old walk.new walk.old.first (result ≡ with_one_more sort counts) }
 {
     let mut counts = counts;
     match sort {
-        Sort::Constant => {
-            counts.constants = have!(behind(counts.constants, 1));
-        }
-        Sort::Kind => {
-            counts.kinds = have!(behind(counts.kinds, 1));
-        }
-        Sort::Variable => {
-            counts.variables = have!(behind(counts.variables, 1));
-        }
-        Sort::Block => {
-            counts.blocks = have!(behind(counts.blocks, 1));
-        }
+        Sort::Constant => counts.constants = behind(walk, counts.constants, 1),
+        Sort::Kind => counts.kinds = behind(walk, counts.kinds, 1),
+        Sort::Variable => counts.variables = behind(walk, counts.variables, 1),
+        Sort::Block => counts.blocks = behind(walk, counts.blocks, 1),
     }
-    Ok(counts)
+    counts
 }
 
 /// How many of one sort a text may declare.
@@ -159,59 +134,50 @@ impl Scopes {
     pub fn is_full(&self, sort: Sort) -> bool
         ensures { result ≡ nat_le declaration_limit (count sort self.now.local.counts) }
     {
-        MOST <= count(sort, self.counts)
+        match sort {
+            Sort::Constant => MOST <= self.counts.constants,
+            Sort::Kind => MOST <= self.counts.kinds,
+            Sort::Variable => MOST <= self.counts.variables,
+            Sort::Block => MOST <= self.counts.blocks,
+        }
     }
 
     /// Declares a name. Past the limit of its sort nothing is entered.
-    pub fn declare(
-        &mut self,
-        alloc: Global,
-        name: &Text,
-        sort: Sort,
-        m: Meaning,
-    ) -> Result<(), Halt>
-        ensures memory { Answers result (Ok tt) }
-        ensures after { OnOk result
+    pub fn declare(&mut self, alloc: Global, walk: &mut Walk, name: &Text, sort: Sort, m: Meaning)
+        ensures { Keeps walk.old walk.new walk.old.first
             (self.new ≡ inner_env self.old.around (with_declaration self.old.local name.now sort m)) }
     {
-        if self.is_full(sort) {
-            return Ok(());
+        if !self.is_full(sort) {
+            let counts = one_more(walk, sort, self.counts);
+            let name = walk.text(alloc, name);
+            walk.after(put(&mut self.here, name, m));
+            self.counts = counts;
         }
-        let counts = have!(one_more(sort, self.counts));
-        let name = Text::of(have!(Vec::from_slice(alloc, name.bytes())));
-        have!(put(&mut self.here, name, m));
-        self.counts = counts;
-        Ok(())
     }
 
     /// Numbers the result of a function, a variable without a name.
-    pub fn number_answer(&mut self, answer: &Option<Name>) -> Result<(), Halt>
-        ensures memory { Answers result (Ok tt) }
-        ensures after { OnOk result (self.new ≡ inner_env self.old.around (answer_local self.old.local answer.now)) }
+    pub fn number_answer(&mut self, walk: &mut Walk, answer: &Option<Name>)
+        ensures { Keeps walk.old walk.new walk.old.first
+            (self.new ≡ inner_env self.old.around (answer_local self.old.local answer.now)) }
     {
         match answer {
-            None => Ok(()),
+            None => {}
             Some(_) => {
-                let number = have!(next_variable(self.counts));
-                let results = have!(behind(self.counts.results, 1));
-                self.answer = number;
-                self.counts.results = results;
-                Ok(())
+                self.answer = next_variable(walk, self.counts);
+                self.counts.results = behind(walk, self.counts.results, 1);
             }
         }
     }
 
     /// Opens a block inside, of the procedure with this number, whose result has that one.
-    pub fn open(&mut self, alloc: Global, block: u32, answer: u32) -> Result<(), Halt>
-        ensures memory { Answers result (Ok tt) }
-        ensures after { OnOk result (self.new
+    pub fn open(&mut self, alloc: Global, walk: &mut Walk, block: u32, answer: u32)
+        ensures { Keeps walk.old walk.new walk.old.first (self.new
             ≡ inner_env (blocks_around self.old.around self.old.local) (local_of_inner block answer self.old.local)) }
     {
         let here = mem::replace(&mut self.here, IndexMap::new(alloc));
-        self.around.push(here)?;
+        walk.push(&mut self.around, here);
         self.block = block;
         self.answer = answer;
-        Ok(())
     }
 
     /// Goes back to the block around, which is that of the procedure with this number.

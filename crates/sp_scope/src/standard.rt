@@ -3,7 +3,6 @@
 ghost use Rattle.std.specs.Prelude.{◌≡◌, true, Ok};
 ghost use Rattle.sp_tree.specs.PhaseResults.{AnswersAs};
 ghost use Rattle.sp_tree.specs.Scopes.{put, standard_scope};
-ghost use Rattle.sp_tree.specs.declared.meaning.Meaning.TheVariants as meaning;
 ghost use Rattle.sp_scope.specs.Standard.{with_types, with_functions, with_procedures};
 ghost use Rattle.sp_scope.specs.Walks.{entries_of};
 
@@ -34,47 +33,74 @@ fn enter_types(alloc: Global, b: &mut IndexMap<Text, Meaning>) -> bool
         && enter(alloc, b, "maxint", Meaning::Constant(2))
 }
 
-fn enter_function(alloc: Global, b: &mut IndexMap<Text, Meaning>, name: &str, f: StandardFn) -> bool
-    ensures { result ≡ true → b.new.entries ≡ put b.old.entries name.now (meaning.StandardFunction f) }
-{
-    enter(alloc, b, name, Meaning::StandardFunction(f))
-}
-
 fn enter_functions(alloc: Global, b: &mut IndexMap<Text, Meaning>) -> bool
     ensures { result ≡ true → b.new.entries ≡ with_functions b.old.entries }
 {
-    enter_function(alloc, b, "abs", StandardFn::Abs)
-        && enter_function(alloc, b, "sqr", StandardFn::Sqr)
-        && enter_function(alloc, b, "odd", StandardFn::Odd)
-        && enter_function(alloc, b, "ord", StandardFn::Ord)
-        && enter_function(alloc, b, "chr", StandardFn::Chr)
-        && enter_function(alloc, b, "succ", StandardFn::Succ)
-        && enter_function(alloc, b, "pred", StandardFn::Pred)
-        && enter_function(alloc, b, "eof", StandardFn::Eof)
-        && enter_function(alloc, b, "eoln", StandardFn::Eoln)
-}
-
-fn enter_procedure(
-    alloc: Global,
-    b: &mut IndexMap<Text, Meaning>,
-    name: &str,
-    p: StandardProcedure,
-) -> bool
-    ensures { result ≡ true → b.new.entries ≡ put b.old.entries name.now (meaning.StandardProcedure p) }
-{
-    enter(alloc, b, name, Meaning::StandardProcedure(p))
+    enter(alloc, b, "abs", Meaning::StandardFunction(StandardFn::Abs))
+        && enter(alloc, b, "sqr", Meaning::StandardFunction(StandardFn::Sqr))
+        && enter(alloc, b, "odd", Meaning::StandardFunction(StandardFn::Odd))
+        && enter(alloc, b, "ord", Meaning::StandardFunction(StandardFn::Ord))
+        && enter(alloc, b, "chr", Meaning::StandardFunction(StandardFn::Chr))
+        && enter(
+            alloc,
+            b,
+            "succ",
+            Meaning::StandardFunction(StandardFn::Succ),
+        )
+        && enter(
+            alloc,
+            b,
+            "pred",
+            Meaning::StandardFunction(StandardFn::Pred),
+        )
+        && enter(alloc, b, "eof", Meaning::StandardFunction(StandardFn::Eof))
+        && enter(
+            alloc,
+            b,
+            "eoln",
+            Meaning::StandardFunction(StandardFn::Eoln),
+        )
 }
 
 fn enter_procedures(alloc: Global, b: &mut IndexMap<Text, Meaning>) -> bool
     ensures { result ≡ true → b.new.entries ≡ with_procedures b.old.entries }
 {
-    enter_procedure(alloc, b, "read", StandardProcedure::Read)
-        && enter_procedure(alloc, b, "readln", StandardProcedure::Readln)
-        && enter_procedure(alloc, b, "write", StandardProcedure::Write)
-        && enter_procedure(alloc, b, "writeln", StandardProcedure::Writeln)
-        && enter_procedure(alloc, b, "open", StandardProcedure::Open)
-        && enter_procedure(alloc, b, "send", StandardProcedure::Send)
-        && enter_procedure(alloc, b, "receive", StandardProcedure::Receive)
+    enter(
+        alloc,
+        b,
+        "read",
+        Meaning::StandardProcedure(StandardProcedure::Read),
+    ) && enter(
+        alloc,
+        b,
+        "readln",
+        Meaning::StandardProcedure(StandardProcedure::Readln),
+    ) && enter(
+        alloc,
+        b,
+        "write",
+        Meaning::StandardProcedure(StandardProcedure::Write),
+    ) && enter(
+        alloc,
+        b,
+        "writeln",
+        Meaning::StandardProcedure(StandardProcedure::Writeln),
+    ) && enter(
+        alloc,
+        b,
+        "open",
+        Meaning::StandardProcedure(StandardProcedure::Open),
+    ) && enter(
+        alloc,
+        b,
+        "send",
+        Meaning::StandardProcedure(StandardProcedure::Send),
+    ) && enter(
+        alloc,
+        b,
+        "receive",
+        Meaning::StandardProcedure(StandardProcedure::Receive),
+    )
 }
 
 /// The block of the standard names.

@@ -5,20 +5,20 @@ ghost use Rattle.std.specs.Option.{option_copied};
 ghost use Rattle.sp_tree.specs.Carried.{Keeps};
 ghost use Rattle.sp_tree.specs.Scopes.{find, inner_env, local_of_outer};
 ghost use Rattle.sp_tree.specs.NameWalk.{statement_local, form_local, statements_local, arms_local};
-ghost use Rattle.sp_tree.specs.NameWalk.{arm_local, branches_local, index_local};
+ghost use Rattle.sp_tree.specs.NameWalk.{arm_local, branches_local};
 ghost use Rattle.sp_tree.specs.NameWalk.{local_of_index, blocks_around, other_local};
 ghost use Rattle.sp_tree.specs.NamedTree.{named_target, named_statement, named_statement_form};
 ghost use Rattle.sp_tree.specs.NamedTree.{named_statements, named_arms, named_arm, named_branches, named_other};
 ghost use Rattle.sp_tree.specs.NamedTree.{named_arguments, procedure_named, assigned_number};
 ghost use Rattle.sp_tree.specs.NamedOf as named;
-ghost use Rattle.sp_tree.specs.PlainSyntax.{Assign, Repeat, For, Forall};
+ghost use Rattle.sp_tree.specs.PlainSyntax.{Repeat, For, Forall};
 ghost use Rattle.sp_tree.specs.PlainNamed as n;
 ghost use Rattle.sp_tree.specs.SyntaxOf.{expression_of, variable_of, arguments_of, statement_of, statement_form_of};
 ghost use Rattle.sp_tree.specs.SyntaxOf.{statements, statements_of, arms, arm_of, branches, branch_of};
 ghost use Rattle.sp_tree.specs.SyntaxOf.{else_part};
 ghost use Rattle.sp_scope.specs.Firsts.{assigned_first, call_first, statement_first, other_first};
 ghost use Rattle.sp_scope.specs.Firsts.{statement_form_first, statements_first, arms_first, arm_first};
-ghost use Rattle.sp_scope.specs.Firsts.{branches_first, indexed_first, element_first};
+ghost use Rattle.sp_scope.specs.Firsts.{branches_first, element_first};
 
 use crate::calls::{count, is_whole, references_of, rest_of};
 use crate::constants::name_constants;
@@ -61,24 +61,6 @@ fn name_assigned(alloc: Global, scopes: &Scopes, walk: &mut Walk, v: SynVar) -> 
         at: name.at,
         selectors,
     }
-}
-
-fn name_assignment(
-    alloc: Global,
-    scopes: &Scopes,
-    walk: &mut Walk,
-    v: SynVar,
-    e: SynExpr,
-) -> NamedForm
-    ensures { Keeps walk.old walk.new
-        (statement_form_first scopes.now.around scopes.now.local (Assign (variable_of v) (expression_of e))
-        walk.old.first)
-        (named.statement_form_of result
-        ≡ named_statement_form scopes.now.around scopes.now.local (Assign (variable_of v) (expression_of e))) }
-{
-    let v = name_assigned(alloc, scopes, walk, v);
-    let e = name_expression(alloc, scopes, walk, e);
-    NamedForm::Assign(v, e)
 }
 
 fn procedure_form(m: Option<&Meaning>, args: List<NamedArg>) -> NamedForm
@@ -141,7 +123,11 @@ fn name_statement_form(
 {
     match form {
         SynForm::Empty => NamedForm::Empty,
-        SynForm::Assign(v, e) => name_assignment(alloc, scopes, walk, v, e),
+        SynForm::Assign(v, e) => {
+            let v = name_assigned(alloc, scopes, walk, v);
+            let e = name_expression(alloc, scopes, walk, e);
+            NamedForm::Assign(v, e)
+        }
         SynForm::Call(f, args) => name_call(alloc, scopes, walk, f, args),
         SynForm::Sequence(ss) => NamedForm::Sequence(name_statements(alloc, scopes, walk, ss)),
         SynForm::If(e, a, b) => {
@@ -289,7 +275,7 @@ fn name_forall(
     ensures after { walk.new.is_lost ≡ false → scopes.new ≡ inner_env scopes.old.around
         (form_local scopes.old.local (Forall name (expression_of from) (expression_of to) (statement_of body))) }
 {
-    let index = walk.number(next_variable(scopes.counts()));
+    let index = next_variable(walk, scopes.counts());
     let from = name_expression(alloc, scopes, walk, from);
     let to = name_expression(alloc, scopes, walk, to);
     let body = name_element(alloc, scopes, walk, body.into_inner(), &name);
@@ -323,30 +309,12 @@ fn name_element(
 {
     let block = scopes.block();
     let answer = scopes.answer();
-    walk.after(scopes.open(alloc, block, answer));
-    let body = name_indexed(alloc, scopes, walk, body, x);
+    scopes.open(alloc, walk, block, answer);
+    walk.note(check_declares(scopes, x, Sort::Variable));
+    declare_variable(alloc, scopes, walk, x, Role::Index);
+    let body = name_statement(alloc, scopes, walk, body);
     scopes.leave(block, answer);
     body
-}
-
-#[cycle(statement)]
-fn name_indexed(
-    alloc: Global,
-    scopes: &mut Scopes,
-    walk: &mut Walk,
-    body: SynStmt,
-    x: &Name,
-) -> NamedStmt
-    ensures found { Keeps walk.old walk.new (indexed_first scopes.old.around scopes.old.local x.now
-        (statement_of body) walk.old.first)
-        (named.statement_of result
-        ≡ named_statement scopes.old.around (index_local scopes.old.local x.now) (statement_of body)) }
-    ensures after { walk.new.is_lost ≡ false → scopes.new ≡ inner_env scopes.old.around
-        (statement_local (index_local scopes.old.local x.now) (statement_of body)) }
-{
-    walk.note(check_declares(scopes, x, Sort::Variable));
-    walk.after(declare_variable(alloc, scopes, x, Role::Index));
-    name_statement(alloc, scopes, walk, body)
 }
 
 #[cycle(statement)]
@@ -379,7 +347,7 @@ fn name_arm(alloc: Global, scopes: &mut Scopes, walk: &mut Walk, a: SynArm) -> N
         (arm_local scopes.old.local (arm_of a)) }
 {
     let SynArm { constants, body } = a;
-    let constants = name_constants(alloc, scopes, walk, constants);
+    let constants = name_constants(alloc, scopes, walk, constants.items());
     let body = name_statement(alloc, scopes, walk, body);
     NamedArm { constants, body }
 }

@@ -1,7 +1,6 @@
 //! Variables in the table and in the innermost block.
 
-ghost use Rattle.std.specs.Prelude.{◌≡◌, ◌++◌, Ok, OnOk};
-ghost use Rattle.sp_tree.specs.PhaseResults.{Answers};
+ghost use Rattle.std.specs.Prelude.{◌≡◌, ◌++◌};
 ghost use Rattle.sp_tree.specs.Scopes.{inner_env, with_declaration, variable};
 ghost use Rattle.sp_tree.specs.declared.meaning.Sort.TheVariants as sort;
 ghost use Rattle.sp_tree.specs.NameWalk.{names_local, formals_local, role_of};
@@ -10,28 +9,22 @@ ghost use Rattle.sp_tree.specs.Carried.{Keeps};
 ghost use Rattle.sp_scope.specs.Firsts.{names_first, formals_first, heading_first};
 
 use crate::declarations::{check_declares, check_kind, kind_number};
-use crate::have;
 use crate::numbers::{behind, next_variable};
 use crate::scopes::Scopes;
-use sp_base::{Halt, List};
+use sp_base::List;
 use sp_tree::{Meaning, Name, Role, Sort, SynFormal, Variable, Walk};
 use std::alloc::Global;
 
 /// Declares a variable of a role in the innermost block.
-pub fn declare_variable(
-    alloc: Global,
-    scopes: &mut Scopes,
-    x: &Name,
-    role: Role,
-) -> Result<(), Halt>
-    ensures memory { Answers result (Ok tt) }
-    ensures after { OnOk result (scopes.new ≡ inner_env scopes.old.around
+pub fn declare_variable(alloc: Global, scopes: &mut Scopes, walk: &mut Walk, x: &Name, role: Role)
+    ensures { Keeps walk.old walk.new walk.old.first (scopes.new ≡ inner_env scopes.old.around
         (with_declaration scopes.old.local x.now.text sort.Variable (variable scopes.old.local role))) }
 {
-    let number = have!(next_variable(scopes.counts()));
+    let number = next_variable(walk, scopes.counts());
     let block = scopes.block();
     scopes.declare(
         alloc,
+        walk,
         &x.text,
         Sort::Variable,
         Meaning::Variable {
@@ -39,7 +32,7 @@ pub fn declare_variable(
             block,
             role,
         },
-    )
+    );
 }
 
 /// Declares variables of a role in the innermost block.
@@ -55,7 +48,7 @@ pub fn declare_variables(
 {
     for x in xs {
         walk.note(check_declares(scopes, x, Sort::Variable));
-        walk.after(declare_variable(alloc, scopes, x, role));
+        declare_variable(alloc, scopes, walk, x, role);
     }
 }
 
@@ -88,26 +81,29 @@ pub fn declare_formals(alloc: Global, scopes: &mut Scopes, walk: &mut Walk, fs: 
 /// Puts variables of one type behind those of the table.
 pub fn push_variables(
     alloc: Global,
+    walk: &mut Walk,
     out: &mut Vec<Variable>,
     xs: &[Name],
     block: u32,
     role: Role,
     kind: u32,
-) -> Result<(), Halt>
-    ensures memory { Answers result (Ok tt) }
-    ensures after { OnOk result (out.new.items ≡ out.old.items ++ variables_named block role kind xs.now) }
+)
+    ensures { Keeps walk.old walk.new walk.old.first
+        (out.new.items ≡ out.old.items ++ variables_named block role kind xs.now) }
 {
     for x in xs {
-        let name = have!(x.text.duplicate(alloc));
-        out.push(Variable {
-            name,
-            kind,
-            block,
-            role,
-            at: x.at,
-        })?;
+        let name = walk.text(alloc, &x.text);
+        walk.push(
+            out,
+            Variable {
+                name,
+                kind,
+                block,
+                role,
+                at: x.at,
+            },
+        );
     }
-    Ok(())
 }
 
 /// The parameters of a block, whose types mean what they mean around its heading.
@@ -125,27 +121,28 @@ pub fn name_formals(
     for f in fs {
         walk.note(check_kind(scopes, &f.kind));
         let kind = kind_number(scopes.find(&f.kind.text));
-        walk.after(push_variables(
+        push_variables(
             alloc,
+            walk,
             &mut out,
             f.names.items(),
             block,
             role_of(f.by_reference),
             kind,
-        ));
+        );
     }
     List::of(out)
 }
 
 /// As many numbers from one on as there are variables.
-pub fn numbers(alloc: Global, n: u32, xs: &[Variable]) -> Result<List<u32>, Halt>
-    ensures { Answers result (Ok (numbers n xs.now)) }
+pub fn numbers(alloc: Global, walk: &mut Walk, n: u32, xs: &[Variable]) -> List<u32>
+    ensures { Keeps walk.old walk.new walk.old.first (result ≡ numbers n xs.now) }
 {
     let mut out = Vec::new(alloc);
     let mut n = n;
     for _x in xs {
-        have!(out.push(n));
-        n = have!(behind(n, 1));
+        walk.push(&mut out, n);
+        n = behind(walk, n, 1);
     }
-    Ok(List::of(out))
+    List::of(out)
 }

@@ -5,8 +5,5 @@ use Rattle.sp_scope.proofs.headings.all_flags.Goals as goal
 pub loop-f-preserved : goal.loop-f-preserved
 loop-f-preserved c = grind (arith, common_steps)
 
-pub returns-in-Err : goal.returns-in-Err
-returns-in-Err c = grind (arith, common_steps)
-
 pub returns : goal.returns
 returns c = grind (arith, common_steps)

@@ -1,7 +1,8 @@
-use Rattle.std.proofs.Common.{◌≡◌, ◌++◌, drop}
+use Rattle.std.proofs.Common.{◌≡◌, ◌++◌, drop, false}
 use Rattle.sp_tree.specs.NamedTree.{fields_named}
 use Rattle.sp_scope.proofs.kinds.push_fields.Given as goal
 
 abbrev pub invariant-loop-x : goal.invariant-loop-x
-invariant-loop-x l = l.out.items ++ fields_named l.kind (drop l.x-index l.xs) ≡ l.fn.out.items
-    ++ fields_named l.kind l.xs
+invariant-loop-x l = l.walk.is_lost ≡ false → (l.fn.walk.is_lost ≡ false) ×
+    (l.walk.first ≡ l.fn.walk.first) ×
+    (l.out.items ++ fields_named l.kind (drop l.x-index l.xs) ≡ l.fn.out.items ++ fields_named l.kind l.xs)

@@ -2,13 +2,15 @@ use Rattle.std.proofs.Common.{arith, sym, ◌∙◌}
 use Rattle.std.proofs.lemmas.Grind.{common_steps}
 use Rattle.sp_tree.specs.PhaseResults.{earlier_refusal}
 use Rattle.sp_tree.specs.SyntaxOf.{expression_of, statement_of}
-use Rattle.sp_tree.specs.NameWalk.{statement_local, index_local, blocks_around}
+use Rattle.sp_tree.specs.NameWalk.{statement_local, index_local, local_of_index, blocks_around}
+use Rattle.sp_tree.specs.NameRules.{Declares}
+use Rattle.sp_tree.specs.NameFirst.{at_site}
+use Rattle.sp_tree.specs.declared.meaning.Sort.TheVariants as sort
 use Rattle.sp_tree.specs.NamedTree.{named_expression, named_statement}
 use Rattle.sp_tree.specs.NamedOf as named
 use Rattle.sp_tree.specs.PlainNamed as n
 use Rattle.sp_tree.specs.Scopes.{inner_env, local_of_inner}
-use Rattle.sp_scope.specs.Firsts.{expression_first, statement_first, indexed_first}
-use Rattle.sp_scope.proofs.Carrying.{noted}
+use Rattle.sp_scope.specs.Firsts.{expression_first, statement_first}
 use Rattle.sp_scope.proofs.statements.+statement.Goals as goal
 
 pub name_statements-loop-s-preserved : goal.name_statements-loop-s-preserved
@@ -49,44 +51,26 @@ name_repeat-returns-clause-found t c k =
       c.repeat_form.ensures ∙ (λ j. n.Repeat (named.statements (s.2 j)) (condition j)),
     )
 
-pub name_indexed-returns-clause-found : goal.name_indexed-returns-clause-found
-name_indexed-returns-clause-found t c k =
-    let body = statement_of c.args.body in
-    let around = c.args.scopes.now.around in
-    let local = index_local c.args.scopes.now.local c.args.x.now in
-    let b = c.name_statement.ensures.found k in
-    let a = c.after.ensures b.0 in
-    let o = noted c.declare_variable.result c.declare_variable.ensures.after a.2 in (
-      sym (λ j. (c.note.ensures j).is_lost) ∙ a.0,
-      b.1 ∙ (λ j. statement_first (o j).around (o j).local body (a.1 j))
-          ∙ (λ j. statement_first around local body (c.note.ensures j).first)
-          ∙ (λ j. statement_first around local body
-          (earlier_refusal c.args.walk.now.first (c.check_declares.ensures j))),
-      b.2 ∙ (λ j. named_statement (o j).around (o j).local body),
-    )
-
-pub name_indexed-returns-clause-after : goal.name_indexed-returns-clause-after
-name_indexed-returns-clause-after t c k =
-    let b = c.name_statement.ensures.found k in
-    let a = c.after.ensures b.0 in
-    let o = noted c.declare_variable.result c.declare_variable.ensures.after a.2 in
-    c.name_statement.ensures.after k
-    ∙ (λ j. inner_env (o j).around (statement_local (o j).local (statement_of c.args.body)))
-
 pub name_element-returns-clause-found : goal.name_element-returns-clause-found
 name_element-returns-clause-found t c k =
     let body = statement_of c.args.body in
     let x = c.args.x.now in
     let around = c.args.scopes.now.around in
     let local = c.args.scopes.now.local in
-    let b = c.name_indexed-body.ensures.found k in
-    let a = c.after.ensures b.0 in
-    let o = noted c.open.result c.open.ensures.after a.2
-    ∙ (λ j. inner_env (blocks_around around local)
-    (local_of_inner (c.block-block.ensures j) (c.answer-answer.ensures j) local)) in (
-      a.0,
-      b.1 ∙ (λ j. indexed_first (o j).around (o j).local x body (a.1 j)),
-      b.2 ∙ (λ j. named_statement (o j).around (index_local (o j).local x) body),
+    let b = c.name_statement-body.ensures.found k in
+    let d = c.declare_variable.ensures b.0 in
+    let o = c.open.ensures (sym (λ j. (c.note.ensures j).is_lost) ∙ d.0) in
+    let e = o.2 ∙ (λ j. inner_env (blocks_around around local)
+    (local_of_inner (c.block-block.ensures j) (c.answer-answer.ensures j) local)) in
+    let s = d.2 ∙ (λ j. inner_env (e j).around (index_local (e j).local x)) in
+    let inside = blocks_around around local in
+    let index = local_of_index local x in (
+      o.0,
+      b.1 ∙ (λ j. statement_first (s j).around (s j).local body (d.1 j))
+          ∙ (λ j. statement_first inside index body (c.note.ensures j).first)
+          ∙ (λ j. statement_first inside index body (earlier_refusal (o.1 j) (c.check_declares.ensures j)))
+          ∙ (λ j. statement_first inside index body (at_site (e j) (Declares x sort.Variable) c.args.walk.now.first)),
+      b.2 ∙ (λ j. named_statement (s j).around (s j).local body),
     )
 
 pub name_element-returns-clause-after : goal.name_element-returns-clause-after
@@ -95,13 +79,14 @@ name_element-returns-clause-after t c k =
     let x = c.args.x.now in
     let around = c.args.scopes.now.around in
     let local = c.args.scopes.now.local in
-    let b = c.name_indexed-body.ensures.found k in
-    let a = c.after.ensures b.0 in
-    let o = noted c.open.result c.open.ensures.after a.2
-    ∙ (λ j. inner_env (blocks_around around local)
+    let b = c.name_statement-body.ensures.found k in
+    let d = c.declare_variable.ensures b.0 in
+    let o = c.open.ensures (sym (λ j. (c.note.ensures j).is_lost) ∙ d.0) in
+    let e = o.2 ∙ (λ j. inner_env (blocks_around around local)
     (local_of_inner (c.block-block.ensures j) (c.answer-answer.ensures j) local)) in
-    let s = c.name_indexed-body.ensures.after k
-    ∙ (λ j. inner_env (o j).around (statement_local (index_local (o j).local x) body)) in
+    let s = c.name_statement-body.ensures.after k
+    ∙ (λ j. inner_env (d.2 j).around (statement_local (d.2 j).local body))
+    ∙ (λ j. inner_env (e j).around (statement_local (index_local (e j).local x) body)) in
     c.leave.ensures around local.here (λ j. (s j).around)
     ∙ (λ j. inner_env around (record {
       here = local.here;

@@ -7,6 +7,3 @@ loop-x-preserved c = grind (arith, common_steps)
 
 pub returns : goal.returns
 returns c = grind (arith, common_steps)
-
-pub returns-in-Err-behind : goal.returns-in-Err-behind
-returns-in-Err-behind c = grind (arith, common_steps)

@@ -5,5 +5,5 @@ use Rattle.sp_scope.proofs.variables.push_variables.Goals as goal
 pub loop-x-preserved : goal.loop-x-preserved
 loop-x-preserved c = grind (arith, common_steps)
 
-pub returns-clause-after : goal.returns-clause-after
-returns-clause-after c = grind (arith, common_steps)
+pub returns : goal.returns
+returns c = grind (arith, common_steps)
