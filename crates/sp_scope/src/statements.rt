@@ -125,8 +125,7 @@ fn name_statement_form(
         SynForm::Empty => NamedForm::Empty,
         SynForm::Assign(v, e) => {
             let v = name_assigned(alloc, scopes, walk, v);
-            let e = name_expression(alloc, scopes, walk, e);
-            NamedForm::Assign(v, e)
+            NamedForm::Assign(v, name_expression(alloc, scopes, walk, e))
         }
         SynForm::Call(f, args) => name_call(alloc, scopes, walk, f, args),
         SynForm::Sequence(ss) => NamedForm::Sequence(name_statements(alloc, scopes, walk, ss)),
@@ -150,8 +149,7 @@ fn name_statement_form(
         SynForm::Repeat(ss, e) => name_repeat(alloc, scopes, walk, ss, e),
         SynForm::Case(e, choices) => {
             let e = name_expression(alloc, scopes, walk, e);
-            let choices = name_arms(alloc, scopes, walk, choices);
-            NamedForm::Case(e, choices)
+            NamedForm::Case(e, name_arms(alloc, scopes, walk, choices))
         }
         SynForm::For {
             name,
