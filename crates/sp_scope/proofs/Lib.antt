@@ -1,3 +1,4 @@
+mod ListSteps
 mod ScopeTables
 mod NameOrders
 mod Tables
