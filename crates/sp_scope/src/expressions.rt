@@ -10,7 +10,7 @@ ghost use Rattle.sp_tree.specs.Scopes.{find, Env};
 ghost use Rattle.sp_tree.specs.NameWalk.{is_whole};
 ghost use Rattle.sp_tree.specs.NamedTree.{named_expression, named_form, named_operand, named_selectors, named_selector};
 ghost use Rattle.sp_tree.specs.NamedTree.{named_arguments, named_argument, named_width, operand_named, function_named};
-ghost use Rattle.sp_tree.specs.NamedTree.{variable_number};
+ghost use Rattle.sp_tree.specs.NamedTree.{variable_number, variable_read};
 ghost use Rattle.sp_tree.specs.NamedOf as named;
 ghost use Rattle.sp_tree.specs.PlainNamed as n;
 ghost use Rattle.sp_tree.specs.SyntaxOf.{expression_of, expression_form_of, variable_of, selector_of, selectors};
@@ -133,12 +133,19 @@ fn operand_form(
             NamedExprForm::Call(*block, x.at, List::new(alloc))
         }
         Some(Meaning::StandardFunction(f)) => NamedExprForm::Standard(*f, List::new(alloc)),
-        m => NamedExprForm::Read(NamedVar {
-            variable: variable_number(m),
-            at: x.at,
-            selectors: xs,
-        }),
+        m => variable_read(variable_number(m), x, xs),
     }
+}
+
+fn variable_read(number: u32, x: &Name, xs: List<NamedSelector>) -> NamedExprForm
+    ensures { named.expression_form_of result
+        ≡ variable_read number x.now (named.selectors (map named.selector_of xs)) }
+{
+    NamedExprForm::Read(NamedVar {
+        variable: number,
+        at: x.at,
+        selectors: xs,
+    })
 }
 
 /// The number of a variable, and 0 where the name is none.
