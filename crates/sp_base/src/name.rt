@@ -22,17 +22,31 @@ pub struct Pair {
 
 /// The name of a process: the way to it from the root, which has no pairs. Names are ordered pair by pair, by
 /// fork and then child, and a prefix comes first.
-#[derive(Drop, PartialEq, Eq, PartialOrd, Ord)]
+#[derive(PartialEq, Eq, PartialOrd, Ord)]
 pub struct ProcName {
     pub pairs: List<Pair>,
 }
 
+// By hand, so that it is proved once, here, and not in each crate that drops such a value.
+impl Drop for ProcName {
+    fn drop(self) {
+        let ProcName { pairs: _ } = self;
+    }
+}
+
 /// The name of a channel: the process that opened it, and how many channels that process had opened before.
 /// Names are ordered by their owners and then by number.
-#[derive(Drop, PartialEq, Eq, PartialOrd, Ord)]
+#[derive(PartialEq, Eq, PartialOrd, Ord)]
 pub struct ChanName {
     pub owner: ProcName,
     pub nth: u32,
+}
+
+// By hand, so that it is proved once, here, and not in each crate that drops such a value.
+impl Drop for ChanName {
+    fn drop(self) {
+        let ChanName { owner: _, nth: _ } = self;
+    }
 }
 
 impl ProcName {

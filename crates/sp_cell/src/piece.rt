@@ -10,9 +10,15 @@ use std::alloc::Global;
 use std::marker::Model;
 
 /// The cells of one variable, which contracts see as a list. There are fewer than 2^32.
-#[derive(Drop)]
 pub struct Piece {
     inner: Vec<Cell>,
+}
+
+// By hand, so that it is proved once, here, and not in each crate that drops such a value.
+impl Drop for Piece {
+    fn drop(self) {
+        let Piece { inner: _ } = self;
+    }
 }
 
 impl Model for Piece {

@@ -20,7 +20,6 @@ pub struct Address {
 }
 
 /// What one child is handed at a fork.
-#[derive(Drop)]
 pub struct Handing {
     /// The variables that the child may change. They move to it until it is joined.
     pub moved: List<Spot>,
@@ -28,4 +27,15 @@ pub struct Handing {
     pub shared: List<Spot>,
     /// The variable and the value of the index of a `forall`, which stands in a frame of its own.
     pub index: Option<(u32, i64)>,
+}
+
+// By hand, so that it is proved once, here, and not in each crate that drops such a value.
+impl Drop for Handing {
+    fn drop(self) {
+        let Handing {
+            moved: _,
+            shared: _,
+            index: _,
+        } = self;
+    }
 }

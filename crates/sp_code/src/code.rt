@@ -60,7 +60,6 @@ impl Layout {
 }
 
 /// What one child of a fork begins with. Variables have their numbers in the tree.
-#[derive(Drop)]
 pub struct ChildTable {
     /// The number of its first instruction.
     pub entry: u32,
@@ -70,6 +69,18 @@ pub struct ChildTable {
     pub shared: List<u32>,
     /// The index of a `forall`.
     pub index: Option<u32>,
+}
+
+// By hand, so that it is proved once, here, and not in each crate that drops such a value.
+impl Drop for ChildTable {
+    fn drop(self) {
+        let ChildTable {
+            entry: _,
+            moved: _,
+            shared: _,
+            index: _,
+        } = self;
+    }
 }
 
 /// The children of a `parallel`, or the one child that each value of a `forall` gets.
