@@ -1,17 +1,30 @@
-use Rattle.std.proofs.Common.{arith, sym, ◌∙◌}
+use Rattle.std.proofs.Common.{◌≡◌, List, arith, rules, sym, ◌∙◌}
 use Rattle.std.proofs.lemmas.Grind.{common_steps}
 use Rattle.sp_tree.specs.PhaseResults.{earlier_refusal}
-use Rattle.sp_tree.specs.SyntaxOf.{expression_of, statement_of}
+use Rattle.sp_tree.specs.SyntaxOf.{expression_of, statement_of, arm_of}
+use Rattle.sp_tree.specs.PlainSyntax.{On}
+use Rattle.sp_tree.specs.declared.syntax.SynArm as SynArm
 use Rattle.sp_tree.specs.NameWalk.{statement_local, index_local, local_of_index, blocks_around}
 use Rattle.sp_tree.specs.NameRules.{Declares}
 use Rattle.sp_tree.specs.NameFirst.{at_site}
 use Rattle.sp_tree.specs.declared.meaning.Sort.TheVariants as sort
-use Rattle.sp_tree.specs.NamedTree.{named_expression, named_statement}
+use Rattle.sp_tree.specs.NamedTree.{named_expression, named_statement, named_constants, named_arm}
 use Rattle.sp_tree.specs.NamedOf as named
+use Rattle.sp_tree.specs.declared.named.NamedArm as NamedArm
+use Rattle.sp_tree.specs.declared.named.NamedConst.{NamedConst}
+use Rattle.sp_tree.specs.declared.named.NamedStmt.{NamedStmt}
 use Rattle.sp_tree.specs.PlainNamed as n
 use Rattle.sp_tree.specs.Scopes.{inner_env, local_of_inner}
-use Rattle.sp_scope.specs.Firsts.{expression_first, statement_first}
+use Rattle.sp_scope.specs.Firsts.{expression_first, constants_first, statement_first, arm_first}
 use Rattle.sp_scope.proofs.statements.+statement.Goals as goal
+
+-- an arm, from its parts
+arm_is : (a : SynArm.SynArm) → arm_of a ≡ On a.constants (statement_of a.body)
+arm_is a = search (rules, SynArm.the_lemmas)
+
+named_arm_is : (cs : List NamedConst) (body : NamedStmt)
+    → named.arm_of (NamedArm.roll-NamedArm (record { constants = cs; body = body })) ≡ n.On cs (named.statement_of body)
+named_arm_is cs body = search (rules, NamedArm.the_lemmas)
 
 pub name_statements-loop-s-preserved : goal.name_statements-loop-s-preserved
 name_statements-loop-s-preserved t c = grind (arith, common_steps)
@@ -33,6 +46,25 @@ name_arms-returns-clause-found t c = grind (arith, common_steps)
 
 pub name_arms-returns-clause-after : goal.name_arms-returns-clause-after
 name_arms-returns-clause-after t c = grind (arith, common_steps)
+
+pub name_arm-returns-clause-found : goal.name_arm-returns-clause-found
+name_arm-returns-clause-found t c k =
+    let around = c.args.scopes.now.around in
+    let local = c.args.scopes.now.local in
+    let body = statement_of c.args.a.body in
+    let s = c.name_statement-body.ensures.found k in
+    let cs = c.name_constants-constants.ensures s.0 in
+    let arm = sym (arm_is c.args.a) in (
+      cs.0,
+      s.1 ∙ (λ j. statement_first around local body (cs.1 j))
+          ∙ (λ j. statement_first around local body
+          (constants_first (inner_env around local) (c.items.ensures j) c.args.walk.now.first))
+          ∙ (λ j. arm_first around local (arm j) c.args.walk.now.first),
+      named_arm_is c.name_constants-constants.result c.name_statement-body.result
+          ∙ (λ j. n.On (cs.2 j) (s.2 j))
+          ∙ (λ j. n.On (named_constants (inner_env around local) (c.items.ensures j)) (named_statement around local body))
+          ∙ (λ j. named_arm around local (arm j)),
+    )
 
 pub name_branches-returns-clause-found : goal.name_branches-returns-clause-found
 name_branches-returns-clause-found t c = grind (arith, common_steps)
