@@ -13,22 +13,24 @@ push_statements-loop-s-preserved t c = grind (arith, common_steps)
 pub push_arms-loop-a-preserved : goal.push_arms-loop-a-preserved
 push_arms-loop-a-preserved t c h =
     let put = c.push_indices.ensures h in
-    let before = c.loop-a.invariant put.0 in (
+    let before = c.loop-a.invariant put.0 in
+    let old = c.loop-a.out.items in (
       before.0,
       put.1 ∙ before.1,
       item_put (λ xs. arms_indices c.args.block (arms (map arm_of xs))) c.args.choices.now
-          c.loop-a.a-index c.a-item.result _ c.loop-a.out.items c.push_indices.new.out.items _ c.loop-a-test.true c.a-item.is
+          c.loop-a.a-index c.a-item.result _ old c.push_indices.new.out.items _ c.loop-a-test.true c.a-item.is
           (search (rules, SynArm.the_lemmas)) put.2 before.2,
     )
 
 pub push_branches-loop-b-preserved : goal.push_branches-loop-b-preserved
 push_branches-loop-b-preserved t c h =
     let put = c.push_statements.ensures h in
-    let before = c.loop-b.invariant put.0 in (
+    let before = c.loop-b.invariant put.0 in
+    let old = c.loop-b.out.items in (
       before.0,
       put.1 ∙ before.1,
       item_put (λ xs. branches_indices c.args.block (branches (map branch_of xs))) c.args.bs.now
-          c.loop-b.b-index c.b-item.result _ c.loop-b.out.items c.push_statements.new.out.items _ c.loop-b-test.true c.b-item.is
+          c.loop-b.b-index c.b-item.result _ old c.push_statements.new.out.items _ c.loop-b-test.true c.b-item.is
           (search (rules, SynBranch.the_lemmas)) put.2 before.2,
     )
 

@@ -51,6 +51,7 @@ pub name_arm-returns-clause-found : goal.name_arm-returns-clause-found
 name_arm-returns-clause-found t c k =
     let around = c.args.scopes.now.around in
     let local = c.args.scopes.now.local in
+    let env = inner_env around local in
     let body = statement_of c.args.a.body in
     let s = c.name_statement-body.ensures.found k in
     let cs = c.name_constants-constants.ensures s.0 in
@@ -58,11 +59,11 @@ name_arm-returns-clause-found t c k =
       cs.0,
       s.1 ∙ (λ j. statement_first around local body (cs.1 j))
           ∙ (λ j. statement_first around local body
-          (constants_first (inner_env around local) (c.items.ensures j) c.args.walk.now.first))
+          (constants_first env (c.items.ensures j) c.args.walk.now.first))
           ∙ (λ j. arm_first around local (arm j) c.args.walk.now.first),
       named_arm_is c.name_constants-constants.result c.name_statement-body.result
           ∙ (λ j. n.On (cs.2 j) (s.2 j))
-          ∙ (λ j. n.On (named_constants (inner_env around local) (c.items.ensures j)) (named_statement around local body))
+          ∙ (λ j. n.On (named_constants env (c.items.ensures j)) (named_statement around local body))
           ∙ (λ j. named_arm around local (arm j)),
     )
 
