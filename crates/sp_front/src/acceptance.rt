@@ -4,14 +4,13 @@
 ghost use Rattle.sp_front.specs.Codes.{Accepts};
 
 use crate::analysis::compile;
-use crate::apart::apart;
+use crate::apart::{OfText, apart};
 use crate::to_code::LONG_CODE;
 use sp_base::Halt;
 use sp_generate::is_too_long;
 use sp_length::length;
 use std::alloc::Global;
-use std::snapshot::Snapshot;
-use std::thread::{Promise, Threads};
+use std::thread::Threads;
 
 /// That a text breaks no rule, or the first rule that it breaks, as `compiled` says it. No code is made for it, and so
 /// no memory is taken for what the forks of the code hand over.
@@ -28,12 +27,12 @@ pub fn accepts(alloc: Global, text: &[u8]) -> Result<(), Halt>
     Ok(())
 }
 
-/// What the thread of these phases promises of its answer about this text.
-#[derive(Drop)]
-struct AcceptsOf(Snapshot<Vec<u8>>);
+impl OfText for () {
+    ghost says = { λ text r. Accepts text r };
 
-impl Promise<Result<(), Halt>> for AcceptsOf {
-    ghost kept_by = { λ p r. Accepts p.0.value.items r };
+    fn of_text(alloc: Global, text: &[u8]) -> Result<(), Halt> {
+        accepts(alloc, text)
+    }
 }
 
 /// `accepts`, on a thread of its own with a stack for the longest text. Where no thread can be made the answer is want
@@ -41,8 +40,5 @@ impl Promise<Result<(), Halt>> for AcceptsOf {
 pub fn accepts_apart(rt: &impl Threads, alloc: Global, text: &[u8]) -> Result<(), Halt>
     ensures { Accepts text.now result }
 {
-    let mut copy = Vec::new(alloc);
-    copy.extend_from_slice(text)?;
-    let promise = AcceptsOf(Snapshot::of(&copy));
-    apart(rt, promise, move || accepts(alloc, copy.as_slice()))
+    apart(rt, alloc, text)
 }

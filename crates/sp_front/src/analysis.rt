@@ -8,7 +8,7 @@ ghost use Rattle.sp_meaning.specs.Runs.{IsDisjointRun};
 ghost use Rattle.sp_front.specs.Checks.{IsProgramOf};
 ghost use Rattle.sp_front.specs.Compiles.{Analyses, Compiles, AcceptedByPhases};
 
-use crate::apart::apart;
+use crate::apart::{OfText, apart};
 use crate::law::{numbered_trees, one_answer};
 use crate::phases::typed;
 use sp_base::Halt;
@@ -18,14 +18,22 @@ use sp_meaning::rule_keepers_are_disjoint;
 use sp_tree::Checked;
 use sp_varsets::{Sets, sets_of};
 use std::alloc::Global;
-use std::snapshot::Snapshot;
-use std::thread::{Promise, Threads};
+use std::thread::Threads;
 
 /// A text that breaks no rule: its tree, and the variables that its statements and blocks use.
-#[derive(Drop)]
 pub struct Accepted {
     checked: Checked,
     sets: Sets,
+}
+
+// By hand, so that it is one call where such a value is dropped.
+impl Drop for Accepted {
+    fn drop(self) {
+        let Accepted {
+            checked: _,
+            sets: _,
+        } = self;
+    }
 }
 
 impl Accepted {
@@ -47,7 +55,8 @@ impl Accepted {
     pub(crate) fn into_checked(self) -> Checked
         ensures { result ≡ self.checked }
     {
-        self.checked
+        let Accepted { checked, sets: _ } = self;
+        checked
     }
 }
 
@@ -87,21 +96,22 @@ pub fn compile(alloc: Global, text: &[u8]) -> Result<Accepted, Halt>
     rule_keepers_are_disjoint();
     let found = analyse(alloc, text)?;
     let (checked, sets) = found;
-    if checked.blocks.len() > MOST_BLOCKS {
+    let accepted = Accepted { checked, sets };
+    if accepted.checked.blocks.len() > MOST_BLOCKS {
         return Err(Halt::Memory);
     }
-    match check_sets(&checked, &sets) {
-        Ok(()) => Ok(Accepted { checked, sets }),
+    match check_sets(&accepted.checked, &accepted.sets) {
+        Ok(()) => Ok(accepted),
         Err(refusal) => Err(Halt::Refused(refusal)),
     }
 }
 
-/// What the thread of the phases up to types promises of its answer about this text.
-#[derive(Drop)]
-struct AnalysedOf(Snapshot<Vec<u8>>);
+impl OfText for (Checked, Sets) {
+    ghost says = { λ text r. Analyses text r };
 
-impl Promise<Result<(Checked, Sets), Halt>> for AnalysedOf {
-    ghost kept_by = { λ p r. Analyses p.0.value.items r };
+    fn of_text(alloc: Global, text: &[u8]) -> Result<(Checked, Sets), Halt> {
+        analyse(alloc, text)
+    }
 }
 
 /// `analyse`, on a thread of its own with a stack for the longest text. Where no thread can be made the answer is want
@@ -109,8 +119,5 @@ impl Promise<Result<(Checked, Sets), Halt>> for AnalysedOf {
 pub fn analyse_apart(rt: &impl Threads, alloc: Global, text: &[u8]) -> Result<(Checked, Sets), Halt>
     ensures { Analyses text.now result }
 {
-    let mut copy = Vec::new(alloc);
-    copy.extend_from_slice(text)?;
-    let promise = AnalysedOf(Snapshot::of(&copy));
-    apart(rt, promise, move || analyse(alloc, copy.as_slice()))
+    apart(rt, alloc, text)
 }

@@ -46,7 +46,7 @@
 //! - Each call may answer want of memory too.
 //! - `typed`, `analyse`, `compile`, `accepts`, `compiled` and `marked` recurse as deep as the longest chain of
 //!   operators is long. For `analyse`, `accepts`, `compiled` and `marked` there is a call that brings the stack for
-//!   it, by `src/apart.rt`; who calls the others has to.
+//!   it, by `apart` of `src/apart.rt` and an `impl OfText` beside it; who calls the others has to.
 //! - `IsProgramOf` of `specs/Checks.antt` is the program of a text.
 //!
 //! Lemmas for others, in `proofs`:

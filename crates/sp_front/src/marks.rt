@@ -7,7 +7,7 @@ ghost use Rattle.sp_shown.specs.Constants.{constants_at};
 ghost use Rattle.sp_front.specs.declared.marks.MarkedText.{MarkedText as AMarkedText};
 ghost use Rattle.sp_front.specs.TextMarks.{IsMarked, MarksText, NamesTo};
 
-use crate::apart::apart;
+use crate::apart::{OfText, apart};
 use crate::reader::read_text;
 use crate::to_code::compiled;
 use sp_base::{Halt, List, Text};
@@ -17,8 +17,7 @@ use sp_lines::{Mark, marks};
 use sp_shown::{by_kind, constants};
 use sp_tree::Checked;
 use std::alloc::Global;
-use std::snapshot::Snapshot;
-use std::thread::{Promise, Threads};
+use std::thread::Threads;
 
 /// A text that breaks no rule, for commands that tell its places and the names in it.
 #[derive(Drop)]
@@ -69,12 +68,12 @@ pub fn constants_go_with_the_types()
     one_verdict();
 }
 
-/// What the thread of the phases promises of its answer about this text.
-#[derive(Drop)]
-struct MarkedOf(Snapshot<Vec<u8>>);
+impl OfText for MarkedText {
+    ghost says = { λ text r. MarksText text r };
 
-impl Promise<Result<MarkedText, Halt>> for MarkedOf {
-    ghost kept_by = { λ p r. MarksText p.0.value.items r };
+    fn of_text(alloc: Global, text: &[u8]) -> Result<MarkedText, Halt> {
+        marked(alloc, text)
+    }
 }
 
 /// `marked`, on a thread of its own with a stack for the longest text. Where no thread can be made the answer is want
@@ -82,8 +81,5 @@ impl Promise<Result<MarkedText, Halt>> for MarkedOf {
 pub fn marked_apart(rt: &impl Threads, alloc: Global, text: &[u8]) -> Result<MarkedText, Halt>
     ensures { MarksText text.now result }
 {
-    let mut copy = Vec::new(alloc);
-    copy.extend_from_slice(text)?;
-    let promise = MarkedOf(Snapshot::of(&copy));
-    apart(rt, promise, move || marked(alloc, copy.as_slice()))
+    apart(rt, alloc, text)
 }

@@ -4,21 +4,29 @@ ghost use Rattle.std.specs.Prelude.{◌≡◌};
 ghost use Rattle.sp_front.specs.Codes.{Codes, halt_of};
 
 use crate::analysis::{Accepted, compile};
-use crate::apart::apart;
+use crate::apart::{OfText, apart};
 use sp_base::{Halt, Place, Refusal, Rule};
 use sp_code::Code;
 use sp_generate::{GenError, generate};
 use sp_tree::Checked;
 use sp_varsets::Sets;
 use std::alloc::Global;
-use std::snapshot::Snapshot;
-use std::thread::{Promise, Threads};
+use std::thread::Threads;
 
 /// A text that breaks no rule: its tree, the variables that its statements and blocks use, and its code.
-#[derive(Drop)]
 pub struct CompiledText {
     accepted: Accepted,
     code: Code,
+}
+
+// By hand, so that it is proved once, here, and not in each crate that drops such a value.
+impl Drop for CompiledText {
+    fn drop(self) {
+        let CompiledText {
+            accepted: _,
+            code: _,
+        } = self;
+    }
 }
 
 impl CompiledText {
@@ -47,7 +55,8 @@ impl CompiledText {
     pub fn into_code(self) -> Code
         ensures { result ≡ self.code }
     {
-        self.code
+        let CompiledText { accepted: _, code } = self;
+        code
     }
 
     /// The tree and its code, which are no longer kept with the sets.
@@ -90,12 +99,12 @@ pub fn compiled(alloc: Global, text: &[u8]) -> Result<CompiledText, Halt>
     }
 }
 
-/// What the thread of the phases promises of its answer about this text.
-#[derive(Drop)]
-struct CompiledOf(Snapshot<Vec<u8>>);
+impl OfText for CompiledText {
+    ghost says = { λ text r. Codes text r };
 
-impl Promise<Result<CompiledText, Halt>> for CompiledOf {
-    ghost kept_by = { λ p r. Codes p.0.value.items r };
+    fn of_text(alloc: Global, text: &[u8]) -> Result<CompiledText, Halt> {
+        compiled(alloc, text)
+    }
 }
 
 /// `compiled`, on a thread of its own with a stack for the longest text. Where no thread can be made the answer is want
@@ -103,8 +112,5 @@ impl Promise<Result<CompiledText, Halt>> for CompiledOf {
 pub fn compiled_apart(rt: &impl Threads, alloc: Global, text: &[u8]) -> Result<CompiledText, Halt>
     ensures { Codes text.now result }
 {
-    let mut copy = Vec::new(alloc);
-    copy.extend_from_slice(text)?;
-    let promise = CompiledOf(Snapshot::of(&copy));
-    apart(rt, promise, move || compiled(alloc, copy.as_slice()))
+    apart(rt, alloc, text)
 }

@@ -4,4 +4,4 @@ use Rattle.sp_front.proofs.ThreadBounds.{compiled_send}
 use Rattle.sp_front.proofs.to_code.compiled_apart.Goals as goal
 
 pub apart-requires-send-T : goal.apart-requires-send-T
-apart-requires-send-T g c κs within = param_send 3 _ (arg_send _ yes _ compiled_send)
+apart-requires-send-T g c κs within = param_send 1 _ (arg_send _ yes _ compiled_send)
