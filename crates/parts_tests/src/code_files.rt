@@ -18,7 +18,10 @@ const LARGE: &str =
 /// A code file read, and its code written again.
 fn again(alloc: Global, text: &[u8]) -> Result<Vec<u8>, DecodeError> {
     let code = decode(alloc, text)?;
-    Ok(encode(alloc, &code)?)
+    match encode(alloc, &code) {
+        Ok(text) => Ok(text),
+        Err(_) => Err(DecodeError::Memory),
+    }
 }
 
 /// The line of a file that is bad, or 0 where none is.

@@ -2,7 +2,6 @@
 //! the line.
 
 ghost use Rattle.std.specs.Prelude.{◌≡◌, ◌++◌, ◌∷◌, [], ◌<◌, ◌↔◌, IsTrue, IfOk, OnOk};
-ghost use Rattle.sp_codefile.specs.declared.decoder.DecodeError.TheVariants.{Memory as OutOfMemory};
 ghost use Rattle.sp_codefile.specs.CodeText.{IsCode};
 ghost use Rattle.sp_codefile.specs.DecodeAnswers.{Decodes};
 ghost use Rattle.sp_codefile.specs.Items.{last_children, with_child, item_text, ItemFits, HasRoom, after_item};
@@ -30,14 +29,6 @@ pub enum DecodeError {
     /// Memory was refused.
     #[error("out of memory")]
     Memory,
-}
-
-impl From<Memory> for DecodeError {
-    ghost from_gives = { λ _ e. e ≡ OutOfMemory };
-
-    fn from(_error: Memory) -> DecodeError {
-        DecodeError::Memory
-    }
 }
 
 /// How many children the last fork table has.

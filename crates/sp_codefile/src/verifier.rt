@@ -12,11 +12,10 @@ ghost use Rattle.sp_verify_areas.specs.Owners.{AreOwners};
 ghost use Rattle.sp_verify_shapes.specs.Shapes.{AreShapes};
 ghost use Rattle.sp_verify_effects.specs.Effects.{AreEffects};
 ghost use Rattle.sp_verify_effects.specs.PassContexts.{IsPassContext};
-ghost use Rattle.sp_codefile.specs.declared.verifier.Rejected.TheVariants.{Memory as OutOfMemory};
 ghost use Rattle.sp_codefile.specs.VerifyAnswers.{IsRefused, KeepsBefore, Verifies, rule_of};
 
 use crate::have;
-use sp_base::{List, Memory};
+use sp_base::List;
 use sp_code::Code;
 use sp_verify_areas::around::homes;
 use sp_verify_areas::block_nodes::led;
@@ -73,14 +72,6 @@ pub enum Rejected {
     /// Memory was refused.
     #[error("out of memory")]
     Memory,
-}
-
-impl From<Memory> for Rejected {
-    ghost from_gives = { λ _ e. e ≡ OutOfMemory };
-
-    fn from(_error: Memory) -> Rejected {
-        Rejected::Memory
-    }
 }
 
 /// Code that breaks no rule.
