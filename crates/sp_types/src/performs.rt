@@ -7,7 +7,6 @@ ghost use Rattle.sp_tree.specs.PlainNamed.{Perform};
 ghost use Rattle.sp_tree.specs.Carried.{Keeps};
 ghost use Rattle.sp_types.specs.Types.{Types};
 ghost use Rattle.sp_tree.specs.CheckedOf as checked;
-ghost use Rattle.sp_tree.specs.PlainChecked as c;
 ghost use Rattle.sp_types.specs.Firsts.{channel_first, statement_form_first, perform_first, each_first, message_first};
 ghost use Rattle.sp_types.specs.Firsts.{messages_first};
 ghost use Rattle.sp_types.specs.Kinds.{argument_kind};

@@ -1,6 +1,5 @@
-use Rattle.std.proofs.Common.{◌≡◌, ◌∙◌, ap, [], None}
+use Rattle.std.proofs.Common.{◌∙◌, ap, [], None}
 use Rattle.sp_tree.specs.SyntaxOf as plain
-use Rattle.sp_tree.specs.PlainSyntax as p
 use Rattle.sp_scope.specs.Walks.{seen_block}
 use Rattle.sp_scope.specs.Firsts.{files_first}
 use Rattle.sp_scope.proofs.Heads.{files_are}

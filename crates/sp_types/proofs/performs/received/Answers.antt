@@ -1,4 +1,4 @@
-use Rattle.std.proofs.Common.{◌≡◌, sym, arith}
+use Rattle.std.proofs.Common.{sym, arith}
 use Rattle.sp_types.proofs.SeveralOnChannel.{each_received}
 use Rattle.sp_types.proofs.performs.received.Goals as goal
 

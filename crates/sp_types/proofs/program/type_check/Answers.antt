@@ -1,12 +1,6 @@
-use Rattle.std.proofs.Common.{◌≡◌, ◌∙◌, ℕ, [], List, None, Option, map}
-use Rattle.sp_base.specs.declared.place.Place.{Place}
-use Rattle.sp_tree.specs.declared.checked.KindOf.{KindOf}
+use Rattle.std.proofs.Common.{◌≡◌, ◌∙◌, [], None, map}
 use Rattle.sp_tree.specs.Cells.{sizes}
 use Rattle.sp_tree.specs.NamedOf as plain
-use Rattle.sp_tree.specs.PhaseResults.{FirstRefusal}
-use Rattle.sp_tree.specs.PlainChecked as k
-use Rattle.sp_types.specs.declared.tables.Ordinal.{Ordinal}
-use Rattle.sp_types.specs.declared.tables.Tables.{Tables}
 use Rattle.sp_types.specs.AfterTables.{starts_in, tables_by_names}
 use Rattle.sp_types.specs.CellCaps.{capped_count, capped_sizes}
 use Rattle.sp_types.specs.CheckedTree.{checked_blocks, checked_variables, program_checked}
