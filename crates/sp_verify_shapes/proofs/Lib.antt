@@ -12,4 +12,5 @@ mod SearchEnds
 pub mod ReachLaws
 pub mod CallRepeats
 mod Formals
+mod Memos
 mod MessageLengths

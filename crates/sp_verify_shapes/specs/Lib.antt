@@ -1,6 +1,7 @@
 pub mod Asks
 pub mod Stacks
 pub mod Fits
+pub mod Memos
 pub mod Plans
 pub mod Remainders
 pub mod Steps

@@ -1,6 +1,6 @@
 //! Operands of calls against the formals of blocks: rule V5.
 
-ghost use Rattle.std.specs.Prelude.{◌≡◌, ◌&&◌, ◌<◌, ◌≤◌, length, not, slice_get, true, List, Some};
+ghost use Rattle.std.specs.Prelude.{◌≡◌, ◌&&◌, ◌<◌, ◌≤◌, false, length, not, slice_get, true, List, Some};
 ghost use Rattle.sp_verify_areas.specs.Alone.{LayoutFails, flag_at};
 ghost use Rattle.sp_verify_areas.specs.Blocks.{IsNumbered};
 ghost use Rattle.sp_verify_areas.specs.LeastPlaces.{IsLeast, Upto};
@@ -8,12 +8,14 @@ ghost use Rattle.sp_verify_areas.specs.declared.owners.Owner.{Owner};
 ghost use Rattle.sp_verify_rules.specs.Rules.{BreaksV5, call_fits, fits_formal, some_reference};
 ghost use Rattle.sp_verify_shapes.specs.Asks.{AreAsked, AreAsks};
 ghost use Rattle.sp_verify_shapes.specs.Fits.{Passes, first_fit, layout_fits};
+ghost use Rattle.sp_verify_shapes.specs.Memos.{AddsFits, AreFits, AreFitsOf};
 ghost use Rattle.sp_verify_shapes.specs.ReachRules.{answers_by_reference, fails_at};
 ghost use Rattle.sp_verify_shapes.specs.Repeats.{AreRepeats};
 ghost use Rattle.sp_verify_shapes.specs.Shapes.{AreShapes};
 ghost use Rattle.sp_verify_shapes.specs.Stacks.{IsListNumber, IsStacks, list_of, shape_of};
 
 use crate::asks::{Ask, covers_all};
+use crate::memo::Memo;
 use crate::reach::reached;
 use crate::shapes::Shapes;
 use crate::stacks::{Jump, Shape, Stacks};
@@ -75,21 +77,48 @@ fn pass(stacks: &Stacks, formals: &[Formal], asks: &List<Ask>, n: u32, count: us
     }
 }
 
-// Whether the first shapes of a list, the last operand first, fit formals.
-fn fit_formals(stacks: &Stacks, formals: &[Formal], asks: &List<Ask>, n: u32) -> bool
+// So many steps are taken before the memo is asked, and then it is asked once in so many formals.
+const STRIDE: usize = 64;
+
+// Whether the memo is asked, so many steps before the first time, where fewer formals are left than before. If two lists
+// end alike, it is asked at the same places from there on. It has no contract: what is known is true anywhere.
+fn is_due(ahead: usize, count: usize, left: usize) -> bool {
+    ahead == 0 && left / STRIDE < count / STRIDE
+}
+
+// Whether the first shapes of a list, the last operand first, fit the formals of the layout at a place. It keeps in the
+// memo at which places of the list this was asked: what is kept there is true if they fit.
+fn fit_formals(
+    stacks: &Stacks,
+    formals: &[Formal],
+    asks: &List<Ask>,
+    memo: &mut Memo,
+    place: usize,
+    n: u32,
+) -> bool
     requires stacks { IsStacks stacks.now }
     requires there { IsListNumber stacks.now n }
     requires asks { AreAsks formals.now asks.now }
-    ensures { result ≡ first_fit formals.now (length formals.now) (list_of stacks.now n) }
+    requires known { AreFitsOf formals.now stacks.now place memo.old }
+    ensures fit { result ≡ first_fit formals.now (length formals.now) (list_of stacks.now n) }
+    ensures adds { AddsFits stacks.now formals.now place 0
+        (first_fit formals.now (length formals.now) (list_of stacks.now n)) memo.old memo.new }
 {
     let mut count = formals.len();
     let mut rest = n;
+    let mut ahead = STRIDE;
     'operands: while 0 < count {
         match pass(stacks, formals, asks, rest, count) {
             None => return false,
             Some(jump) => {
+                let left = count - jump.far as usize;
+                ahead = ahead.saturating_sub(1);
+                let due = is_due(ahead, count, left);
+                if memo.meets(due, place, left, jump.to) {
+                    return true;
+                }
                 rest = jump.to;
-                count -= jump.far as usize;
+                count = left;
             }
         }
     }
@@ -97,11 +126,19 @@ fn fit_formals(stacks: &Stacks, formals: &[Formal], asks: &List<Ask>, n: u32) ->
 }
 
 // Whether the first shapes of a list fit the formals of the layout at a place.
-fn layout_fits(layouts: &List<Layout>, shapes: &Shapes, place: usize, n: u32) -> bool
+fn layout_fits(
+    layouts: &List<Layout>,
+    shapes: &Shapes,
+    memo: &mut Memo,
+    place: usize,
+    n: u32,
+) -> bool
     requires stacks { IsStacks shapes.now.stacks }
     requires asked { AreAsked layouts.now shapes.now.asked }
+    requires known { AreFits layouts.now shapes.now.stacks memo.old }
     requires there { IsListNumber shapes.now.stacks n }
-    ensures { result ≡ layout_fits (slice_get layouts.now place) (list_of shapes.now.stacks n) }
+    ensures fit { result ≡ layout_fits (slice_get layouts.now place) (list_of shapes.now.stacks n) }
+    ensures known { result ≡ true → AreFits layouts.now shapes.now.stacks memo.new }
 {
     match layouts.get(place) {
         None => false,
@@ -109,39 +146,52 @@ fn layout_fits(layouts: &List<Layout>, shapes: &Shapes, place: usize, n: u32) ->
             &shapes.stacks,
             l.formals.items(),
             &shapes.asked.items()[place],
+            memo,
+            place,
             n,
         ),
     }
 }
 
 // Whether an instruction calls no block that its operands do not fit.
-fn call_fits(parts: &Parts, blocks: &Blocks, shapes: &Shapes, instr: Instr, n: u32) -> bool
+fn call_fits(
+    parts: &Parts,
+    blocks: &Blocks,
+    shapes: &Shapes,
+    memo: &mut Memo,
+    instr: Instr,
+    n: u32,
+) -> bool
     requires blocks { IsNumbered blocks.now.first parts.now.layouts }
     requires stacks { IsStacks shapes.now.stacks }
     requires asked { AreAsked parts.now.layouts shapes.now.asked }
+    requires known { AreFits parts.now.layouts shapes.now.stacks memo.old }
     requires there { IsListNumber shapes.now.stacks n }
-    ensures { result ≡ call_fits parts.now (Some instr) (list_of shapes.now.stacks n) }
+    ensures fit { result ≡ call_fits parts.now (Some instr) (list_of shapes.now.stacks n) }
+    ensures known { result ≡ true → AreFits parts.now.layouts shapes.now.stacks memo.new }
 {
     match instr {
         Instr::Call { block, up: _ } => match blocks.place(block) {
             None => false,
-            Some(place) => layout_fits(&parts.layouts, shapes, place as usize, n),
+            Some(place) => layout_fits(&parts.layouts, shapes, memo, place as usize, n),
         },
         _ => true,
     }
 }
 
 // Whether an instruction is a call that its operands do not fit.
-fn misfits(code: &Code, blocks: &Blocks, shapes: &Shapes, p: u32) -> bool
+fn misfits(code: &Code, blocks: &Blocks, shapes: &Shapes, memo: &mut Memo, p: u32) -> bool
     requires blocks { IsNumbered blocks.now.first code.now.layouts }
     requires shapes { AreShapes code.now shapes.now }
-    ensures { result ≡ fails_at (call_fits code.now) code.now shapes.now p }
+    requires known { AreFits code.now.layouts shapes.now.stacks memo.old }
+    ensures fails { result ≡ fails_at (call_fits code.now) code.now shapes.now p }
+    ensures known { result ≡ false → AreFits code.now.layouts shapes.now.stacks memo.new }
 {
     match reached(shapes, p) {
         None => false,
         Some(n) => match code.instr(p) {
             None => false,
-            Some(instr) => !call_fits(code.parts(), blocks, shapes, instr, n),
+            Some(instr) => !call_fits(code.parts(), blocks, shapes, memo, instr, n),
         },
     }
 }
@@ -152,16 +202,19 @@ fn misfits_first(
     blocks: &Blocks,
     shapes: &Shapes,
     repeats: &List<bool>,
+    memo: &mut Memo,
     p: u32,
 ) -> bool
     requires blocks { IsNumbered blocks.now.first code.now.layouts }
     requires shapes { AreShapes code.now shapes.now }
-    ensures { result ≡ (not (flag_at repeats.now p) && fails_at (call_fits code.now) code.now shapes.now p) }
+    requires known { AreFits code.now.layouts shapes.now.stacks memo.old }
+    ensures fails { result ≡ (not (flag_at repeats.now p) && fails_at (call_fits code.now) code.now shapes.now p) }
+    ensures known { result ≡ false → AreFits code.now.layouts shapes.now.stacks memo.new }
 {
     if flag_at(repeats, p as usize) {
         false
     } else {
-        misfits(code, blocks, shapes, p)
+        misfits(code, blocks, shapes, memo, p)
     }
 }
 
@@ -172,8 +225,10 @@ fn first_misfit(code: &Code, blocks: &Blocks, shapes: &Shapes, repeats: &List<bo
     requires repeats { (os : List Owner) × AreRepeats code.now os shapes.now repeats.now }
     ensures { IsLeast (λ p. fails_at (call_fits code.now) code.now shapes.now p ≡ true) result }
 {
-    for p in 0..code.parts().instrs.len() {
-        if misfits_first(code, blocks, shapes, repeats, p as u32) {
+    let instrs = &code.parts().instrs;
+    let mut memo = Memo::new(instrs.alloc());
+    for p in 0..instrs.len() {
+        if misfits_first(code, blocks, shapes, repeats, &mut memo, p as u32) {
             return Some(p as u32);
         }
     }
