@@ -3,7 +3,7 @@
 use crate::verify_answers::{File, Says, expect};
 use sp_codefile::VRule;
 
-const FILES: [File; 10] = [
+const FILES: [File; 11] = [
     // operands are there
     File {
         lines: "layout 0 0 - none sizes 1 variables 2 formals\n\
@@ -95,6 +95,20 @@ const FILES: [File; 10] = [
             ("1/1/1/1", Says::Verified),
             ("2/1/2/1", Says::Broken(VRule::V5, 3)),
             ("1/2/1/2", Says::Broken(VRule::V5, 3)),
+        ],
+    },
+    // values and references in turn, for three calls: the second one alone does not fit, or the first one too
+    File {
+        lines: "layout 0 0 - none sizes 2 2 1 variables 2 3 4 formals\n\
+        layout 1 16 0 none sizes ~ 1 1 1 variables 5 6 7 8 formals value ~ reference ~ value 1 reference 2\n\
+        0 const 1\n1 addr 0 2\n2 const 1\n3 const 1\n4 jumpf 10\n5 const 1\n6 jumpf 13\n\
+        7 addr 0 3\n8 call 1 0\n9 jump 15\n10 addr 0 ~\n11 call 1 0\n12 jump 15\n\
+        13 addr 0 3\n14 call 1 0\n15 end\n16 return\n",
+        rows: &[
+            ("1/1/2/3", Says::Verified),
+            ("1/1/2/4", Says::Broken(VRule::V5, 11)),
+            ("1/1/3/3", Says::Broken(VRule::V5, 8)),
+            ("2/2/2/3", Says::Broken(VRule::V5, 8)),
         ],
     },
     // what answers has no reference
