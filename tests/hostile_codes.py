@@ -368,10 +368,12 @@ def two_cells_each(count, unfit):
     return [2] * (count - 1) + [1 if unfit else 2]
 
 
-def calls_of_lists(operands=100_000, calls=100_000, unfit=False, mixed=False):
-    """Accepted: n operands are pushed once, and each of n calls puts one of its own on top. Or refused by V5: that of
-    the last call has too few cells. Mixed: each second operand is a value."""
-    instrs = ["const 1" if mixed and k % 2 else f"addr 0 {k + 2}" for k in range(operands)] + ["const 0"]
+def calls_of_lists(operands=100_000, calls=100_000, kinds=("reference 2",), unfit=False):
+    """Accepted: n operands are pushed once, and each of n calls puts one of its own on top. The formals are of these
+    kinds in turn, and no address has more cells than its own formal asks for. Or refused by V5: the operand of the last
+    call has too few cells."""
+    kinds = [kinds[k % len(kinds)] for k in range(operands)]
+    instrs = [f"addr 0 {k + 2}" if "reference" in kind else "const 1" for k, kind in enumerate(kinds)] + ["const 0"]
     after = operands + 2 + calls
     done = after + 3 * calls + 3
     instrs += [f"casej {k} {after + 3 * k}" for k in range(calls)] + [f"jump {after + 3 * calls}"]
@@ -380,28 +382,29 @@ def calls_of_lists(operands=100_000, calls=100_000, unfit=False, mixed=False):
     instrs += ["nocase", f"addr 0 {operands + 2}", "call 1 0", "end", "return"]
     count = operands + calls
     formals = range(count + 2, count + operands + 3)
-    layouts = [layout(0, 0, "-", two_cells_each(count, unfit), range(2, count + 2)),
-               layout(1, done + 1, 0, [1] * len(formals), formals,
-                      ["value 1" if mixed and k % 2 and k < operands else "reference 2" for k in range(len(formals))])]
+    sizes = [kind.split()[1] for kind in kinds] + two_cells_each(calls, unfit)
+    layouts = [layout(0, 0, "-", sizes, range(2, count + 2)),
+               layout(1, done + 1, 0, [1] * len(formals), formals, [*kinds, "reference 2"])]
     return code(layouts, instrs)
 
 
-def calls_at_heights(operands=200_000, calls=100_000, kinds=("reference 2",), unfit=False):
+def calls_at_heights(operands=200_000, calls=100_000, kinds=("reference 2",), unfit=False, step=1):
     """Accepted: operands are pushed one by one, and at each of n heights a call takes the topmost ones. The formals are
-    of these kinds in turn. Or refused by V5: the topmost operand of the last call has too few cells, or is no value."""
-    by_value = kinds[0] == "value 1"
-    height, away = operands + calls, operands + 3 * calls + 1
+    of these kinds in turn, and the heights differ by this step. Or refused by V5: the topmost operand of the last call
+    has too few cells, or is no value."""
+    height, away = operands + step * calls, operands + (step + 2) * calls + 1
     drops = away + 2 * calls
-    pushes = ["const 1" if by_value else f"addr 0 {k + 2}" for k in range(height)]
-    gone = ["write int" if by_value else "read int"] * height
-    if by_value and unfit:
+    by_value = ["value" in kinds[k % len(kinds)] for k in range(height)]
+    pushes = ["const 1" if value else f"addr 0 {k + 2}" for k, value in enumerate(by_value)]
+    gone = ["write int" if value else "read int" for value in reversed(by_value)]
+    if by_value[-1] and unfit:
         pushes[-1], gone[0] = f"addr 0 {height + 1}", "read int"
     instrs = pushes[:operands]
     for k in range(calls):
-        instrs += [pushes[operands + k], "const 1", f"jumpf {away + 2 * k}"]
+        instrs += [*pushes[operands + step * k:operands + step * (k + 1)], "const 1", f"jumpf {away + 2 * k}"]
     instrs.append(f"jump {drops}")
     for k in range(calls):
-        instrs += ["call 1 0", f"jump {drops + height - k - 1}"]
+        instrs += ["call 1 0", f"jump {drops + height - step * (k + 1)}"]
     instrs += gone + ["end", "return"]
     formals = range(height + 2, height + operands + 2)
     layouts = [layout(0, 0, "-", two_cells_each(height, unfit), range(2, height + 2)),
@@ -448,6 +451,8 @@ FILES = {
     "unfit_at_lists": lambda: calls_of_lists(unfit=True),
     "unfit_at_heights": lambda: calls_at_heights(kinds=("reference 1", "reference 2"), unfit=True),
     "unfit_values": lambda: calls_at_heights(kinds=("value 1",), unfit=True),
+    "unfit_mixed": lambda: calls_of_lists(kinds=("reference 2", "value 1"), unfit=True),
+    "unfit_own_cells": lambda: calls_of_lists(kinds=("reference 2", "reference 3"), unfit=True),
 }
 
 # Files in which two sizes still multiply: they take more than 10 seconds, or more than 2 GB.
@@ -456,5 +461,5 @@ OPEN = {
     "chain_of_passed": chain_of_passed,
     "calls_of_lists": calls_of_lists,
     "calls_at_heights": calls_at_heights,
-    "unfit_mixed": lambda: calls_of_lists(unfit=True, mixed=True),
+    "unfit_mixed_at_heights": lambda: calls_at_heights(200_000, 50_000, ("reference 2", "value 1"), True, 2),
 }
