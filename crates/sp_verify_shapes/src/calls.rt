@@ -80,8 +80,8 @@ fn pass(stacks: &Stacks, formals: &[Formal], asks: &List<Ask>, n: u32, count: us
 // So many steps are taken before the memo is asked, and then it is asked once in so many formals.
 const STRIDE: usize = 64;
 
-// Whether the memo is asked, so many steps before the first time, where fewer formals are left than before. If two lists
-// end alike, it is asked at the same places from there on. It has no contract: what is known is true anywhere.
+// Whether the memo is asked: after the first steps, once in so many formals. Lists that end alike ask it at the same
+// places from there on. It has no contract: what the memo knows is true at any place.
 fn is_due(ahead: usize, count: usize, left: usize) -> bool {
     ahead == 0 && left / STRIDE < count / STRIDE
 }
