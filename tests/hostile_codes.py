@@ -346,7 +346,7 @@ def chain_inside(blocks=190_000):
 
 
 def chain_beyond_answer(blocks=190_000):
-    """V8: a block that answers is above the chain, which stores variables of the program."""
+    """Refused by V8: a block that answers is above the chain, which stores variables of the program."""
     instrs, layouts = chain_of_stores(5, blocks)
     result = blocks + 2
     layouts[:0] = [layout(0, 0, "-", [1] * blocks, range(2, result)), layout(1, 3, 0, [1], [result], answer=True)]
@@ -425,6 +425,7 @@ FILES = {
     "chain_in_answer": chain_in_answer,
     "chain_inside": chain_inside,
     "chain_by_reference": chain_by_reference,
+    "chain_beyond_answer": chain_beyond_answer,
     "ring_of_blocks": ring_of_blocks,
     "operands_one_block": lambda: operands_of_calls(200_000, 280_000, 1),
     "operands_of_blocks": lambda: operands_of_calls(4_000, 3_000, 900),
@@ -457,7 +458,6 @@ FILES = {
 
 # Files in which two sizes still multiply: they take more than 10 seconds, or more than 2 GB.
 OPEN = {
-    "chain_beyond_answer": chain_beyond_answer,
     "chain_of_passed": chain_of_passed,
     "calls_of_lists": calls_of_lists,
     "calls_at_heights": calls_at_heights,

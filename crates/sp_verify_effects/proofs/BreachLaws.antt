@@ -29,6 +29,34 @@ use Rattle.sp_verify_effects.specs.Effects.{AreEffects, AreFound, IsRowOf}
 use Rattle.sp_verify_effects.specs.ChildEffects.{ChildFails, FailsAs, TableFails}
 use Rattle.sp_verify_effects.proofs.Children.{child_area, child_by, name_there, table_there}
 
+-- ---- what is known
+
+pub below_bound : (p n : ℕ) → p < n → is_below (Some n) p ≡ true
+below_bound p n l = Prim.grind (arith, l)
+
+-- one number of which something holds, and what is found of it before: the first of them is the least
+module _ (P Q : ℕ → Type 0) (n : ℕ) (known : Q n) (found : (p : ℕ) → p < n → P p → Q p)
+    (finds : (p : ℕ) → p < n → Q p → P p) where
+  pub known_or_before : (o : Option ℕ) → IsLeast P o → IsLeast Q (earlier_of o (Some n))
+  known_or_before None h = (known, λ p l q. h p (finds p l q))
+  known_or_before (Some m) h = go (nat_lt n m) refl
+    where
+      before : (p : ℕ) → p < m → p < n → Q p → ⊥
+      before p l k q = h.1 p l (finds p k q)
+
+      -- the other one may be the same
+      same_or_less : (m < n) ⊎ ((m ≡ n) ⊎ (n < m)) → (n < m → ⊥) → Q m
+      same_or_less (inl l) f = found m l h.0
+      same_or_less (inr (inl e)) f = subst Q (sym e) known
+      same_or_less (inr (inr l)) f = absurd (f l)
+
+      go : (b : Bool) → nat_lt n m ≡ b → IsLeast Q (Some (if b then n else m))
+      go true e = (known, λ p l q. before p (Prim.grind (arith, e, l)) l q)
+      go false e = (
+        same_or_less (less_same_or_more m n) (λ l. Prim.grind (arith, e, l)),
+        λ p l q. before p l (Prim.grind (arith, e, l)) q,
+      )
+
 -- ---- V6
 
 module _ (c : Parts) (e : Effects) (are : AreFound c e) (o : Option ℕ) (asks : AsksTables o e.asked c.forks) where
@@ -133,29 +161,8 @@ module _ (c : Parts) (kept : (p : ℕ) → BreaksV1 c p → ⊥) (os : List Owne
   -- one that is broken and what is broken before it, by effects of those before it: the first of them is the least
   module _ (e : Effects) (are : AreFound c e) (n : ℕ) (asks : AsksTables (Some n) e.asked c.forks)
       (broken : BreaksV6 c n) where
-    below : (p : ℕ) → p < n → is_below (Some n) p ≡ true
-    below p l = Prim.grind (arith, l)
-
     pub v6_first : (o : Option ℕ) → IsLeast (Upto (TableFails e c.forks) (length c.forks)) o
         → IsLeast (BreaksV6 c) (earlier_of o (Some n))
-    v6_first None h = (broken, λ p l b. h p (v6_finds c e are (Some n) asks kept os own p (below p l) b))
-    v6_first (Some q) h = go (nat_lt n q) refl
-      where
-        before : (p : ℕ) → p < q → p < n → BreaksV6 c p → ⊥
-        before p l m b = h.1 p l (v6_finds c e are (Some n) asks kept os own p (below p m) b)
-
-        -- the other one may be the same
-        at : q < n → BreaksV6 c q
-        at l = v6_found c e are (Some n) asks kept os own h.0.item q (below q l) h.0.holds
-
-        same_or_less : (q < n) ⊎ ((q ≡ n) ⊎ (n < q)) → (n < q → ⊥) → BreaksV6 c q
-        same_or_less (inl l) f = at l
-        same_or_less (inr (inl z)) f = subst (BreaksV6 c) (sym z) broken
-        same_or_less (inr (inr l)) f = absurd (f l)
-
-        go : (b : Bool) → nat_lt n q ≡ b → IsLeast (BreaksV6 c) (Some (if b then n else q))
-        go true z = (broken, λ p l b. before p (Prim.grind (arith, z, l)) l b)
-        go false z = (
-          same_or_less (less_same_or_more q n) (λ l. Prim.grind (arith, z, l)),
-          λ p l b. before p l (Prim.grind (arith, z, l)) b,
-        )
+    v6_first = known_or_before (Upto (TableFails e c.forks) (length c.forks)) (BreaksV6 c) n broken
+        (λ p l u. v6_found c e are (Some n) asks kept os own u.item p (below_bound p n l) u.holds)
+        (λ p l. v6_finds c e are (Some n) asks kept os own p (below_bound p n l))

@@ -1,30 +1,37 @@
 -- Rule V8: what the pass finds is broken, and what is broken it finds.
-use Rattle.std.proofs.Common.{◌≡◌, inl, inr, ⊎_elim, sym, ap, subst, ◌∙◌, ℕ, List, length, Option, Some, None, Bool}
-use Rattle.std.proofs.Common.{true, ◌||◌, arith}
-use Rattle.std.specs.Prelude.{slice_get}
+use Rattle.std.proofs.Common.{◌≡◌, inl, inr, ⊎_elim, refl, sym, ap, subst, ◌∙◌, ℕ, List, length, Option, Some, None}
+use Rattle.std.proofs.Common.{Bool, true, ◌&&◌, ◌||◌, arith}
+use Rattle.std.specs.Prelude.{not, slice_get}
 use Rattle.std.proofs.lemmas.Option.{slice_get_within}
-use Rattle.std.proofs.lemmas.Bool.{and_from, and_parts, or_cases, or_left, or_right}
+use Rattle.std.proofs.lemmas.Bool.{and_from, and_parts, not-true, or_cases, or_left, or_right}
+use Rattle.sp_base.proofs.Facts.{not_true_and_false}
 use Rattle.sp_code.specs.declared.code.Layout.{Layout}
 use Rattle.sp_code.specs.declared.code.Parts.{Parts}
 use Rattle.sp_code.specs.Machine.{layout_of}
-use Rattle.sp_verify_rules.specs.Areas.{Body, entry, entry_of_layout}
+use Rattle.sp_verify_rules.specs.Areas.{Area, Body, entry, entry_of_layout}
 use Rattle.sp_verify_rules.specs.Effects.{Does}
 use Rattle.sp_verify_rules.specs.Forks as fork
 use Rattle.sp_verify_rules.specs.NameRules.{BreaksV1}
 use Rattle.sp_verify_rules.specs.Verdict.{BreaksV8, HasStop}
-use Rattle.sp_verify_areas.specs.LeastPlaces.{IsLeast, Upto}
-use Rattle.sp_verify_areas.proofs.Leasts.{all}
+use Rattle.sp_verify_areas.specs.declared.owners.Owner.{Owner}
+use Rattle.sp_verify_areas.specs.LeastPlaces.{IsLeast, Upto, earlier_of}
+use Rattle.sp_verify_areas.specs.Owners.{AreOwners}
+use Rattle.sp_verify_areas.proofs.Leasts.{least_of_same}
 use Rattle.sp_verify_effects.specs.declared.effects.EffectRow.{EffectRow}
 use Rattle.sp_verify_effects.specs.declared.effects.Effects.{Effects}
 use Rattle.sp_verify_effects.specs.declared.asked_areas.Asked.{Asked}
 use Rattle.sp_verify_effects.specs.declared.facts.Effect.{Effect}
 use Rattle.sp_verify_effects.specs.declared.facts.Effect.TheVariants as effect
+use Rattle.sp_verify_effects.specs.declared.facts.Fact.{Fact}
 use Rattle.sp_verify_effects.specs.Allowances.{IsOwnEffect}
-use Rattle.sp_verify_effects.specs.AskedAreas.{AsksOutside, has_block, is_asked}
+use Rattle.sp_verify_effects.specs.AskedAreas.{AsksOutside, has_block, is_asked, is_below}
 use Rattle.sp_verify_effects.specs.Effects.{AreEffects, IsRowOf}
-use Rattle.sp_verify_effects.specs.SideEffects.{HasSideEffects, LayoutHasSideEffects, has_side_effects}
-use Rattle.sp_verify_effects.specs.Variables.{AreOwn, goes_out}
-use Rattle.sp_verify_effects.proofs.BlockVariables.{layout_here, one_layout, out_from, out_is}
+use Rattle.sp_verify_effects.specs.FactClosure.{IsDone, IsEffectOf}
+use Rattle.sp_verify_effects.specs.SideEffects.{HasSideEffects, LayoutHasSideEffects, has_side_effects, is_side_effect}
+use Rattle.sp_verify_effects.specs.Variables.{AreOwn, goes_out, owns}
+use Rattle.sp_verify_effects.proofs.BlockVariables.{in_own, layout_here, one_layout, out_from, out_is}
+use Rattle.sp_verify_effects.proofs.BreachLaws.{below_bound, known_or_before}
+use Rattle.sp_verify_effects.proofs.Exact.{one_area}
 
 -- ---- one layout
 
@@ -89,32 +96,86 @@ module _ (c : Parts) (e : Effects) (are : AreEffects c e) (kept : (p : ℕ) → 
     from_rule (a, inl (x, i, m)) = (a, inl (x, (effects_of.stored x (q (effect.Stores x) m)).1 i, m))
     from_rule (a, inr s) = (a, inr ((effects_of.stops (q effect.Stops (λ z. z))).1 s))
 
+  abbrev IsBefore : ℕ → Type 0
+  IsBefore p = is_below e.asked.side_effect p ≡ true
+
   -- what a block that answers does outside itself is asked about
-  asks : (j : ℕ) (l : Layout) → slice_get c.layouts j ≡ Some l → l.answer ≡ true → AsksBody c e.asked l
-  asks j l is a = asked_body c e.asked l (layout_here c kept j l is)
+  asks : (j : ℕ) (l : Layout) → slice_get c.layouts j ≡ Some l → l.answer ≡ true → IsBefore l.entry
+      → AsksBody c e.asked l
+  asks j l is a b = asked_body c e.asked l (layout_here c kept j l is)
       (are.asks.layouts j l is
-      (or_left l.answer (has_block e.asked l.entry) a))
+      (or_left (l.answer && is_below e.asked.side_effect l.entry) (has_block e.asked l.entry)
+      (and_from l.answer (is_below e.asked.side_effect l.entry) a b)))
 
   answers : (l : Layout) (o : Option EffectRow) → HasSideEffects l o → l.answer ≡ true
   answers l None h = absurd h
   answers l (Some d) h = h.0
 
-  found : (j p : ℕ) → LayoutHasSideEffects e c.layouts j p → BreaksV8 c p
-  found j p (l, is, at, h) =
-      let r = body_row c e are l (layout_here c kept j l is) in
-      let q = asks j l is (answers l (slice_get e.rows l.entry) h) in
-      (l, (j, is), at, to_rule l q r.0 r.2 (subst (HasSideEffects l) r.1 h))
+  abbrev IsFound : ℕ → Type 0
+  IsFound = Upto (LayoutHasSideEffects e c.layouts) (length c.layouts)
 
-  finds : (p : ℕ) → BreaksV8 c p → Upto (LayoutHasSideEffects e c.layouts) (length c.layouts) p
-  finds p (l, (j, is), at, h) =
+  found : (p : ℕ) → IsBefore p → IsFound p → BreaksV8 c p
+  found p b u = go u.item u.holds
+    where
+      go : (j : ℕ) → LayoutHasSideEffects e c.layouts j p → BreaksV8 c p
+      go j (l, is, at, h) =
+          let r = body_row c e are l (layout_here c kept j l is) in
+          let q = asks j l is (answers l (slice_get e.rows l.entry) h) (subst IsBefore (sym at) b) in
+          (l, (j, is), at, to_rule l q r.0 r.2 (subst (HasSideEffects l) r.1 h))
+
+  finds : (p : ℕ) → IsBefore p → BreaksV8 c p → IsFound p
+  finds p b (l, (j, is), at, h) =
       let r = body_row c e are l (layout_here c kept j l is) in
+      let q = asks j l is h.0 (subst IsBefore (sym at) b) in
       record {
         item = j;
         below = slice_get_within c.layouts j l is;
-        holds =
-            (l, is, at, subst (HasSideEffects l) (sym r.1) (from_rule l (asks j l is h.0) r.0 r.2 h));
+        holds = (l, is, at, subst (HasSideEffects l) (sym r.1) (from_rule l q r.0 r.2 h));
       }
 
-  pub v8_least : (o : Option ℕ) → IsLeast (Upto (LayoutHasSideEffects e c.layouts) (length c.layouts)) o
-      → IsLeast (BreaksV8 c) o
-  v8_least o h = all (LayoutHasSideEffects e c.layouts) (BreaksV8 c) (length c.layouts) o found finds h
+  none_known : (o : Option ℕ) → earlier_of o None ≡ o
+  none_known None = refl
+  none_known (Some p) = refl
+
+  -- the first one that is found, or the one that is known
+  pub v8_least : (o : Option ℕ) → IsLeast IsFound o → IsLeast (BreaksV8 c) (earlier_of o e.asked.side_effect)
+  v8_least o h = go e.asked.side_effect refl
+    where
+      go : (u : Option ℕ) → e.asked.side_effect ≡ u → IsLeast (BreaksV8 c) (earlier_of o u)
+      go None s = subst (IsLeast (BreaksV8 c)) (sym (none_known o))
+          (least_of_same IsFound (BreaksV8 c) o (λ p. found p (ap (λ z. is_below z p) s))
+          (λ p. finds p (ap (λ z. is_below z p) s)) h)
+      go (Some n) s = known_or_before IsFound (BreaksV8 c) n (are.asks.side_effect n s)
+          (λ p l. found p (ap (λ z. is_below z p) s ∙ below_bound p n l))
+          (λ p l. finds p (ap (λ z. is_below z p) s ∙ below_bound p n l)) o h
+
+-- ---- what one fact shows
+
+module _ (c : Parts) (kept : (p : ℕ) → BreaksV1 c p → ⊥) (os : List Owner) (owners : AreOwners c os) (ks : List (ℕ × ℕ))
+    (own : AreOwn c ks) where
+  pub fact_breaks : (j : ℕ) (l : Layout) → slice_get c.layouts j ≡ Some l → (f : Fact) → IsDone c f → l.entry ≡ f.area
+      → is_side_effect ks l f.effect ≡ true → BreaksV8 c l.entry
+  fact_breaks j l is f (a, ia, at, does) begins h =
+      (l, (j, is), refl, rule f.effect (subst (λ (z : Area). IsEffectOf c z f.effect) same does) h)
+    where
+      here : layout_of c.layouts l.block ≡ Some l
+      here = layout_here c kept j l is
+
+      same : a ≡ Body l.block
+      same = one_area c kept os owners a (Body l.block) ia (l, here)
+          (sym at ∙ (sym begins ∙ sym (ap entry_of_layout here)))
+
+      rule : (d : Effect) → IsEffectOf c (Body l.block) d → is_side_effect ks l d ≡ true
+          → fork.BreaksV8 c (Does c) (HasStop c) l l.block
+      rule (effect.Stores x) d e =
+          let b = and_parts l.answer (not (owns ks l.entry x)) e in (
+            b.0,
+            inl (
+              x,
+              d,
+              λ m. not_true_and_false (owns ks l.entry x) (in_own c kept ks own l.block l here x m)
+                  (not-true (owns ks l.entry x) b.1),
+            ),
+          )
+      rule (effect.Loads x) d e = absurd (cc e)
+      rule effect.Stops d e = (e, inr d)

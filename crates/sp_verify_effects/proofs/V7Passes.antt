@@ -1,6 +1,6 @@
 -- Rule V7: what the passes find is broken, and what is broken they find.
 use Rattle.std.proofs.Common.{◌≡◌, inl, inr, ⊎_elim, refl, sym, ap, subst, ◌∙◌, ℕ, ◌<◌, List, length, Option, Some}
-use Rattle.std.proofs.Common.{None, Bool, true, false, ◌||◌, if◌then◌else◌, ◌==◌, arith, eqb-true}
+use Rattle.std.proofs.Common.{None, Bool, true, false, ◌&&◌, ◌||◌, if◌then◌else◌, ◌==◌, arith, eqb-true}
 use Rattle.std.specs.Prelude.{slice_get, ◌↔◌}
 use Rattle.std.specs.BTreeMap.{BTreeMap}
 use Rattle.std.proofs.lemmas.Bool.{eq-eqb, and_from, and_parts, or_cases, or_left, or_right}
@@ -37,7 +37,7 @@ use Rattle.sp_verify_shapes.specs.Stacks.{list_of}
 use Rattle.sp_verify_shapes.proofs.ReachLaws.{reached_there, stands}
 use Rattle.sp_verify_effects.specs.declared.effects.EffectRow.{EffectRow}
 use Rattle.sp_verify_effects.specs.declared.effects.Effects.{Effects}
-use Rattle.sp_verify_effects.specs.AskedAreas.{AsksOutside, has_block, inside_entry}
+use Rattle.sp_verify_effects.specs.AskedAreas.{AsksOutside, has_block, inside_entry, is_below}
 use Rattle.sp_verify_effects.specs.declared.facts.Effect.TheVariants as effect
 use Rattle.sp_verify_effects.specs.Calls.{CallFails}
 use Rattle.sp_verify_effects.specs.Effects.{AreEffects, IsRowOf}
@@ -208,7 +208,7 @@ module _ (c : Parts) (k : KeepsCodeRules c) (kept : (p : ℕ) → BreaksV1 c p �
             let same_place = place_some c.layouts b j (sym (numbered b) ∙ number_is) in
             let ls = c.layouts in
             are.asks.layouts j l is
-            (or_right l.answer (has_block e.asked l.entry)
+            (or_right (l.answer && is_below e.asked.side_effect l.entry) (has_block e.asked l.entry)
             (are.asks.inside h.position q.area l.entry q.lies
             (ap (inside_entry (homes c q.area) ls) call_is
             ∙ ap (λ t. if t then entry_at (layout_of ls b) else None) inward ∙ ap entry_at (sym same_place ∙ is))))

@@ -16,6 +16,7 @@ use Rattle.sp_verify_rules.specs.Areas.{Area, homes, instr_at, on_option}
 use Rattle.sp_verify_rules.specs.Effects.{IsActual, IsCalled}
 use Rattle.sp_verify_rules.specs.Reach.{IsArea}
 use Rattle.sp_verify_rules.specs.Shapes.{Shape}
+use Rattle.sp_verify_rules.specs.Verdict.{BreaksV8}
 use Rattle.sp_verify_areas.specs.Alone.{flag_at}
 use Rattle.sp_verify_areas.specs.Only.{LiesOnlyIn}
 use Rattle.sp_verify_areas.specs.Owners.{entry_at}
@@ -50,14 +51,14 @@ target (edge.Passed to y x) = to
 abbrev pub has_block : Asked → ℕ → Bool
 has_block k m = k.all || flag_at k.blocks m
 
--- the block answers, or the flags have it
-abbrev pub is_asked_block : Asked → Layout → Bool
-is_asked_block k l = l.answer || has_block k l.entry
-
 -- an instruction is below a bound, if there is one
 abbrev pub is_below : Option ℕ → ℕ → Bool
 is_below None p = true
 is_below (Some n) p = nat_lt p n
+
+-- the block answers and begins before one that is known to have a side effect, or the flags have it
+abbrev pub is_asked_block : Asked → Layout → Bool
+is_asked_block k l = (l.answer && is_below k.side_effect l.entry) || has_block k l.entry
 
 -- what a child is not handed is asked about it; so if it begins below a bound, for the children of a table, and of all
 -- tables
@@ -107,3 +108,5 @@ module _ (c : Parts) where
     pub layouts : AsksLayouts k c.layouts
     pub calls : AsksCalls k
     pub inside : (p : ℕ) → AsksInsideAt k p
+    -- the side effect that is known is one
+    pub side_effect : (p : ℕ) → k.side_effect ≡ Some p → BreaksV8 c p

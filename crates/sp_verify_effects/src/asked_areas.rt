@@ -1,7 +1,7 @@
 //! The areas that rules V6 to V8 ask about, and what they ask about each. Nothing else is followed: where the rules ask
 //! about little, code of many blocks and variables takes no time and no memory for each pair of them.
 
-ghost use Rattle.std.specs.Prelude.{◌≡◌, ◌<◌, ℕ, IfOk, Some, length, true};
+ghost use Rattle.std.specs.Prelude.{◌≡◌, ◌<◌, ℕ, IfOk, None, Some, length, true};
 ghost use Rattle.std.specs.Option.{option_copied};
 ghost use Rattle.sp_verify_areas.specs.Only.{LiesOnlyIn};
 ghost use Rattle.sp_verify_effects.specs.Allowances.{Fits, FitsBlock, allows_some};
@@ -13,6 +13,7 @@ ghost use Rattle.sp_verify_effects.specs.FactClosure.{FollowsEdges, FollowsRow, 
 ghost use Rattle.sp_verify_effects.specs.PassContexts.{IsPassContext};
 ghost use Rattle.sp_verify_effects.specs.Variables.{AreOwn};
 ghost use Rattle.sp_verify_rules.specs.Areas.{Area, homes as homes_of, instr_at};
+ghost use Rattle.sp_verify_rules.specs.Verdict.{BreaksV8};
 
 use crate::allowance::{Allowance, allows, fits, fits_block, passes_within};
 use crate::asked_calls::asks_calls;
@@ -27,6 +28,7 @@ use crate::passed::{Passed, none_passed, passed_of};
 use sp_base::{List, Memory};
 use sp_code::{ChildTable, ForkTable, Instr, Layout, Parts};
 use sp_verify_areas::flags::{flag_at, mark, no_flags};
+use std::alloc::Global;
 use std::collections::BTreeSet;
 
 /// Areas by their first instructions, and what of each is asked about.
@@ -40,8 +42,11 @@ pub struct Asked {
     /// do is not asked about.
     pub numbers: List<u32>,
     pub allowances: List<Allowance>,
-    /// Of each instruction, whether a block begins there that answers or is called inside itself.
+    /// Of each instruction, whether a block begins there of which the rules ask what it does outside itself.
     pub blocks: List<bool>,
+    /// The first instruction of a block that is known to have a side effect, if there is one: of the blocks that answer
+    /// only those that begin before it are asked about.
+    pub side_effect: Option<u32>,
 }
 
 impl Asked {
@@ -102,7 +107,8 @@ impl Asked {
 
 // All areas.
 fn every_area(asked: Asked) -> Asked
-    ensures { result.all ≡ true }
+    ensures all { result.all ≡ true }
+    ensures none { result.side_effect ≡ None }
 {
     let Asked {
         all: _,
@@ -110,6 +116,7 @@ fn every_area(asked: Asked) -> Asked
         numbers,
         allowances,
         blocks,
+        side_effect: _,
     } = asked;
     Asked {
         all: true,
@@ -117,7 +124,22 @@ fn every_area(asked: Asked) -> Asked
         numbers,
         allowances,
         blocks,
+        side_effect: None,
     }
+}
+
+/// One area alone, of so many instructions.
+pub(crate) fn area_alone(alloc: Global, count: usize, entry: u32) -> Result<Asked, Memory> {
+    let mut flags = have!(no_flags(alloc, count));
+    mark(&mut flags, entry as usize);
+    Ok(Asked {
+        all: false,
+        flags,
+        numbers: List::new(alloc),
+        allowances: List::new(alloc),
+        blocks: List::new(alloc),
+        side_effect: None,
+    })
 }
 
 /// Where an edge leads.
@@ -200,13 +222,13 @@ fn mark_passed(flags: &mut List<bool>, passed: &Passed) {
     }
 }
 
-// Sets those of blocks that answer or are called inside themselves.
-fn mark_blocks(g: &PassContext, flags: &mut List<bool>)
+// Sets those of blocks that are called inside themselves, or answer and begin before a side effect that is known.
+fn mark_blocks(g: &PassContext, flags: &mut List<bool>, side_effect: Option<u32>)
     requires known { IsPassContext g.now }
 {
     let parts = g.code.parts();
     for l in parts.layouts.items() {
-        if l.answer {
+        if l.answer && is_below(side_effect, l.entry) {
             mark(flags, l.entry as usize);
         }
     }
@@ -279,7 +301,7 @@ fn asks_tables(asked: &Asked, bound: Option<u32>, tables: &[ForkTable]) -> Resul
 fn is_asked_block(asked: &Asked, l: &Layout) -> bool
     ensures { result ≡ is_asked_block asked.now l.now }
 {
-    l.answer || asked.has_block(l.entry as usize)
+    (l.answer && is_below(asked.side_effect, l.entry)) || asked.has_block(l.entry as usize)
 }
 
 // Whether all that the area of a block may do, it does to variables of the block.
@@ -409,6 +431,7 @@ fn follows_edges(asked: &Asked, rows: &[List<Edge>]) -> bool
 fn asks(g: &PassContext, asked: &Asked, own: &BTreeSet<(u32, u32)>) -> Result<bool, Memory>
     requires known { IsPassContext g.now }
     requires own { AreOwn g.now.code.now own.now.keys }
+    requires side_effect { (p : ℕ) → asked.now.side_effect ≡ Some p → BreaksV8 g.now.code.now p }
     ensures { IfOk result (λ b. b ≡ true → Asks g.now.code.now asked.now) }
 {
     let parts = g.code.parts();
@@ -434,7 +457,10 @@ fn find_by(
     bound: Option<u32>,
     blocks: List<bool>,
     passed: &Passed,
-) -> Result<Asked, Memory> {
+    side_effect: Option<u32>,
+) -> Result<Asked, Memory>
+    ensures { IfOk result (λ asked. asked.side_effect ≡ side_effect) }
+{
     let mut flags = have!(List::from_slice(blocks.alloc(), blocks.items()));
     mark_tables(&mut flags, bound, parts.forks.items());
     mark_passed(&mut flags, passed);
@@ -449,6 +475,7 @@ fn find_by(
         numbers,
         allowances,
         blocks,
+        side_effect,
     })
 }
 
@@ -457,15 +484,17 @@ fn find_asked(
     g: &PassContext,
     rows: &List<List<Edge>>,
     own: &BTreeSet<(u32, u32)>,
+    side_effect: Option<u32>,
 ) -> Result<Asked, Memory>
     requires known { IsPassContext g.now }
+    ensures { IfOk result (λ asked. asked.side_effect ≡ side_effect) }
 {
     let parts = g.code.parts();
     let mut blocks = have!(no_flags(parts.instrs.alloc(), parts.instrs.len()));
-    mark_blocks(g, &mut blocks);
+    mark_blocks(g, &mut blocks, side_effect);
     let groups = have!(groups_of(rows));
     let passed = have!(passed_of(g, own, &blocks));
-    find_by(parts, rows, &groups, None, blocks, &passed)
+    find_by(parts, rows, &groups, None, blocks, &passed, side_effect)
 }
 
 /// What V6 asks about the children that begin below a bound, and what leads to it along the edges; nothing here is
@@ -479,7 +508,7 @@ pub(crate) fn find_below(
     let parts = g.code.parts();
     let blocks = have!(no_flags(parts.instrs.alloc(), parts.instrs.len()));
     let passed = none_passed(parts.instrs.alloc());
-    find_by(parts, rows, groups, bound, blocks, &passed)
+    find_by(parts, rows, groups, bound, blocks, &passed, None)
 }
 
 /// The same, checked.
@@ -502,18 +531,20 @@ pub(crate) fn asked_below(
     Ok(every_area(some))
 }
 
-/// What rules ask about, and what leads to it along these edges.
+/// What rules ask about, and what leads to it along these edges, where this block is known to have a side effect.
 pub(crate) fn asked_of(
     g: &PassContext,
     rows: &List<List<Edge>>,
     own: &BTreeSet<(u32, u32)>,
+    side_effect: Option<u32>,
 ) -> Result<Asked, Memory>
     requires known { IsPassContext g.now }
     requires own { AreOwn g.now.code.now own.now.keys }
+    requires side_effect { (p : ℕ) → side_effect ≡ Some p → BreaksV8 g.now.code.now p }
     ensures asks { IfOk result (Asks g.now.code.now) }
     ensures follows { IfOk result (FollowsEdges rows.now) }
 {
-    let some = have!(find_asked(g, rows, own));
+    let some = have!(find_asked(g, rows, own, side_effect));
     let asks = have!(asks(g, &some, own));
     if asks {
         if follows_edges(&some, rows.items()) {

@@ -30,8 +30,8 @@ use sp_verify_areas::least::{least, place_if};
 use std::alloc::Global;
 use std::collections::BTreeSet;
 
-// What areas do themselves that is asked about.
-fn told_of(g: &PassContext, asked: &Asked) -> Result<Facts, Memory>
+/// What areas do themselves that is asked about.
+pub(crate) fn told_of(g: &PassContext, asked: &Asked) -> Result<Facts, Memory>
     requires known { IsPassContext g.now }
     ensures { IfOk result (AreDone g.now.code.now) }
 {
@@ -67,8 +67,8 @@ fn step(
     }
 }
 
-// What it becomes along one edge after the other.
-fn walk(
+/// What it becomes along one edge after the other.
+pub(crate) fn walk(
     g: &PassContext,
     rows: &List<List<Edge>>,
     own: &BTreeSet<(u32, u32)>,

@@ -63,7 +63,8 @@ struct Search {
     groups: Groups,
 }
 
-fn no_numbers(alloc: Global, count: usize) -> Result<List<u32>, Memory> {
+/// So many places without a number.
+pub(crate) fn no_numbers(alloc: Global, count: usize) -> Result<List<u32>, Memory> {
     let numbers = have!(vec![in alloc; NONE; count]);
     Ok(List::of(numbers))
 }

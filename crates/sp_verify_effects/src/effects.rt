@@ -16,6 +16,7 @@ use crate::edges::{Edge, edges_of};
 use crate::facts::{Effect, Fact, Facts};
 use crate::have;
 use crate::pass_context::PassContext;
+use crate::side_effects::known_side_effect;
 use crate::variables::own_of;
 use sp_base::{List, Memory};
 use std::alloc::Global;
@@ -168,7 +169,8 @@ pub fn find_effects(g: &PassContext) -> Result<Effects, Memory>
 {
     let own = have!(own_of(g.code));
     let edges = have!(edges_of(g));
-    let asked = have!(asked_of(g, &edges, &own));
+    let side_effect = have!(known_side_effect(g, &edges, &own));
+    let asked = have!(asked_of(g, &edges, &own, side_effect));
     let effects = have!(effects_of(g, asked, &edges, own));
     Ok(effects)
 }

@@ -32,7 +32,7 @@
 //!   themselves, `edges.rt` and `closure.rt` how facts go from area to area until nothing is new, `effects.rt` makes a
 //!   table of them, with the variables of blocks (`variables.rt`).
 //! - `ways.rt` finds with no contract how something comes to a child that is not handed it, and `breach.rt` goes that
-//!   way again.
+//!   way again. So do `outflow.rt` and `side_effects.rt` for a block that answers and stores outside itself.
 //! - `child_effects.rt` is V6; `clash.rt` is V7, with `calls.rt` (a call) and `inside.rt` (a block that is called
 //!   inside itself); `side_effects.rt` is V8. `sets.rt` serves them.
 #![tactic(auto)]
@@ -53,6 +53,7 @@ pub mod edges;
 pub mod effects;
 pub mod facts;
 pub mod inside;
+pub mod outflow;
 pub mod own;
 pub mod pass_context;
 pub mod passed;

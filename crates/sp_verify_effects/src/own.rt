@@ -149,7 +149,13 @@ fn push_placed(
     }
 }
 
-fn variables_at(g: &PassContext, p: u32, place: Place, stack: u32) -> Result<List<u32>, Memory>
+/// The variables at a place of the instruction at p, by the number of its list of shapes.
+pub(crate) fn variables_at(
+    g: &PassContext,
+    p: u32,
+    place: Place,
+    stack: u32,
+) -> Result<List<u32>, Memory>
     requires known { IsPassContext g.now }
     requires there { IsListNumber g.now.shapes.now.stacks stack }
     requires within { p < length g.now.code.now.instrs }

@@ -1,17 +1,29 @@
-//! Rule V8: blocks with a result that store outside themselves or come to a stop.
+//! Rule V8: blocks with a result that store outside themselves or come to a stop. One such block is found before all
+//! effects are: then only the blocks that begin before it are asked about.
 
-ghost use Rattle.std.specs.Prelude.{◌≡◌, Some, slice_get};
+ghost use Rattle.std.specs.Prelude.{◌≡◌, ℕ, IfOk, Some, slice_get};
 ghost use Rattle.sp_verify_areas.specs.LeastPlaces.{IsLeast};
 ghost use Rattle.sp_verify_rules.specs.Verdict.{BreaksV8};
-ghost use Rattle.sp_verify_effects.specs.PassContexts.{IsPassContext};
+ghost use Rattle.sp_verify_effects.specs.Edges.{AreEdges};
 ghost use Rattle.sp_verify_effects.specs.Effects.{AreEffects};
-ghost use Rattle.sp_verify_effects.specs.SideEffects.{has_side_effects};
+ghost use Rattle.sp_verify_effects.specs.FactClosure.{IsDone};
+ghost use Rattle.sp_verify_effects.specs.PassContexts.{IsPassContext};
+ghost use Rattle.sp_verify_effects.specs.SideEffects.{has_side_effects, is_side_effect};
+ghost use Rattle.sp_verify_effects.specs.Variables.{AreOwn};
 
+use crate::asked_areas::area_alone;
+use crate::breach::{told_of, walk};
+use crate::edges::Edge;
 use crate::effects::{EffectRow, Effects};
+use crate::facts::{Effect, Fact};
+use crate::have;
+use crate::outflow::{Outflow, outflow_of};
 use crate::pass_context::PassContext;
-use crate::variables::goes_out;
+use crate::variables::{goes_out, owns};
+use sp_base::{List, Memory};
 use sp_code::Layout;
 use sp_verify_areas::least::{least, place_if};
+use std::collections::BTreeSet;
 
 // Whether an answering block that does this stores outside itself, or stops.
 fn row_has_side_effects(effects: &Effects, l: &Layout, row: &EffectRow) -> bool
@@ -29,6 +41,82 @@ fn has_side_effects(effects: &Effects, l: &Layout) -> bool
     }
 }
 
+// Whether a block that does this answers and has a side effect.
+fn is_side_effect(own: &BTreeSet<(u32, u32)>, l: &Layout, effect: Effect) -> bool
+    ensures { result ≡ is_side_effect own.now.keys l.now effect }
+{
+    match effect {
+        Effect::Stores(x) => l.answer && !owns(own, l.entry, x),
+        Effect::Loads(_) => false,
+        Effect::Stops => l.answer,
+    }
+}
+
+// The first instruction of the block of a layout at this place, if what is done there is a breach.
+fn side_effect_of(
+    g: &PassContext,
+    own: &BTreeSet<(u32, u32)>,
+    place: u32,
+    fact: Fact,
+) -> Option<u32>
+    requires known { IsPassContext g.now }
+    requires own { AreOwn g.now.code.now own.now.keys }
+    requires done { IsDone g.now.code.now fact }
+    ensures { (p : ℕ) → result ≡ Some p → BreaksV8 g.now.code.now p }
+{
+    let layout = match g.code.parts().layouts.get(place as usize) {
+        None => return None,
+        Some(layout) => layout,
+    };
+    if layout.entry == fact.area {
+        place_if(is_side_effect(own, layout, fact.effect), layout.entry)
+    } else {
+        None
+    }
+}
+
+// The same at the end of a way, if the area where that begins does so itself.
+fn side_effect_on(
+    g: &PassContext,
+    rows: &List<List<Edge>>,
+    own: &BTreeSet<(u32, u32)>,
+    way: &Outflow,
+) -> Result<Option<u32>, Memory>
+    requires known { IsPassContext g.now }
+    requires edges { AreEdges g.now.code.now rows.now }
+    requires own { AreOwn g.now.code.now own.now.keys }
+    ensures { IfOk result (λ o. (p : ℕ) → o ≡ Some p → BreaksV8 g.now.code.now p) }
+{
+    let instrs = &g.code.parts().instrs;
+    let asked = have!(area_alone(instrs.alloc(), instrs.len(), way.start.area));
+    let told = have!(told_of(g, &asked));
+    if !told.has(way.start) {
+        return Ok(None);
+    }
+    match walk(g, rows, own, way.start, way.edges.items()) {
+        None => Ok(None),
+        Some(fact) => Ok(side_effect_of(g, own, way.place, fact)),
+    }
+}
+
+/// An instruction at which V8 is broken, if one is found before all effects are. None says nothing.
+pub(crate) fn known_side_effect(
+    g: &PassContext,
+    rows: &List<List<Edge>>,
+    own: &BTreeSet<(u32, u32)>,
+) -> Result<Option<u32>, Memory>
+    requires known { IsPassContext g.now }
+    requires edges { AreEdges g.now.code.now rows.now }
+    requires own { AreOwn g.now.code.now own.now.keys }
+    ensures { IfOk result (λ o. (p : ℕ) → o ≡ Some p → BreaksV8 g.now.code.now p) }
+{
+    let way = have!(outflow_of(g, rows));
+    match way {
+        None => Ok(None),
+        Some(way) => side_effect_on(g, rows, own, &way),
+    }
+}
+
 /// The least instruction at which V8 is broken: the first instruction of a block with an answer that stores outside
 /// itself, or comes to a stop. None where there is none.
 pub fn first_side_effect(g: &PassContext, effects: &Effects) -> Option<u32>
@@ -40,5 +128,5 @@ pub fn first_side_effect(g: &PassContext, effects: &Effects) -> Option<u32>
     for l in g.code.parts().layouts.items() {
         first = least(first, place_if(has_side_effects(effects, l), l.entry));
     }
-    first
+    least(first, effects.asked.side_effect)
 }

@@ -10,7 +10,8 @@ returns-then-follows_edges-clause-follows c =
     (c.follows_edges.ensures c.if-follows_edges.true)
 
 pub returns-clause-asks : goal.returns-clause-asks
-returns-clause-asks c = all_tables c.args.bound c.every_area.result c.args.g.now.code.now.forks c.every_area.ensures
+returns-clause-asks c =
+    all_tables c.args.bound c.every_area.result c.args.g.now.code.now.forks c.every_area.ensures.all
 
 pub returns-clause-follows : goal.returns-clause-follows
-returns-clause-follows c = all_follow c.args.rows.now c.every_area.result c.every_area.ensures
+returns-clause-follows c = all_follow c.args.rows.now c.every_area.result c.every_area.ensures.all

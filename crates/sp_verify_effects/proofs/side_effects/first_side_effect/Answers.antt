@@ -3,6 +3,7 @@ use Rattle.std.specs.Prelude.{slice_get}
 use Rattle.std.proofs.lemmas.Option.{slice_get_read}
 use Rattle.sp_code.specs.declared.code.Layout.{Layout}
 use Rattle.sp_code.specs.declared.code.Parts.{Parts}
+use Rattle.sp_verify_rules.specs.Verdict.{BreaksV8}
 use Rattle.sp_verify_areas.specs.LeastPlaces.{IsLeast, Upto}
 use Rattle.sp_verify_areas.proofs.Leasts.{more}
 use Rattle.sp_verify_effects.specs.SideEffects.{LayoutHasSideEffects}
@@ -34,5 +35,6 @@ returns c =
     ∙ ap (λ (z : Parts). z.layouts) c.parts.ensures.same in
     let size = ap length same in
     let at : c.loop-l.l-index ≡ length code.layouts = omega (arith, size) in
-    v8_least code e c.requires.effects c.requires.known.kept c.loop-l.first
-    (subst (λ n. IsLeast (Upto (LayoutHasSideEffects e code.layouts) n) c.loop-l.first) at c.loop-l.invariant)
+    subst (IsLeast (BreaksV8 code)) (sym c.least.ensures)
+    (v8_least code e c.requires.effects c.requires.known.kept c.loop-l.first
+    (subst (λ n. IsLeast (Upto (LayoutHasSideEffects e code.layouts) n) c.loop-l.first) at c.loop-l.invariant))
