@@ -368,10 +368,10 @@ def two_cells_each(count, unfit):
     return [2] * (count - 1) + [1 if unfit else 2]
 
 
-def calls_of_lists(operands=100_000, calls=100_000, kinds=("reference 2",), unfit=False):
+def calls_of_lists(operands=100_000, calls=100_000, kinds=("reference 2",), unfit=False, writes=False):
     """Accepted: n operands are pushed once, and each of n calls puts one of its own on top. The formals are of these
     kinds in turn, and no address has more cells than its own formal asks for. Or refused by V5: the operand of the last
-    call has too few cells."""
+    call has too few cells. Writes: the block that is called writes a number."""
     kinds = [kinds[k % len(kinds)] for k in range(operands)]
     instrs = [f"addr 0 {k + 2}" if "reference" in kind else "const 1" for k, kind in enumerate(kinds)] + ["const 0"]
     after = operands + 2 + calls
@@ -379,7 +379,8 @@ def calls_of_lists(operands=100_000, calls=100_000, kinds=("reference 2",), unfi
     instrs += [f"casej {k} {after + 3 * k}" for k in range(calls)] + [f"jump {after + 3 * calls}"]
     for k in range(calls):
         instrs += [f"addr 0 {operands + 2 + k}", "call 1 0", f"jump {done}"]
-    instrs += ["nocase", f"addr 0 {operands + 2}", "call 1 0", "end", "return"]
+    body = ["const 1", "write int", "return"] if writes else ["return"]
+    instrs += ["nocase", f"addr 0 {operands + 2}", "call 1 0", "end", *body]
     count = operands + calls
     formals = range(count + 2, count + operands + 3)
     sizes = [kind.split()[1] for kind in kinds] + two_cells_each(calls, unfit)
@@ -449,6 +450,8 @@ FILES = {
     "many_texts": many_texts,
     "large_root": large_root,
     "passed_along": passed_along,
+    "calls_of_lists": calls_of_lists,
+    "calls_at_heights": calls_at_heights,
     "unfit_at_lists": lambda: calls_of_lists(unfit=True),
     "unfit_at_heights": lambda: calls_at_heights(kinds=("reference 1", "reference 2"), unfit=True),
     "unfit_values": lambda: calls_at_heights(kinds=("value 1",), unfit=True),
@@ -459,7 +462,6 @@ FILES = {
 # Files in which two sizes still multiply: they take more than 10 seconds, or more than 2 GB.
 OPEN = {
     "chain_of_passed": chain_of_passed,
-    "calls_of_lists": calls_of_lists,
-    "calls_at_heights": calls_at_heights,
+    "calls_of_writer": lambda: calls_of_lists(writes=True),
     "unfit_mixed_at_heights": lambda: calls_at_heights(200_000, 50_000, ("reference 2", "value 1"), True, 2),
 }

@@ -8,8 +8,7 @@ use Rattle.std.proofs.lemmas.Option.{slice_get_past}
 use Rattle.sp_code.specs.declared.code.Formal.{Formal}
 use Rattle.sp_verify_rules.specs.Areas.{on_option}
 use Rattle.sp_verify_rules.specs.Shapes.{Shape}
-use Rattle.sp_verify_effects.specs.declared.effects.Effects.{Effects}
-use Rattle.sp_verify_effects.specs.Calls.{actual_at, actual_of, actuals, is_outer, list_of_option, meets_outer}
+use Rattle.sp_verify_effects.specs.Calls.{actual_at, actual_of, actuals, list_of_option}
 
 -- ---- going over operands
 
@@ -68,16 +67,3 @@ any_on P xs i h f g = sym (at_drop_more (list_any P) xs i 0 h ∙ ap (λ b. b ||
 pub any_here : (P : ℕ → Bool) (xs : List ℕ) (i : ℕ) → i < length xs → P (get_or xs i 0) ≡ true
     → list_any P (drop i xs) ≡ list_any P xs → true ≡ list_any P xs
 any_here P xs i h f g = sym (at_drop_more (list_any P) xs i 0 h ∙ ap (λ b. b || list_any P (drop (i + 1) xs)) f) ∙ g
-
-pub outer_on : (e : Effects) (n : ℕ) (xs : List ℕ) (i : ℕ) → i < length xs
-    → is_outer e n (get_or xs i 0) ≡ false
-    → meets_outer e n (drop i xs) ≡ meets_outer e n xs
-    → meets_outer e n (drop (i + 1) xs) ≡ meets_outer e n xs
-outer_on e n xs i h f g = sym (at_drop_more (meets_outer e n) xs i 0 h
-    ∙ ap (λ b. b || meets_outer e n (drop (i + 1) xs)) f) ∙ g
-
-pub outer_here : (e : Effects) (n : ℕ) (xs : List ℕ) (i : ℕ) → i < length xs
-    → is_outer e n (get_or xs i 0) ≡ true
-    → meets_outer e n (drop i xs) ≡ meets_outer e n xs → true ≡ meets_outer e n xs
-outer_here e n xs i h f g = sym (at_drop_more (meets_outer e n) xs i 0 h
-    ∙ ap (λ b. b || meets_outer e n (drop (i + 1) xs)) f) ∙ g

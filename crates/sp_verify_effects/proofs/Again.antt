@@ -1,7 +1,7 @@
 -- What a call does that repeats an earlier one, and the edges that it makes, are those of the earlier one.
 use Rattle.std.proofs.Common.{◌≡◌, inl, inr, ⊎_elim, refl, ap, sym, ◌∙◌, subst, ℕ, ◌+◌, ◌<◌, List, length, Option}
 use Rattle.std.proofs.Common.{Some, None, arith}
-use Rattle.std.specs.Prelude.{false, slice_get}
+use Rattle.std.specs.Prelude.{Bool, false, slice_get}
 use Rattle.std.proofs.lemmas.Option.{slice_get_within, none-some, same_Some}
 use Rattle.sp_base.proofs.Facts.{below_or_last}
 use Rattle.sp_tree.specs.Interference.{IsMember}
@@ -17,6 +17,7 @@ use Rattle.sp_verify_rules.specs.NameRules.{BreaksV1, LiesIn}
 use Rattle.sp_verify_rules.specs.Rules.{ComesTo}
 use Rattle.sp_verify_rules.proofs.ShapePaths.{passes}
 use Rattle.sp_verify_areas.specs.declared.owners.Owner.{Owner}
+use Rattle.sp_verify_areas.specs.Alone.{flag_at}
 use Rattle.sp_verify_areas.specs.Owners.{AreOwners}
 use Rattle.sp_verify_areas.proofs.OwnerClosure.{name_of}
 use Rattle.sp_verify_shapes.specs.declared.shapes.Shapes.{Shapes}
@@ -95,8 +96,8 @@ module _ (c : Parts) (os : List Owner) (s : Shapes) (kept : (x : ℕ) → Breaks
       )
   own_again f (a, l, e, inr (k, t, st, d)) = absurd (no_child k t st.1)
 
-  edge_again : (m : ℕ) (e : Edge) → EdgeAt c p m e → EdgeAt c q m e
-  edge_again m e (inl (a, f, up, ss, l, there, call, w)) =
+  edge_again : (acts : List Bool) (m : ℕ) (e : Edge) → EdgeAt c acts p m e → EdgeAt c acts q m e
+  edge_again acts m e (inl (a, f, up, ss, l, there, call, w)) =
       let (b, (is_area, comes), same) = earlier a ss (there, call.reached) in
       let g : h.block ≡ f = same_Some h.block f (sym h.calls ∙ ap called_block call.call) in
       inl (
@@ -107,9 +108,9 @@ module _ (c : Parts) (os : List Owner) (s : Shapes) (kept : (x : ℕ) → Breaks
         l,
         is_area,
         record { reached = comes; call = before.1 ∙ ap (λ z. Some (i.Call z before.0)) g; layout = call.layout },
-        subst (λ n. IsCall l n ss m e) (sym same) w,
+        subst (λ n. IsCall (flag_at acts l.entry) l n ss m e) (sym same) w,
       )
-  edge_again m e (inr (a, k, t, there, st, w)) = absurd (no_child k t st.1)
+  edge_again acts m e (inr (a, k, t, there, st, w)) = absurd (no_child k t st.1)
 
   -- ---- so nothing is new there
 
@@ -122,12 +123,14 @@ module _ (c : Parts) (os : List Owner) (s : Shapes) (kept : (x : ℕ) → Breaks
           (λ e. let v = subst (λ n. AskedAt c k n z) e w.2 in (q, h.earlier, (own_again z v.0, v.1)))
           (below_or_last w.0 p w.1)
 
-  pub edges_again : (rows : List (List Edge)) → HasEdges c p rows → HasEdges c (p + 1) rows
-  edges_again rows r = record { size = r.size; has = has; only = r.only }
+  pub edges_again : (acts : List Bool) (rows : List (List Edge)) → HasEdges c acts p rows
+      → HasEdges c acts (p + 1) rows
+  edges_again acts rows r = record { size = r.size; has = has; only = r.only }
     where
-      has : (n m : ℕ) (e : Edge) → n < p + 1 → EdgeAt c n m e → HasEdge rows m e
+      has : (n m : ℕ) (e : Edge) → n < p + 1 → EdgeAt c acts n m e → HasEdge rows m e
       has n m e l w = ⊎_elim (λ z. r.has n m e z w)
-          (λ z. r.has q m e h.earlier (edge_again m e (subst (λ x. EdgeAt c x m e) z w))) (below_or_last n p l)
+          (λ z. r.has q m e h.earlier (edge_again acts m e (subst (λ x. EdgeAt c acts x m e) z w)))
+          (below_or_last n p l)
 
 -- a call clashes by its block and its list
 clashes_is : (c : Parts) (e : Effects) (s : Shapes) (p b n : ℕ) → called_block (instr_at c p) ≡ Some b

@@ -44,6 +44,9 @@ use Rattle.sp_verify_effects.specs.Calls.{meets_outer, variable_of}
 use Rattle.sp_verify_shapes.specs.Repeats.{called_block}
 use Rattle.sp_verify_effects.specs.Variables.{AreOwn, owns}
 use Rattle.sp_verify_effects.specs.Sets.{all_new}
+use Rattle.sp_verify_effects.specs.Walks.{NoneOfTop}
+use Rattle.sp_verify_effects.specs.Windows.{AreApart}
+use Rattle.sp_verify_effects.proofs.WalkLaws.{both_false}
 use Rattle.sp_verify_effects.proofs.Members.{new_from, new_is}
 use Rattle.sp_verify_shapes.proofs.CallRepeats.{called_is}
 use Rattle.sp_verify_effects.proofs.BlockVariables.{in_own, own_in}
@@ -130,6 +133,15 @@ module _ (l : Layout) (ss : List Shape) where
       go (inr (inl s)) on = member_back x (actuals l.formals ss n) (list_of_option (actual_at l.formals ss n))
           (is_listed (actual_at l.formals ss n) x (sym (ap (actual_at l.formals ss) s) ∙ e))
       go (inr (inr m)) on = absurd (omega (arith, h, m))
+
+  -- the operand of an actual variable is its address
+  actual_address : (i x : ℕ) → IsActualAt i x → (left : ℕ) × (slice_get ss i ≡ Some (A x left))
+  actual_address i x e =
+      let r = given_some (slice_get l.formals (length l.formals - 1 - i))
+      (λ f. on_option None (slice_get ss i) (actual_of f)) x e in
+      let s = given_some (slice_get ss i) (actual_of r.0) x r.2 in
+      let (_, left, _, operand_is) = actual_is r.0 s.0 x s.2 in
+      (left, s.1 ∙ ap Some operand_is)
 
   -- two operands with one variable
   pub record Twice (n : ℕ) : Type 0 where
@@ -228,6 +240,39 @@ module _ (l : Layout) (ss : List Shape) where
       go (inr (inl m)) a b = apart (let y = a.0 in let z = b.0 in omega (arith, m, y, z))
       go (inr (inr m)) a b = let y = a.0 in not_twice (length l.formals) (length l.formals - 1 - k)
           (length l.formals - 1 - j) x d m (omega (arith, y)) b.1 a.1
+
+-- ---- operands that were gone over
+
+any_none : (P : ℕ → Bool) (xs : List ℕ) → ((x : ℕ) → IsMember x xs → P x ≡ false) → list_any P xs ≡ false
+any_none P [] h = refl
+any_none P (x ∷ xs) h = both_false (P x) (list_any P xs) (h x (inl refl)) (any_none P xs (λ y m. h y (inr m)))
+
+-- what is found with no address is found with no actual variable
+pub none_found : (P : ℕ → ℕ → Bool) (m : ℕ) (l : Layout) (ss : List Shape) → NoneOfTop P m (length l.formals) ss
+    → list_any (P m) (actuals l.formals ss (length l.formals)) ≡ false
+none_found P m l ss h = any_none (P m) (actuals l.formals ss (length l.formals))
+    (λ x k. let (i, below, is) = member_at l ss (length l.formals) x k in
+    let (left, at) = actual_address l ss i x is in h i x left below at)
+
+apart_new : (l : Layout) (ss : List Shape) → AreApart (length l.formals) ss
+    → all_new [] (actuals l.formals ss (length l.formals)) ≡ true
+apart_new l ss h = new_from [] (actuals l.formals ss (length l.formals)) (go (twice_or l ss (length l.formals)))
+    (λ x m. refl)
+  where
+    go : Twice l ss (length l.formals) ⊎ AllDifferent (actuals l.formals ss (length l.formals))
+        → AllDifferent (actuals l.formals ss (length l.formals))
+    go (inl t) =
+        let (left, at) = actual_address l ss t.first t.variable t.has in
+        let (other, too) = actual_address l ss t.second t.variable t.too in
+        absurd (h t.first t.second t.variable left other t.apart t.within at too)
+    go (inr d) = d
+
+pub no_clash : (e : Effects) (l : Layout) (ss : List Shape) → AreApart (length l.formals) ss
+    → NoneOfTop (is_outer e) l.entry (length l.formals) ss → false ≡ call_clashes e l ss
+no_clash e l ss h none =
+    sym (both_false (not (all_new [] (actuals l.formals ss (length l.formals))))
+    (meets_outer e l.entry (actuals l.formals ss (length l.formals))) (ap not (apart_new l ss h))
+    (none_found (is_outer e) l.entry l ss none))
 
 -- ---- what a block does outside itself
 

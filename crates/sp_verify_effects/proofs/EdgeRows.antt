@@ -1,13 +1,13 @@
 -- Edges are put into their rows one after the other: at one operand, at the children of a table, at each instruction,
 -- and at all of them.
 use Rattle.std.proofs.Common.{◌≡◌, ◌≢◌, ◌⊎◌, inl, inr, ⊎_elim, refl, ap, sym, ◌∙◌, subst, ℕ, zero, suc, ◌+◌, ◌-◌, ◌<◌}
-use Rattle.std.proofs.Common.{List, [], ◌∷◌, ◌++◌, length, Option, Some, None}
+use Rattle.std.proofs.Common.{List, [], ◌∷◌, ◌++◌, length, Option, Some, None, Bool, true, false}
 use Rattle.std.proofs.Common.{arith}
 use Rattle.std.specs.Prelude.{slice_get, slice_set}
 use Rattle.std.proofs.lemmas.List.{length-set}
 use Rattle.std.proofs.lemmas.Option.{slice_get_within, none-some, same_Some}
 use Rattle.std.proofs.lemmas.Bool.{cases_eq}
-use Rattle.sp_base.proofs.Facts.{below_or_last, get_beside_set, get_where_set, less_same_or_more}
+use Rattle.sp_base.proofs.Facts.{below_or_last, get_beside_set, get_where_set, less_same_or_more, not_true_and_false}
 use Rattle.sp_code.specs.declared.code.ChildTable.{ChildTable}
 use Rattle.sp_code.specs.declared.code.ForkTable.{ForkTable}
 use Rattle.sp_code.specs.declared.code.Formal.{Formal}
@@ -21,6 +21,7 @@ use Rattle.sp_verify_rules.specs.Shapes.{Shape, O, C, L, A}
 use Rattle.sp_verify_rules.specs.Reach.{IsArea, Reaches}
 use Rattle.sp_verify_rules.specs.NameRules.{BreaksV1, NotThere, LiesIn, IsChild}
 use Rattle.sp_verify_rules.specs.Rules.{ComesTo}
+use Rattle.sp_verify_areas.specs.Alone.{flag_at}
 use Rattle.sp_verify_areas.specs.Only.{LiesOnlyIn}
 use Rattle.sp_verify_shapes.specs.declared.shapes.Shapes.{Shapes}
 use Rattle.sp_verify_shapes.specs.Shapes.{AreShapes}
@@ -224,21 +225,31 @@ module _ (l : Layout) (n : ℕ) (ss : List Shape) where
       )
 
   pub call_linked : (a b d : List (List Edge)) → Links a b (λ m e. (m ≡ l.entry) × (e ≡ edge.Called n))
-      → Links b d (IsDeeper l n ss (length l.formals)) → Links a d (IsCall l n ss)
-  call_linked a b d u v =
+      → Links b d (IsDeeper l n ss (length l.formals)) → (flag : Bool) → flag ≡ true → Links a d (IsCall flag l n ss)
+  call_linked a b d u v flag on =
       links_as a d (λ m e. ((m ≡ l.entry) × (e ≡ edge.Called n))
-      ⊎ IsDeeper l n ss (length l.formals) m e) (IsCall l n ss) to from
+      ⊎ IsDeeper l n ss (length l.formals) m e) (IsCall flag l n ss) to from
       (links_then a b d (λ m e. (m ≡ l.entry) × (e ≡ edge.Called n)) (IsDeeper l n ss (length l.formals)) u v)
     where
       to : (m : ℕ) (e : Edge) → ((m ≡ l.entry) × (e ≡ edge.Called n)) ⊎ IsDeeper l n ss (length l.formals) m e
-          → IsCall l n ss m e
+          → IsCall flag l n ss m e
       to m e (inl w) = (w.0, inl w.1)
-      to m e (inr w) = (w.0, inr (deep_passed e w.1))
+      to m e (inr w) = (w.0, inr (on, deep_passed e w.1))
 
-      from : (m : ℕ) (e : Edge) → IsCall l n ss m e → ((m ≡ l.entry) × (e ≡ edge.Called n))
+      from : (m : ℕ) (e : Edge) → IsCall flag l n ss m e → ((m ≡ l.entry) × (e ≡ edge.Called n))
           ⊎ IsDeeper l n ss (length l.formals) m e
       from m e (h, inl w) = inl (h, w)
-      from m e (h, inr w) = inr (h, passed_deep e w)
+      from m e (h, inr w) = inr (h, passed_deep e w.1)
+
+  -- a block that does nothing has none for its formals
+  pub idle_linked : (a b : List (List Edge)) → Links a b (λ m e. (m ≡ l.entry) × (e ≡ edge.Called n))
+      → (flag : Bool) → flag ≡ false → Links a b (IsCall flag l n ss)
+  idle_linked a b u flag off =
+      links_as a b (λ m e. (m ≡ l.entry) × (e ≡ edge.Called n)) (IsCall flag l n ss) (λ m e w. (w.0, inl w.1)) from u
+    where
+      from : (m : ℕ) (e : Edge) → IsCall flag l n ss m e → (m ≡ l.entry) × (e ≡ edge.Called n)
+      from m e (h, inl w) = (h, w)
+      from m e (h, inr w) = absurd (not_true_and_false flag w.0 off)
 
 -- the operands left are those further down
 pub below_more : (ss at rest : List Shape) (s : Shape) (j : ℕ) → at ≡ s ∷ rest
@@ -268,19 +279,23 @@ none_below ss at j e h d l = ap (slice_get ss) further ∙ sym (h (d - j))
 -- ---- at an instruction
 
 module _ (c : Parts) (p : ℕ) where
-  module _ (shapes : Shapes) (are : AreShapes c shapes) where
-    pub no_stack : (a : List (List Edge)) → reached_at shapes p ≡ None → Links a a (CalledAt c p)
-    no_stack a e = links_none a (CalledAt c p)
+  module _ (acts : List Bool) (shapes : Shapes) (are : AreShapes c shapes) where
+    pub no_stack : (a : List (List Edge)) → reached_at shapes p ≡ None → Links a a (CalledAt c acts p)
+    no_stack a e = links_none a (CalledAt c acts p)
         (λ m g (area, _, _, ss, _, there, call, _).
         let k = are.all area p ss (there, call.reached) in none-some k.0 (sym e
         ∙ reached_there shapes p k.0 k.1))
 
   module _ (a : Area) (n : ℕ) (only : LiesOnlyIn c p a) (at : entry c a ≡ n) where
-    pub call_at : (x y : List (List Edge)) (shapes : Shapes) (s f : ℕ) (l : Layout) → AreShapes c shapes
+    pub call_at : (acts : List Bool) (x y : List (List Edge)) (shapes : Shapes) (s f : ℕ) (l : Layout)
+        → AreShapes c shapes
         → reached_at shapes p ≡ Some s → called_block (instr_at c p) ≡ Some f → layout_of c.layouts f ≡ Some l
-        → Links x y (IsCall l n (list_of shapes.stacks s)) → Links x y (CalledAt c p)
-    call_at x y shapes s f l are e b h t = links_as x y (IsCall l n ss) (CalledAt c p) to from t
+        → Links x y (IsCall (flag_at acts l.entry) l n (list_of shapes.stacks s)) → Links x y (CalledAt c acts p)
+    call_at acts x y shapes s f l are e b h t = links_as x y (IsCall flag l n ss) (CalledAt c acts p) to from t
       where
+        flag : Bool
+        flag = flag_at acts l.entry
+
         ss : List Shape
         ss = list_of shapes.stacks s
 
@@ -294,7 +309,7 @@ module _ (c : Parts) (p : ℕ) where
         comes = let (area, come) = are.come p s here in
             subst (λ (z : Area). Reaches c z p ss) (same_area area ss come) come.1
 
-        to : (m : ℕ) (g : Edge) → IsCall l n ss m g → CalledAt c p m g
+        to : (m : ℕ) (g : Edge) → IsCall flag l n ss m g → CalledAt c acts p m g
         to m g w =
             let u = called_is (instr_at c p) f b in
             let lies = only.0 in (
@@ -306,10 +321,10 @@ module _ (c : Parts) (p : ℕ) where
               lies.0,
               record { reached = comes; call = u.1; layout = h },
               subst
-                  (λ z. IsCall l z ss m g) (sym at) w,
+                  (λ z. IsCall flag l z ss m g) (sym at) w,
             )
 
-        from : (m : ℕ) (g : Edge) → CalledAt c p m g → IsCall l n ss m g
+        from : (m : ℕ) (g : Edge) → CalledAt c acts p m g → IsCall flag l n ss m g
         from m g (d, k, up, ts, o, there, call, w) =
             let q : d ≡ a = same_area d ts (there, call.reached) in
             let r = are.all d p ts (there, call.reached) in
@@ -317,9 +332,9 @@ module _ (c : Parts) (p : ℕ) where
             let es : ts ≡ ss = sym r.2 ∙ ap (list_of shapes.stacks) (sym i) in
             let ek : f ≡ k = same_Some f k (sym b ∙ ap called_block call.call) in
             let eo : o ≡ l = same_Some o l (sym call.layout ∙ ap (layout_of c.layouts) (sym ek) ∙ h) in
-            subst (λ (z : Layout). IsCall z n ss m g) eo
-            (subst (λ (z : List Shape). IsCall o n z m g) es (subst (λ z. IsCall o z ts m g) (ap (entry c) q
-            ∙ at) w))
+            subst (λ (z : Layout). IsCall (flag_at acts z.entry) z n ss m g) eo
+            (subst (λ (z : List Shape). IsCall (flag_at acts o.entry) o n z m g) es
+            (subst (λ z. IsCall (flag_at acts o.entry) o z ts m g) (ap (entry c) q ∙ at) w))
 
     pub starts_at : (x y : List (List Edge)) (tb : ForkTable) (ts : List ChildTable)
         → table_at c.forks (table_named (instr_at c p)) ≡ Some tb → ts ≡ tb.children
@@ -350,10 +365,11 @@ module _ (c : Parts) (p : ℕ) where
             let h = sym (child_is k) ∙ st.1 in
             (k, ch, slice_get_within ts k ch h, h, subst (λ j. IsStart ch j m g) (ap (entry c) q ∙ at) w)
 
-  pub nothing_at : (a : List (List Edge)) → ((d : Area) → LiesIn c p d → ⊥) → Links a a (EdgeAt c p)
-  nothing_at a never =
-      links_none a (EdgeAt c p) (λ m g w. ⊎_elim
-      (λ (z : CalledAt c p m g). let (d, _, _, ss, _, there, call, _) = z in
+  pub nothing_at : (acts : List Bool) (a : List (List Edge)) → ((d : Area) → LiesIn c p d → ⊥)
+      → Links a a (EdgeAt c acts p)
+  nothing_at acts a never =
+      links_none a (EdgeAt c acts p) (λ m g w. ⊎_elim
+      (λ (z : CalledAt c acts p m g). let (d, _, _, ss, _, there, call, _) = z in
       never d (there, passes c d p ss call.reached))
       (λ (z : StartedAt c p m g). let (d, _, _, there, started, _) = z in never d (there, started.0)) w)
 
@@ -389,9 +405,9 @@ module _ (c : Parts) (kept : (p : ℕ) → BreaksV1 c p → ⊥) where
 
 -- ---- at all of them
 
-module _ (c : Parts) where
+module _ (c : Parts) (acts : List Bool) where
   pub no_edges : (rows : List (List Edge)) → length rows ≡ length c.instrs → ((m : ℕ) (e : Edge) → HasEdge rows m e → ⊥)
-      → HasEdges c 0 rows
+      → HasEdges c acts 0 rows
   no_edges rows s none = record {
     size = s;
     has = λ p m e l w. absurd (omega (arith, l));
@@ -399,14 +415,15 @@ module _ (c : Parts) where
         (none m e w);
   }
 
-  pub more_edges : (a b : List (List Edge)) (n : ℕ) → HasEdges c n a → Links a b (EdgeAt c n) → HasEdges c (n + 1) b
+  pub more_edges : (a b : List (List Edge)) (n : ℕ) → HasEdges c acts n a → Links a b (EdgeAt c acts n)
+      → HasEdges c acts (n + 1) b
   more_edges a b n h t = record { size = t.size ∙ h.size; has = has; only = only }
     where
-      has : (p m : ℕ) (e : Edge) → p < n + 1 → EdgeAt c p m e → HasEdge b m e
-      has p m e l w = ⊎_elim (λ z. t.kept m e (h.has p m e z w)) (λ s. t.has m e (subst (λ q. EdgeAt c q m e) s w))
+      has : (p m : ℕ) (e : Edge) → p < n + 1 → EdgeAt c acts p m e → HasEdge b m e
+      has p m e l w = ⊎_elim (λ z. t.kept m e (h.has p m e z w)) (λ s. t.has m e (subst (λ q. EdgeAt c acts q m e) s w))
           (below_or_last p n l)
 
-      only : (m : ℕ) (e : Edge) → HasEdge b m e → (p : ℕ) × EdgeAt c p m e
+      only : (m : ℕ) (e : Edge) → HasEdge b m e → (p : ℕ) × EdgeAt c acts p m e
       only m e w = ⊎_elim (λ z. h.only m e z) (λ z. (n, z)) (t.only m e w)
 
 -- rows with no edges

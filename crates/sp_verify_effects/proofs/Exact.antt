@@ -21,6 +21,7 @@ use Rattle.sp_verify_rules.specs.Effects.{IsStarted, IsCalled}
 use Rattle.sp_verify_rules.specs.Effects.{Does, IsEffect}
 use Rattle.sp_verify_rules.specs.Verdict.{HasStop, is_stop}
 use Rattle.sp_verify_rules.specs.NameRules.{BreaksV1, InTwo, LiesIn}
+use Rattle.sp_verify_areas.specs.Alone.{flag_at}
 use Rattle.sp_verify_areas.specs.declared.owners.Owner.{Owner}
 use Rattle.sp_verify_areas.specs.declared.owners.Owner.TheVariants as owner
 use Rattle.sp_verify_areas.specs.Owners.{AreOwners, Owns}
@@ -35,7 +36,7 @@ use Rattle.sp_verify_effects.specs.declared.facts.Effect.{Effect}
 use Rattle.sp_verify_effects.specs.declared.facts.Effect.TheVariants as effect
 use Rattle.sp_verify_effects.specs.Facts.{has_fact, fact, Tells}
 use Rattle.sp_verify_effects.specs.Own.{DoesAt, OwnBefore}
-use Rattle.sp_verify_effects.specs.Edges.{AreEdges, EdgeAt, HasEdge}
+use Rattle.sp_verify_effects.specs.Edges.{AreEdges, EdgeAt, HasEdge, HasEdges}
 use Rattle.sp_verify_effects.specs.Effects.{ComesToStop}
 use Rattle.sp_verify_effects.specs.AskedAreas.{is_asked}
 use Rattle.sp_verify_effects.specs.FactClosure.{is_own, is_index, fact_along, FollowsBy, FollowsEdges}
@@ -162,9 +163,15 @@ module _ (c : Parts) (kept : (p : ℕ) → BreaksV1 c p → ⊥) (os : List Owne
         by_pass k y x own effect.Stops num act h e = absurd (none-some g e)
 
     module _ (rows : List (List Edge)) (edges : AreEdges c rows) where
+      abbrev acts : List Bool
+      acts = edges.0
+
+      there : HasEdges c acts (length c.instrs) rows
+      there = edges.2
+
       pub led_along : (f g : Fact) (e : Edge) → HasEdge rows f.area e
           → fact_along e (is_own ks f.area f.effect) f.effect ≡ Some g → IsDone c f → IsDone c g
-      led_along f g e has w (b, ib, at, h) = go (edges.only f.area e has)
+      led_along f g e has w (b, ib, at, h) = go (there.only f.area e has)
         where
           own : Bool
           own = is_own ks f.area f.effect
@@ -172,7 +179,7 @@ module _ (c : Parts) (kept : (p : ℕ) → BreaksV1 c p → ⊥) (os : List Owne
           as_edge : (x : Edge) → e ≡ x → fact_along x own f.effect ≡ Some g
           as_edge x s = ap (λ z. fact_along z own f.effect) (sym s) ∙ w
 
-          go : (p : ℕ) × EdgeAt c p f.area e → IsDone c g
+          go : (p : ℕ) × EdgeAt c acts p f.area e → IsDone c g
           go (p, inr (a, j, t, ia, st, (m, s))) =
               let child : IsArea c (Child a p j) = (ia, st.0, (t, st.1)) in
               let same : b ≡ Child a p j = one_area b (Child a p j) ib child (sym at ∙ m
@@ -184,7 +191,7 @@ module _ (c : Parts) (kept : (p : ℕ) → BreaksV1 c p → ⊥) (os : List Owne
               ∙ sym (ap entry_of_layout call.layout)) in
               by_call a ia p g d up ss l call own f.effect (ap (λ n. is_own ks n f.effect) m)
               (subst (λ (z : Area). IsEffectOf c z f.effect) same h) (as_edge (edge.Called (entry c a)) s)
-          go (p, inl (a, d, up, ss, l, ia, call, (m, inr (j, y, x, num, act, s)))) =
+          go (p, inl (a, d, up, ss, l, ia, call, (m, inr (_, (j, y, x, num, act, s))))) =
               let same : b ≡ Body d = one_area b (Body d) ib (l, call.layout) (sym at ∙ m
               ∙ sym (ap entry_of_layout call.layout)) in
               by_pass a ia p g d up ss l call j y x own f.effect num act
@@ -253,6 +260,25 @@ module _ (c : Parts) (kept : (p : ℕ) → BreaksV1 c p → ⊥) (os : List Owne
         call_within : (p f up : ℕ) → instr_at c p ≡ Some (i.Call f up) → p < length c.instrs
         call_within p f up e = slice_get_within c.instrs p (i.Call f up) e
 
+        -- the flag of the area is set
+        abbrev IsFlagged : Area → Type 0
+        IsFlagged a = IsArea c a → flag_at acts (entry c a) ≡ true
+
+        does_flagged : (u : EffectKind) (a : Area) (x : ℕ) → Does c u a x → IsFlagged a
+        does_flagged Stored a x (inl (p, ss, r, h)) ia = edges.1 a p (stored_within a p x ss h) (ia, passes c a p ss r)
+            (inl (Stored, ss, x, h))
+        does_flagged Loaded a x (inl (p, ss, r, h)) ia = edges.1 a p (loaded_within a p x ss h) (ia, passes c a p ss r)
+            (inl (Loaded, ss, x, h))
+        does_flagged u a x (inr (p, j, t, s, h)) ia = edges.1 a p (table_within p j t s.1) (ia, s.0)
+            (inr (inl (j, t, s.1)))
+
+        starts_flagged : (a : Area) (p j : ℕ) (t : ChildTable) → IsStarted c a p j t → IsFlagged a
+        starts_flagged a p j t s ia = edges.1 a p (table_within p j t s.1) (ia, s.0) (inr (inl (j, t, s.1)))
+
+        calls_flagged : (a : Area) (p f up : ℕ) (ss : List Shape) (l : Layout) → IsCalled c a p f up ss l → IsFlagged a
+        calls_flagged a p f up ss l call ia = edges.1 a p (call_within p f up call.call)
+            (ia, passes c a p ss call.reached) (inr (inr (f, up, call.call)))
+
         does_has : (u : EffectKind) (a : Area) (x : ℕ) → Does c u a x → HasFactOf a (effect_by u x)
         does_has Stored a x (inl (p, ss, r, h)) ia q = own_there a p (effect.Stores x) ia q (passes c a p ss r)
             (stored_within a p x ss h) (inl (ss, r, h))
@@ -268,15 +294,15 @@ module _ (c : Parts) (kept : (p : ℕ) → BreaksV1 c p → ⊥) (os : List Owne
             (inl (ss, r, h))
 
         -- along an edge
-        goes : (p m n : ℕ) (e : Edge) (d x : Effect) → p < length c.instrs → EdgeAt c p m e → is_asked k n x ≡ true
+        goes : (p m n : ℕ) (e : Edge) (d x : Effect) → p < length c.instrs → EdgeAt c acts p m e → is_asked k n x ≡ true
             → has_fact new (fact m d) ≡ true
             → fact_along e (is_own ks m d) d ≡ Some (fact n x) → has_fact new (fact n x) ≡ true
-        goes p m n e d x l w q h s = closes.closed (fact m d) (fact n x) h (e, edges.has p m e l w, (s, q))
+        goes p m n e d x l w q h s = closes.closed (fact m d) (fact n x) h (e, there.has p m e l w, (s, q))
 
         -- what leads to what is asked about is asked about
-        followed : (p m n : ℕ) (e : Edge) (own : Bool) (d x : Effect) → p < length c.instrs → EdgeAt c p m e
+        followed : (p m n : ℕ) (e : Edge) (own : Bool) (d x : Effect) → p < length c.instrs → EdgeAt c acts p m e
             → fact_along e own d ≡ Some (fact n x) → is_asked k n x ≡ true → is_asked k m d ≡ true
-        followed p m n e own d x l w s q = follows m e (edges.has p m e l w) own d (fact n x) s q
+        followed p m n e own d x l w s q = follows m e (there.has p m e l w) own d (fact n x) s q
 
         from_child : (a : Area) (p j : ℕ) (t : ChildTable) (d : Effect) → IsStarted c a p j t
             → ((own : Bool) → fact_along (edge.Started (entry c a) t.index) own d ≡ Some (fact (entry c a) d))
@@ -284,7 +310,7 @@ module _ (c : Parts) (kept : (p : ℕ) → BreaksV1 c p → ⊥) (os : List Owne
         from_child a p j t d s z h ia q =
             let e : Edge = edge.Started (entry c a) t.index in
             let l = table_within p j t s.1 in
-            let w : EdgeAt c p t.entry e = inr (a, j, t, ia, s, (refl, refl)) in
+            let w : EdgeAt c acts p t.entry e = inr (a, j, t, ia, s, (refl, refl)) in
             let asks = subst (λ n. is_asked k n d ≡ true) (sym (ap entry_of_child s.1))
             (followed p t.entry (entry c a) e true d d l w (z true) q) in
             goes p t.entry (entry c a) e d d l w q
@@ -327,42 +353,47 @@ module _ (c : Parts) (kept : (p : ℕ) → BreaksV1 c p → ⊥) (os : List Owne
           from_called d z h ia q =
               let e : Edge = edge.Called (entry c a) in
               let b = call_within p f up call.call in
-              let w : EdgeAt c p l.entry e = inl (a, f, up, ss, l, ia, call, (refl, inl refl)) in
+              let w : EdgeAt c acts p l.entry e = inl (a, f, up, ss, l, ia, call, (refl, inl refl)) in
               let asks = followed p l.entry (entry c a) e (is_own ks l.entry d) d d b w z q in
               goes p l.entry (entry c a) e d d b w q (at_entry d h asks) z
 
           from_passed : (j y x : ℕ) (d o : Effect) → IsNumber l j y → IsActual l ss j x
               → ((own : Bool) → fact_along (edge.Passed (entry c a) y x) own d ≡ Some (fact (entry c a) o))
-              → HasFactOf (Body f) d → HasFactOf a o
-          from_passed j y x d o num act z h ia q =
+              → IsFlagged (Body f) → HasFactOf (Body f) d → HasFactOf a o
+          from_passed j y x d o num act z flagged h ia q =
               let e : Edge = edge.Passed (entry c a) y x in
               let b = call_within p f up call.call in
-              let w : EdgeAt c p l.entry e = inl (a, f, up, ss, l, ia, call, (refl, inr (j, y, x, num, act, refl))) in
+              let on = subst (λ n. flag_at acts n ≡ true) (ap entry_of_layout call.layout) (flagged (l, call.layout)) in
+              let w : EdgeAt c acts p l.entry e = inl
+              (a, f, up, ss, l, ia, call, (refl, inr (on, (j, y, x, num, act, refl)))) in
               let asks = followed p l.entry (entry c a) e true d o b w (z true) q in
               goes p l.entry (entry c a) e d o b w q (at_entry d h asks) (z (is_own ks l.entry d))
 
           if_same : (y : ℕ) (g : Fact) → ◌≡◌ {A = Option Fact} (if y == y then Some g else None) (Some g)
           if_same y g = ap (λ (b : Bool). if b then Some g else None) (eq-eqb y y refl)
 
-          called_has : (u : EffectKind) (x y : ℕ) → Becomes l ss y x → HasFactOf (Body f) (effect_by u y)
-              → HasFactOf a (effect_by u x)
-          called_has Stored x y (inl (s, never)) h =
+          called_has : (u : EffectKind) (x y : ℕ) → Becomes l ss y x → IsFlagged (Body f)
+              → HasFactOf (Body f) (effect_by u y) → HasFactOf a (effect_by u x)
+          called_has Stored x y (inl (s, never)) on h =
               subst (λ z. HasFactOf a (effect.Stores z)) (sym s)
               (from_called (effect.Stores y) (ap
               (λ (b : Bool). if b then None else Some (fact (entry c a) (effect.Stores y))) (outer y never)) h)
-          called_has Stored x y (inr (j, num, act)) h = from_passed j y x (effect.Stores y) (effect.Stores x) num act
-              (λ own. if_same y (fact (entry c a) (effect.Stores x))) h
-          called_has Loaded x y (inl (s, never)) h =
+          called_has Stored x y (inr (j, num, act)) on h = from_passed j y x (effect.Stores y) (effect.Stores x) num act
+              (λ own. if_same y (fact (entry c a) (effect.Stores x))) on h
+          called_has Loaded x y (inl (s, never)) on h =
               subst (λ z. HasFactOf a (effect.Loads z)) (sym s)
               (from_called (effect.Loads y) (ap
               (λ (b : Bool). if b then None else Some (fact (entry c a) (effect.Loads y))) (outer y never)) h)
-          called_has Loaded x y (inr (j, num, act)) h = from_passed j y x (effect.Loads y) (effect.Loads x) num act
-              (λ own. if_same y (fact (entry c a) (effect.Loads x))) h
+          called_has Loaded x y (inr (j, num, act)) on h = from_passed j y x (effect.Loads y) (effect.Loads x) num act
+              (λ own. if_same y (fact (entry c a) (effect.Loads x))) on h
 
         effect_has : (u : EffectKind) (a : Area) (x : ℕ) → IsEffect c (Does c) u a x → HasFactOf a (effect_by u x)
         effect_has u a x e =
-            effects_within c (Does c) (λ v b y. HasFactOf b (effect_by v y)) does_has child_has
-            (λ v b p f up z y ss l call m h. called_has b p f up ss l call v z y m h) u a x e
+            (effects_within c (Does c) (λ v b y. IsFlagged b × HasFactOf b (effect_by v y))
+            (λ v b y w. (does_flagged v b y w, does_has v b y w))
+            (λ v b p j y t s z h. (starts_flagged b p j t s, child_has v b p j y t s z h.1))
+            (λ v b p f up z y ss l call m h.
+            (calls_flagged b p f up ss l call, called_has b p f up ss l call v z y m h.0 h.1)) u a x e).1
 
         comes_has : (a : Area) → ComesToStop c a → HasFactOf a effect.Stops
         comes_has a (bs, h) =

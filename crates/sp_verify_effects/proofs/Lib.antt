@@ -4,6 +4,7 @@ mod Owns
 mod OneArea
 mod Again
 mod EdgeRows
+mod ActLaws
 mod FactEdges
 mod Allowing
 mod AreaQueries
@@ -17,6 +18,8 @@ mod BreachLaws
 mod Beyond
 mod BlockVariables
 mod SideEffectLaws
+mod WalkLaws
+mod WindowLaws
 mod Actuals
 mod CallTests
 mod Inward

@@ -3,6 +3,7 @@
 -- other and against what the called block does outside itself.
 use Rattle.std.specs.Prelude.{◌≡◌, ℕ, zero, suc, ◌-◌, List, [], ◌∷◌, ◌++◌, Option, Some, None, Bool, true, false, ◌&&◌}
 use Rattle.std.specs.Prelude.{◌||◌, not, slice_get, length}
+use Rattle.std.specs.List.{list_any}
 use Rattle.sp_code.specs.declared.instr.Instr.{Instr}
 use Rattle.sp_code.specs.declared.code.Formal.{Formal}
 use Rattle.sp_code.specs.declared.code.Formal.TheVariants as formal
@@ -51,8 +52,7 @@ is_outer e entry x = touches e entry x && not (owns e.own.keys entry x)
 
 -- the block does so with one of these variables
 abbrev pub meets_outer : Effects → ℕ → List ℕ → Bool
-meets_outer e entry [] = false
-meets_outer e entry (x ∷ xs) = is_outer e entry x || meets_outer e entry xs
+meets_outer e entry xs = list_any (is_outer e entry) xs
 
 -- two operands of a call have one variable, or one is what the block does outside itself
 abbrev pub call_clashes : Effects → Layout → List Shape → Bool

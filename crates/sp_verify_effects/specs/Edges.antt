@@ -1,7 +1,7 @@
 -- None of this belongs to what the program promises: it is for contracts between crates.
 -- The ways on which effects go from area to area: from a child to the area that starts it, and from a block to one that
 -- calls it.
-use Rattle.std.specs.Prelude.{◌≡◌, ◌⊎◌, ℕ, ◌-◌, ◌<◌, List, Option, Some, None, length, slice_get}
+use Rattle.std.specs.Prelude.{◌≡◌, ◌⊎◌, ℕ, ◌-◌, ◌<◌, List, Bool, Option, Some, None, true, length, slice_get}
 use Rattle.sp_code.specs.declared.code.ChildTable.{ChildTable}
 use Rattle.sp_code.specs.declared.code.Formal.{Formal}
 use Rattle.sp_code.specs.declared.code.Formal.TheVariants as formal
@@ -11,8 +11,10 @@ use Rattle.sp_verify_rules.specs.Areas.{Area, child_at, entry}
 use Rattle.sp_verify_rules.specs.Shapes.{Shape, A}
 use Rattle.sp_verify_rules.specs.Reach.{IsArea}
 use Rattle.sp_verify_rules.specs.Effects.{IsNumber, IsActual, IsStarted, IsCalled}
+use Rattle.sp_verify_areas.specs.Alone.{flag_at}
 use Rattle.sp_verify_effects.specs.declared.edges.Edge.{Edge}
 use Rattle.sp_verify_effects.specs.declared.edges.Edge.TheVariants as edge
+use Rattle.sp_verify_effects.specs.Acts.{AreActs}
 
 -- among the edges of an area
 abbrev pub InRow : List Edge → Edge → Type 0
@@ -59,9 +61,9 @@ IsDeeper l n ss j m e = (m ≡ l.entry) × ((d : ℕ) × (d < j) × IsDeep l n s
 abbrev pub IsPassed : Layout → ℕ → List Shape → Edge → Type 0
 IsPassed l n ss e = (k y x : ℕ) × IsNumber l k y × IsActual l ss k x × (e ≡ edge.Passed n y x)
 
--- those of a call
-abbrev pub IsCall : Layout → ℕ → List Shape → ℕ → Edge → Type 0
-IsCall l n ss m e = (m ≡ l.entry) × ((e ≡ edge.Called n) ⊎ IsPassed l n ss e)
+-- those of a call; those of formals only where the flag is set, which says that the block does something
+abbrev pub IsCall : Bool → Layout → ℕ → List Shape → ℕ → Edge → Type 0
+IsCall flag l n ss m e = (m ≡ l.entry) × ((e ≡ edge.Called n) ⊎ ((flag ≡ true) × IsPassed l n ss e))
 
 -- that of a child
 abbrev pub IsStart : ChildTable → ℕ → ℕ → Edge → Type 0
@@ -71,28 +73,31 @@ abbrev pub OneStarts : List ChildTable → ℕ → ℕ → ℕ → Edge → Type
 OneStarts ts n j m e = (k : ℕ) × (t : ChildTable) × (k < j) × (slice_get ts k ≡ Some t) × IsStart t n m e
 
 module _ (c : Parts) where
-  -- those of a call at p, and of a fork or forall there
-  abbrev pub CalledAt : ℕ → ℕ → Edge → Type 0
-  CalledAt p m e = (a : Area) × (f up : ℕ) × (ss : List Shape) × (l : Layout) × IsArea c a × IsCalled c a p f up ss l
-      × IsCall l (entry c a) ss m e
-
+  -- that of a child that starts at p
   abbrev pub StartedAt : ℕ → ℕ → Edge → Type 0
   StartedAt p m e = (a : Area) × (k : ℕ) × (t : ChildTable) × IsArea c a × IsStarted c a p k t
       × IsStart t (entry c a) m e
-
-  abbrev pub EdgeAt : ℕ → ℕ → Edge → Type 0
-  EdgeAt p m e = CalledAt p m e ⊎ StartedAt p m e
 
   -- the children that start at p begin within so many instructions
   abbrev pub StartWithin : ℕ → ℕ → Type 0
   StartWithin p n = (k : ℕ) (t : ChildTable) → child_at c p k ≡ Some t → t.entry < n
 
-  -- those of the first so many instructions, and no others
-  pub record HasEdges (n : ℕ) (rows : List (List Edge)) : Type 0 where
-    pub size : length rows ≡ length c.instrs
-    pub has : (p m : ℕ) (e : Edge) → p < n → EdgeAt p m e → HasEdge rows m e
-    pub only : (m : ℕ) (e : Edge) → HasEdge rows m e → (p : ℕ) × EdgeAt p m e
+  module _ (acts : List Bool) where
+    -- those of a call at p, and of a fork or forall there
+    abbrev pub CalledAt : ℕ → ℕ → Edge → Type 0
+    CalledAt p m e = (a : Area) × (f up : ℕ) × (ss : List Shape) × (l : Layout) × IsArea c a × IsCalled c a p f up ss l
+        × IsCall (flag_at acts l.entry) l (entry c a) ss m e
 
-  -- all of them, by the first instructions of the areas from which they lead
+    abbrev pub EdgeAt : ℕ → ℕ → Edge → Type 0
+    EdgeAt p m e = CalledAt p m e ⊎ StartedAt p m e
+
+    -- those of the first so many instructions, and no others
+    pub record HasEdges (n : ℕ) (rows : List (List Edge)) : Type 0 where
+      pub size : length rows ≡ length c.instrs
+      pub has : (p m : ℕ) (e : Edge) → p < n → EdgeAt p m e → HasEdge rows m e
+      pub only : (m : ℕ) (e : Edge) → HasEdge rows m e → (p : ℕ) × EdgeAt p m e
+
+  -- all of them, by the first instructions of the areas from which they lead; those of formals only from blocks that do
+  -- something, by their flags
   abbrev pub AreEdges : List (List Edge) → Type 0
-  AreEdges rows = HasEdges (length c.instrs) rows
+  AreEdges rows = (acts : List Bool) × AreActs c acts × HasEdges acts (length c.instrs) rows

@@ -1,6 +1,7 @@
 pub mod Facts
 pub mod Effects
 pub mod Own
+pub mod Acts
 pub mod Edges
 pub mod FactClosure
 pub mod Sets
@@ -8,6 +9,8 @@ pub mod ChildEffects
 pub mod Befores
 pub mod Variables
 pub mod SideEffects
+pub mod Walks
+pub mod Windows
 pub mod Calls
 pub mod Turns
 pub mod PassContexts

@@ -1,27 +1,26 @@
 //! Whether all is asked about that rule V7 needs at calls: what the called block does to the variables that the call
 //! passes by reference, unless they are its own.
 
-ghost use Rattle.std.specs.Prelude.{◌≡◌, ◌&&◌, IfOk, not, true};
+ghost use Rattle.std.specs.Prelude.{◌≡◌, ◌&&◌, IfOk, false, not, true};
 ghost use Rattle.sp_verify_areas.specs.Alone.{flag_at};
-ghost use Rattle.sp_verify_shapes.specs.Stacks.{IsListNumber, IsStacks, list_of};
+ghost use Rattle.sp_verify_shapes.specs.Stacks.{IsListNumber, list_of};
 ghost use Rattle.sp_verify_effects.specs.AskedAreas.{AsksCalls};
 ghost use Rattle.sp_verify_effects.specs.AskedCalls.{lacks_actual, lacks_actuals, lacks_at, lacks_operands};
 ghost use Rattle.sp_verify_effects.specs.PassContexts.{IsPassContext};
 ghost use Rattle.sp_verify_effects.specs.Variables.{AreOwn};
+ghost use Rattle.sp_verify_effects.specs.Walks.{AreWalks};
 
 use crate::asked_areas::Asked;
-use crate::calls::actuals;
 use crate::facts::Effect;
 use crate::have;
 use crate::pass_context::PassContext;
 use crate::variables::owns;
+use crate::walks::{Walks, addresses_left, no_walks, put_walk};
 use sp_base::Memory;
 use sp_code::Layout;
 use sp_verify_areas::flags::flag_at;
 use sp_verify_shapes::reach::reached;
 use sp_verify_shapes::repeats::called_block;
-use sp_verify_shapes::stacks::Stacks;
-use std::alloc::Global;
 use std::collections::BTreeSet;
 
 // Whether a variable is not the block's own, and it is not asked about whether the block stores it, or loads it.
@@ -44,21 +43,31 @@ fn lacks_actuals(asked: &Asked, own: &BTreeSet<(u32, u32)>, entry: u32, xs: &[u3
     false
 }
 
-// For one of those of the operands of a call.
+// For one of those of the operands of a call. If there is none, they are gone over.
 fn lacks_operands(
-    alloc: Global,
+    g: &PassContext,
     asked: &Asked,
     own: &BTreeSet<(u32, u32)>,
+    walks: &mut Walks,
     l: &Layout,
-    stacks: &Stacks,
     stack: u32,
 ) -> Result<bool, Memory>
-    requires stacks { IsStacks stacks.now }
-    requires there { IsListNumber stacks.now stack }
-    ensures { IfOk result (λ b. b ≡ lacks_operands asked.now own.now.keys l.now (list_of stacks.now stack)) }
+    requires known { IsPassContext g.now }
+    requires there { IsListNumber g.now.shapes.now.stacks stack }
+    requires walks { AreWalks g.now.shapes.now.stacks walks.old (lacks_actual asked.now own.now.keys) }
+    ensures { IfOk result (λ b. b ≡ false
+        → AreWalks g.now.shapes.now.stacks walks.new (lacks_actual asked.now own.now.keys)
+        × (lacks_operands asked.now own.now.keys l.now (list_of g.now.shapes.now.stacks stack) ≡ false)) }
 {
-    let xs = have!(actuals(alloc, stacks, stack, l.formals.items()));
-    Ok(lacks_actuals(asked, own, l.entry, xs.items()))
+    let alloc = g.code.parts().instrs.alloc();
+    let stacks = &g.shapes.stacks;
+    let count = l.formals.len();
+    let xs = have!(addresses_left(alloc, walks, stacks, l.entry, stack, count));
+    if lacks_actuals(asked, own, l.entry, xs.items()) {
+        return Ok(true);
+    }
+    have!(put_walk(walks, stacks, l.entry, stack, count));
+    Ok(false)
 }
 
 // Those of the instruction at p, if it is a call that is reached.
@@ -66,10 +75,14 @@ fn lacks_at(
     g: &PassContext,
     asked: &Asked,
     own: &BTreeSet<(u32, u32)>,
+    walks: &mut Walks,
     p: u32,
 ) -> Result<bool, Memory>
     requires known { IsPassContext g.now }
-    ensures { IfOk result (λ b. b ≡ lacks_at g.now.code.now asked.now own.now.keys g.now.shapes.now p) }
+    requires walks { AreWalks g.now.shapes.now.stacks walks.old (lacks_actual asked.now own.now.keys) }
+    ensures { IfOk result (λ b. b ≡ false
+        → AreWalks g.now.shapes.now.stacks walks.new (lacks_actual asked.now own.now.keys)
+        × (lacks_at g.now.code.now asked.now own.now.keys g.now.shapes.now p ≡ false)) }
 {
     let stack = match reached(g.shapes, p) {
         None => return Ok(false),
@@ -79,10 +92,9 @@ fn lacks_at(
         None => return Ok(false),
         Some(block) => block,
     };
-    let parts = g.code.parts();
-    match g.blocks.find(&parts.layouts, block) {
+    match g.blocks.find(&g.code.parts().layouts, block) {
         None => Ok(false),
-        Some(l) => lacks_operands(parts.instrs.alloc(), asked, own, l, &g.shapes.stacks, stack),
+        Some(l) => lacks_operands(g, asked, own, walks, l, stack),
     }
 }
 
@@ -91,16 +103,20 @@ fn lacks_first(
     g: &PassContext,
     asked: &Asked,
     own: &BTreeSet<(u32, u32)>,
+    walks: &mut Walks,
     p: u32,
 ) -> Result<bool, Memory>
     requires known { IsPassContext g.now }
-    ensures { IfOk result (λ b. b ≡ not (flag_at g.now.repeats.now p)
-        && lacks_at g.now.code.now asked.now own.now.keys g.now.shapes.now p) }
+    requires walks { AreWalks g.now.shapes.now.stacks walks.old (lacks_actual asked.now own.now.keys) }
+    ensures { IfOk result (λ b. b ≡ false
+        → AreWalks g.now.shapes.now.stacks walks.new (lacks_actual asked.now own.now.keys)
+        × ((not (flag_at g.now.repeats.now p)
+        && lacks_at g.now.code.now asked.now own.now.keys g.now.shapes.now p) ≡ false)) }
 {
     if flag_at(g.repeats, p as usize) {
         Ok(false)
     } else {
-        lacks_at(g, asked, own, p)
+        lacks_at(g, asked, own, walks, p)
     }
 }
 
@@ -114,9 +130,11 @@ pub(crate) fn asks_calls(
     requires own { AreOwn g.now.code.now own.now.keys }
     ensures { IfOk result (λ b. b ≡ true → AsksCalls g.now.code.now asked.now) }
 {
-    let count = g.code.parts().instrs.len();
+    let instrs = &g.code.parts().instrs;
+    let mut walks = no_walks(instrs.alloc());
+    let count = instrs.len();
     for p in 0..count {
-        let lacks = have!(lacks_first(g, asked, own, p as u32));
+        let lacks = have!(lacks_first(g, asked, own, &mut walks, p as u32));
         if lacks {
             return Ok(false);
         }

@@ -12,6 +12,7 @@ ghost use Rattle.sp_verify_effects.specs.Edges.{OneStarts, PutsEdge, StartWithin
 ghost use Rattle.sp_verify_rules.specs.Areas.{Area, entry};
 ghost use Rattle.sp_verify_shapes.specs.Stacks.{IsListNumber, IsStacks, list_of, shape_of};
 
+use crate::acts::acts_of;
 use crate::areas::{area_at, table_of};
 use crate::have;
 use crate::pass_context::PassContext;
@@ -161,9 +162,10 @@ fn link_operands(
     Ok(())
 }
 
-// Puts those of a call.
+// Puts those of a call: those of its operands if the block does something.
 fn link_call(
     rows: &mut List<List<Edge>>,
+    acts: bool,
     layout: &Layout,
     to: u32,
     stacks: &Stacks,
@@ -172,18 +174,28 @@ fn link_call(
     requires there { layout.now.entry < length rows.old }
     requires stacks { IsStacks stacks.now }
     requires held { IsListNumber stacks.now stack }
-    ensures { OnOk result (Links rows.old rows.new (IsCall layout.now to (list_of stacks.now stack))) }
+    ensures { OnOk result (Links rows.old rows.new (IsCall acts layout.now to (list_of stacks.now stack))) }
 {
     have!(link(rows, layout.entry, Edge::Called { to }));
-    link_operands(rows, layout, to, stacks, stack)
+    if acts {
+        link_operands(rows, layout, to, stacks, stack)
+    } else {
+        Ok(())
+    }
 }
 
 // Puts those of the call at p, if there is one that is reached.
-fn link_called(g: &PassContext, rows: &mut List<List<Edge>>, to: u32, p: u32) -> Result<(), Memory>
+fn link_called(
+    g: &PassContext,
+    acts: &List<bool>,
+    rows: &mut List<List<Edge>>,
+    to: u32,
+    p: u32,
+) -> Result<(), Memory>
     requires known { IsPassContext g.now }
     requires lies { (a : Area) × LiesOnlyIn g.now.code.now p a × (entry g.now.code.now a ≡ to) }
     requires there { (b : ℕ) (l : Layout) → layout_of g.now.code.now.layouts b ≡ Some l → l.entry < length rows.old }
-    ensures { OnOk result (Links rows.old rows.new (CalledAt g.now.code.now p)) }
+    ensures { OnOk result (Links rows.old rows.new (CalledAt g.now.code.now acts.now p)) }
 {
     let stack = match reached(g.shapes, p) {
         None => return Ok(()),
@@ -195,7 +207,10 @@ fn link_called(g: &PassContext, rows: &mut List<List<Edge>>, to: u32, p: u32) ->
     };
     match g.blocks.find(&g.code.parts().layouts, block) {
         None => Ok(()),
-        Some(layout) => link_call(rows, layout, to, &g.shapes.stacks, stack),
+        Some(layout) => {
+            let acts = flag_at(acts, layout.entry as usize);
+            link_call(rows, acts, layout, to, &g.shapes.stacks, stack)
+        }
     }
 }
 
@@ -229,17 +244,22 @@ fn link_started(code: &Code, rows: &mut List<List<Edge>>, to: u32, p: u32) -> Re
 }
 
 // Puts those at p.
-fn link_at(g: &PassContext, rows: &mut List<List<Edge>>, p: u32) -> Result<(), Memory>
+fn link_at(
+    g: &PassContext,
+    acts: &List<bool>,
+    rows: &mut List<List<Edge>>,
+    p: u32,
+) -> Result<(), Memory>
     requires known { IsPassContext g.now }
     requires there { p < length g.now.code.now.instrs }
     requires size { length rows.old ≡ length g.now.code.now.instrs }
-    ensures { OnOk result (Links rows.old rows.new (EdgeAt g.now.code.now p)) }
+    ensures { OnOk result (Links rows.old rows.new (EdgeAt g.now.code.now acts.now p)) }
 {
     let to = match area_at(g, p) {
         None => return Ok(()),
         Some(to) => to,
     };
-    have!(link_called(g, rows, to, p));
+    have!(link_called(g, acts, rows, to, p));
     link_started(g.code, rows, to, p)
 }
 
@@ -255,17 +275,36 @@ fn empty_rows(alloc: Global, count: usize) -> Result<List<List<Edge>>, Memory>
 }
 
 // Puts those at p too, unless that is a call that repeats an earlier one: its edges are there.
-fn link_next(g: &PassContext, rows: &mut List<List<Edge>>, p: u32) -> Result<(), Memory>
+fn link_next(
+    g: &PassContext,
+    acts: &List<bool>,
+    rows: &mut List<List<Edge>>,
+    p: u32,
+) -> Result<(), Memory>
     requires known { IsPassContext g.now }
     requires there { p < length g.now.code.now.instrs }
-    requires before { HasEdges g.now.code.now p rows.old }
-    ensures { OnOk result (HasEdges g.now.code.now (p + 1) rows.new) }
+    requires before { HasEdges g.now.code.now acts.now p rows.old }
+    ensures { OnOk result (HasEdges g.now.code.now acts.now (p + 1) rows.new) }
 {
     if flag_at(g.repeats, p as usize) {
         Ok(())
     } else {
-        link_at(g, rows, p)
+        link_at(g, acts, rows, p)
     }
+}
+
+// Puts those of all instructions.
+fn link_all(g: &PassContext, acts: &List<bool>) -> Result<List<List<Edge>>, Memory>
+    requires known { IsPassContext g.now }
+    ensures { IfOk result (HasEdges g.now.code.now acts.now (length g.now.code.now.instrs)) }
+{
+    let instrs = &g.code.parts().instrs;
+    let count = instrs.len();
+    let mut rows = have!(empty_rows(instrs.alloc(), count));
+    for p in 0..count {
+        have!(link_next(g, acts, &mut rows, p as u32));
+    }
+    Ok(rows)
 }
 
 /// All edges, by the first instructions of the areas from which they lead.
@@ -273,11 +312,7 @@ pub fn edges_of(g: &PassContext) -> Result<List<List<Edge>>, Memory>
     requires known { IsPassContext g.now }
     ensures { IfOk result (AreEdges g.now.code.now) }
 {
-    let instrs = &g.code.parts().instrs;
-    let count = instrs.len();
-    let mut rows = have!(empty_rows(instrs.alloc(), count));
-    for p in 0..count {
-        have!(link_next(g, &mut rows, p as u32));
-    }
+    let acts = have!(acts_of(g));
+    let rows = have!(link_all(g, &acts));
     Ok(rows)
 }

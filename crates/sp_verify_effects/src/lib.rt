@@ -28,6 +28,9 @@
 //!   the rule lets them do it. So too what is done to the own variables of a block that comes to it. If that takes
 //!   variables by reference, and the rules ask no more of it, only what is done to the variables which calls pass to it
 //!   is asked about. `common.rt` finds that with no contract, and `asked_areas.rt` looks whether it is right.
+//! - Many calls may have many operands: nothing may take time for each pair of them. `acts.rt` finds blocks that do
+//!   nothing at all: no effect goes on from there, so edges of formals are not needed. `walks.rt` keeps which operands
+//!   of lists were gone over for which blocks, and `windows.rt` of which lists the topmost variables differ.
 //! - `facts.rt` is a set of facts about areas (`specs/Facts.antt`), `places.rt` and `own.rt` are what instructions do
 //!   themselves, `edges.rt` and `closure.rt` how facts go from area to area until nothing is new, `effects.rt` makes a
 //!   table of them, with the variables of blocks (`variables.rt`).
@@ -37,6 +40,7 @@
 //!   inside itself); `side_effects.rt` is V8. `sets.rt` serves them.
 #![tactic(auto)]
 
+pub mod acts;
 pub mod allowance;
 pub mod areas;
 pub mod asked_areas;
@@ -61,4 +65,6 @@ pub mod places;
 pub mod sets;
 pub mod side_effects;
 pub mod variables;
+pub mod walks;
 pub mod ways;
+pub mod windows;

@@ -37,8 +37,8 @@ fn push(list: &mut List<u32>, x: u32) -> Result<(), Memory>
     Ok(())
 }
 
-// Puts the variable of an operand last, if it is an address.
-fn push_shape(list: &mut List<u32>, shape: Shape) -> Result<(), Memory>
+/// Puts the variable of an operand last, if it is an address.
+pub(crate) fn push_shape(list: &mut List<u32>, shape: Shape) -> Result<(), Memory>
     ensures { OnOk result (list.new ≡ list.old ++ topmost_variable (shape_of shape ∷ [])) }
 {
     match shape {
@@ -81,8 +81,8 @@ fn push_found(list: &mut List<u32>, found: Option<Found>) -> Result<(), Memory>
     }
 }
 
-// Those of the topmost operands, so many.
-fn push_addresses(
+/// Those of the topmost operands, so many.
+pub(crate) fn push_addresses(
     list: &mut List<u32>,
     stacks: &Stacks,
     stack: u32,

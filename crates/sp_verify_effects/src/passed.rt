@@ -4,10 +4,10 @@
 ghost use Rattle.sp_verify_effects.specs.PassContexts.{IsPassContext};
 ghost use Rattle.sp_verify_shapes.specs.Stacks.{IsListNumber};
 
-use crate::calls::actuals;
 use crate::have;
 use crate::pass_context::PassContext;
 use crate::variables::owns;
+use crate::walks::{Walks, addresses_left, no_walks, put_walk};
 use sp_base::{List, Memory};
 use sp_code::Layout;
 use sp_verify_areas::flags::flag_at;
@@ -58,6 +58,7 @@ fn put_call(
     g: &PassContext,
     own: &BTreeSet<(u32, u32)>,
     passed: &mut Passed,
+    walks: &mut Walks,
     p: u32,
 ) -> Result<(), Memory>
     requires known { IsPassContext g.now }
@@ -75,7 +76,7 @@ fn put_call(
         None => Ok(()),
         Some(l) => {
             if passed.contains_key(&l.entry) {
-                put_actuals(g, own, passed, l, stack)
+                put_operands(g, own, passed, walks, l, stack)
             } else {
                 Ok(())
             }
@@ -84,10 +85,11 @@ fn put_call(
 }
 
 // Those among the operands of a call.
-fn put_actuals(
+fn put_operands(
     g: &PassContext,
     own: &BTreeSet<(u32, u32)>,
     passed: &mut Passed,
+    walks: &mut Walks,
     l: &Layout,
     stack: u32,
 ) -> Result<(), Memory>
@@ -95,7 +97,10 @@ fn put_actuals(
     requires there { IsListNumber g.now.shapes.now.stacks stack }
 {
     let alloc = g.code.parts().instrs.alloc();
-    let xs = have!(actuals(alloc, &g.shapes.stacks, stack, l.formals.items()));
+    let stacks = &g.shapes.stacks;
+    let count = l.formals.len();
+    let xs = have!(addresses_left(alloc, walks, stacks, l.entry, stack, count));
+    have!(put_walk(walks, stacks, l.entry, stack, count));
     put(own, passed, l.entry, xs.items())
 }
 
@@ -113,9 +118,10 @@ pub(crate) fn passed_of(
     if passed.is_empty() {
         return Ok(passed);
     }
+    let mut walks = no_walks(parts.instrs.alloc());
     for p in 0..parts.instrs.len() {
         if !flag_at(g.repeats, p) {
-            have!(put_call(g, own, &mut passed, p as u32));
+            have!(put_call(g, own, &mut passed, &mut walks, p as u32));
         }
     }
     Ok(passed)

@@ -5,7 +5,7 @@ use Rattle.sp_verify_effects.proofs.EdgeRows.{nothing_at, layout_within, child_w
 use Rattle.sp_verify_effects.proofs.edges.link_at.Goals as goal
 
 pub returns-in-None : goal.returns-in-None
-returns-in-None c = nothing_at c.args.g.now.code.now c.args.p c.args.rows.now c.in-None.ensures
+returns-in-None c = nothing_at c.args.g.now.code.now c.args.p c.args.acts.now c.args.rows.now c.in-None.ensures
 
 pub link_called-requires-clause-there : goal.link_called-requires-clause-there
 link_called-requires-clause-there c = λ b l e. subst (λ n. l.entry < n) (sym c.requires.size)
@@ -19,10 +19,11 @@ link_started-requires-clause-within c = λ k t e.
 pub returns : goal.returns
 returns c =
     let code = c.args.g.now.code.now in
+    let acts = c.args.acts.now in
     let p = c.args.p in
     let a = c.args.rows.now in
     let b = c.link_called.new.rows in
     let d = c.link_started.new.rows in
-    ok_on c.link_started.result (Links b d (StartedAt code p)) (Links a d (EdgeAt code p))
-    (λ v. links_then a b d (CalledAt code p) (StartedAt code p) c.in-Ok.ensures v)
+    ok_on c.link_started.result (Links b d (StartedAt code p)) (Links a d (EdgeAt code acts p))
+    (λ v. links_then a b d (CalledAt code acts p) (StartedAt code p) c.in-Ok.ensures v)
     c.link_started.ensures

@@ -9,8 +9,8 @@ use Rattle.sp_verify_effects.proofs.EdgeRows.{no_stack, call_at}
 use Rattle.sp_verify_effects.proofs.edges.link_called.Goals as goal
 
 pub returns-in-None : goal.returns-in-None
-returns-in-None c = no_stack c.args.g.now.code.now c.args.p c.args.g.now.shapes.now c.requires.known.shapes
-    c.args.rows.now
+returns-in-None c = no_stack c.args.g.now.code.now c.args.p c.args.acts.now c.args.g.now.shapes.now
+    c.requires.known.shapes c.args.rows.now
     (sym c.reached.ensures ∙ c.in-None.is)
 
 pub returns-in-Some-find : goal.returns-in-Some-find
@@ -27,7 +27,10 @@ returns-in-Some-find c =
     let e : layout_of code.layouts f ≡ Some l = subst
     (λ (z : Parts). layout_of z.layouts f ≡ Some l) c.parts.ensures.same (sym c.in-Some-find.ensures) in
     let shapes = c.args.g.now.shapes.now in
-    ok_on c.link_call.result (Links x y (IsCall l n (list_of shapes.stacks s))) (Links x y (CalledAt code p))
-    (λ v. call_at code p lies.0 n lies.1 lies.2 x y shapes s f l c.requires.known.shapes (sym c.reached.ensures
-    ∙ c.in-Some.is) (sym c.called_block.ensures ∙ c.in-Some-called_block.is) e v)
+    let acts = c.args.acts.now in
+    ok_on c.link_call.result (Links x y (IsCall c.flag_at-acts.result l n (list_of shapes.stacks s)))
+    (Links x y (CalledAt code acts p))
+    (λ v. call_at code p lies.0 n lies.1 lies.2 acts x y shapes s f l c.requires.known.shapes (sym c.reached.ensures
+    ∙ c.in-Some.is) (sym c.called_block.ensures ∙ c.in-Some-called_block.is) e
+    (subst (λ b. Links x y (IsCall b l n (list_of shapes.stacks s))) c.flag_at-acts.ensures v))
     c.link_call.ensures

@@ -11,7 +11,7 @@ returns-then-flag_at c =
     let known = c.requires.known in
     let r = known.repeats c.args.p (sym c.flag_at.ensures ∙ c.if-flag_at.true) in
     edges_again g.code.now g.owners.now g.shapes.now known.kept known.owners known.shapes c.args.p r.0 r.1
-    c.args.rows.now c.requires.before
+    c.args.acts.now c.args.rows.now c.requires.before
 
 pub link_at-requires-clause-size : goal.link_at-requires-clause-size
 link_at-requires-clause-size c = c.requires.before.size
@@ -19,8 +19,9 @@ link_at-requires-clause-size c = c.requires.before.size
 pub returns-else-flag_at : goal.returns-else-flag_at
 returns-else-flag_at c =
     let code = c.args.g.now.code.now in
+    let acts = c.args.acts.now in
     let p = c.args.p in
     let a = c.args.rows.now in
     let b = c.link_at.new.rows in
-    ok_on c.link_at.result (Links a b (EdgeAt code p)) (HasEdges code (p + 1) b)
-    (λ v. more_edges code a b p c.requires.before v) c.link_at.ensures
+    ok_on c.link_at.result (Links a b (EdgeAt code acts p)) (HasEdges code acts (p + 1) b)
+    (λ v. more_edges code acts a b p c.requires.before v) c.link_at.ensures
