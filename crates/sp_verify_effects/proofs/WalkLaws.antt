@@ -1,5 +1,5 @@
 -- Operands that were gone over: nothing is found among them again.
-use Rattle.std.proofs.Common.{◌≡◌, refl, sym, ap, subst, ◌∙◌, ℕ, zero, suc, ◌+◌, ◌-◌, ◌*◌, ◌<◌, ◌≤◌, List, [], ◌∷◌}
+use Rattle.std.proofs.Common.{◌≡◌, refl, sym, ap, subst, ◌∙◌, ℕ, zero, suc, ◌+◌, ◌-◌, ◌*◌, ◌<◌, List, [], ◌∷◌}
 use Rattle.std.proofs.Common.{◌++◌, Some, Bool, true, false, ◌||◌, arith}
 use Rattle.std.specs.Prelude.{slice_get, cond}
 use Rattle.std.specs.List.{list_any}
@@ -67,9 +67,6 @@ module _ (P : ℕ → ℕ → Bool) (m : ℕ) where
       → NoneOfTop P m (k - 1) rest
   none_of_rest k ss rest s same h i x left l g = h (suc i) x left (omega (arith, l))
       (ap (λ (z : List Shape). slice_get z (suc i)) same ∙ g)
-
-  pub none_of_fewer : (j k : ℕ) (ss : List Shape) → j ≤ k → NoneOfTop P m k ss → NoneOfTop P m j ss
-  none_of_fewer j k ss le h i x left l g = h i x left (omega (arith, l, le)) g
 
 -- ---- what was gone over
 
