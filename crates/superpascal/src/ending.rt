@@ -3,22 +3,26 @@
 ghost use Rattle.std.specs.Prelude.{◌≡◌};
 ghost use Rattle.superpascal.specs.AnswerParts.{ending_of_error, ending_of_halt};
 ghost use Rattle.superpascal.specs.Answers.{has_output, notes_by, output_of, status_of};
-ghost use Rattle.superpascal.specs.declared.ending.Ending.TheVariants as variants;
 
-use sp_base::{Halt, Memory, Refusal, Text};
+use sp_base::{Halt, Refusal, Text};
 use sp_codefile::VRule;
 use sp_execute::{Ran, ReplayError};
 use sp_kernel::Closed;
-use std::alloc::{AllocError, AllocFailed};
 
-/// What a call gives; where memory is refused to it, the function around ends so. One match, where `?` is two generic
-/// calls, which cost the proof more.
+/// What a call gives; where memory is refused to it, the function around ends so, with `failure` where its error is of
+/// another type. One match, where `?` is two generic calls, which cost the proof more.
 #[macro_export]
 macro_rules! have {
     ($call:expr) => {
         match $call {
             Ok(value) => value,
             Err(_) => return Err(Memory),
+        }
+    };
+    ($call:expr, $failure:expr) => {
+        match $call {
+            Ok(value) => value,
+            Err(_) => return Err($failure),
         }
     };
 }
@@ -124,30 +128,6 @@ impl From<ReplayError> for Ending {
             ReplayError::Unfit(entry) => Ending::Unfit(entry),
             ReplayError::Memory => Ending::OutOfMemory,
         }
-    }
-}
-
-impl From<Memory> for Ending {
-    ghost from_gives = { λ _ e. e ≡ variants.OutOfMemory };
-
-    fn from(_error: Memory) -> Ending {
-        Ending::OutOfMemory
-    }
-}
-
-impl From<AllocError> for Ending {
-    ghost from_gives = { λ _ e. e ≡ variants.OutOfMemory };
-
-    fn from(_error: AllocError) -> Ending {
-        Ending::OutOfMemory
-    }
-}
-
-impl<T: Drop> From<AllocFailed<T>> for Ending {
-    ghost from_gives = { λ _ e. e ≡ variants.OutOfMemory };
-
-    fn from(_error: AllocFailed<T>) -> Ending {
-        Ending::OutOfMemory
     }
 }
 

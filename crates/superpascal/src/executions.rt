@@ -11,6 +11,7 @@ ghost use Rattle.superpascal.specs.Steps.{AnswersCommand, TellsExecution};
 ghost use Rattle.superpascal.specs.Texts.{IsFileOf};
 
 use crate::ending::{Answer, Ending};
+use crate::have;
 use crate::host::Host;
 use crate::notes::ending_of;
 use crate::prepare::{prepare_file, read_input};
@@ -43,8 +44,8 @@ fn run_file<R: Threads + Wait + Sync, G: Gate>(
     verified_code_is_sound();
     accepted_programs_are_ready();
     a_text_is_of_one_code();
-    let code = Arc::new(host.alloc, code)?;
-    let input = Arc::new(host.alloc, input)?;
+    let code = have!(Arc::new(host.alloc, code));
+    let input = have!(Arc::new(host.alloc, input));
     run_code_file(host.rt, host.alloc, code, input, workers, limits, host.gate)
 }
 
@@ -53,7 +54,7 @@ fn tell_execution(alloc: Global, closed: Closed) -> Result<Answer, Ending>
     requires { HasLines closed.end }
     ensures { TellsExecution closed result }
 {
-    let notes = end_lines(alloc, closed.end())?;
+    let notes = have!(end_lines(alloc, closed.end()), Ending::OutOfMemory);
     Ok(Answer {
         ending: ending_of(closed.end()),
         ran: None,
@@ -78,6 +79,9 @@ pub(crate) fn exec_file<R: Threads + Wait + Sync, L: Library, I: Source, G: Gate
 {
     let code = prepare_file(host.alloc, library, &asked.file)?;
     let input = read_input(host.alloc, input)?;
-    let closed = run_file(host, code, input, asked.workers, &asked.limits)?;
+    let closed = have!(
+        run_file(host, code, input, asked.workers, &asked.limits),
+        Ending::OutOfMemory
+    );
     tell_execution(host.alloc, closed)
 }

@@ -19,9 +19,9 @@
 //! To know:
 //! - `src/top.rt` is the call: the words, the command that they ask for (`Command` of `sp_words`), its answer, and the
 //!   writing.
-//! - A command is a row of steps, each on a line of its own with `?`, as `run` there: load and compilation (`prepare`),
-//!   input, run with verdict, texts. A step gives what the next needs, or the `Ending` of the call. The steps that
-//!   commands share are `src/prepare.rt`.
+//! - A command is a row of steps, each with `?`, as `run` there: load and compilation (`prepare`), input, run with
+//!   verdict, texts. A step gives what the next needs, or the `Ending` of the call; one that can only be refused memory
+//!   stands in `have!` (`src/ending.rt`). The steps that commands share are `src/prepare.rt`.
 //! - `src/texts.rt` has the commands that answer from the text alone, `src/runs.rt` the run of a program, told as
 //!   `Telling` of `sp_words` says, and `gen`, `src/replays.rt` the commands that follow a journal, with what they tell
 //!   it by (`src/teller.rt`), `src/executions.rt` the one that runs a code file. `src/notes.rt` is what is told of a

@@ -14,6 +14,7 @@ ghost use Rattle.superpascal.specs.Steps.{AccountsFor, AnswersCommand, GivesRead
 ghost use Rattle.superpascal.specs.Steps.{TellsReplay, TracesTo};
 
 use crate::ending::{Answer, Ending};
+use crate::have;
 use crate::notes::{ending_of_replay, replay_notes};
 use crate::prepare::{prepare, prepare_journal, prepare_marked, read_input};
 use crate::teller::{Account, Ready, Teller};
@@ -33,20 +34,18 @@ use std::thread::Threads;
 // Follows a journal with the code of a text that breaks no rule, and writes what the program writes along it.
 fn output(
     alloc: Global,
-    code: Code,
-    input: Text,
+    code: Arc<Code>,
+    input: Arc<Text>,
     limits: &Limits,
     journal: &Journal,
 ) -> Result<Account, Ending>
     requires range { IsInRange 1 limits.now }
-    requires code { (program : List ℕ) × (tree : Checked) × HasCode program tree code }
+    requires code { (program : List ℕ) × (tree : Checked) × HasCode program tree code.value }
     requires nameable { IsNameable journal.now }
-    ensures { (program : List ℕ) (tree : Checked) → HasCode program tree code
-        → AccountsFor view.Output program input limits.now journal.now result }
+    ensures { (program : List ℕ) (tree : Checked) → HasCode program tree code.value
+        → AccountsFor view.Output program input.value limits.now journal.now result }
 {
     accepted_programs_are_ready();
-    let code = Arc::new(alloc, code)?;
-    let input = Arc::new(alloc, input)?;
     let replayed = follow(alloc, code, input, limits, journal)?;
     Ok(Account {
         end: replayed.end,
@@ -58,7 +57,7 @@ fn output(
 fn trace_code(
     alloc: Global,
     code: Arc<Code>,
-    input: Text,
+    input: Arc<Text>,
     limits: &Limits,
     journal: &Journal,
 ) -> Result<Traced, Ending>
@@ -66,11 +65,10 @@ fn trace_code(
     requires code { (program : List ℕ) × (tree : Checked) × HasCode program tree code.value }
     requires nameable { IsNameable journal.now }
     ensures { (program : List ℕ) (tree : Checked) → HasCode program tree code.value
-        → TracesTo program tree code.value input limits.now journal.now result }
+        → TracesTo program tree code.value input.value limits.now journal.now result }
 {
     accepted_programs_are_ready();
     journals_are_told_in_the_text();
-    let input = Arc::new(alloc, input)?;
     let traced = follow_told(alloc, code, input, limits, journal)?;
     Ok(traced)
 }
@@ -79,19 +77,19 @@ fn trace_code(
 // given back before it is made.
 fn entries(
     alloc: Global,
-    code: Code,
+    code: Arc<Code>,
     symbols: &Symbols,
-    input: Text,
+    input: Arc<Text>,
     limits: &Limits,
     journal: &Journal,
 ) -> Result<Account, Ending>
     requires range { IsInRange 1 limits.now }
-    requires code { (program : List ℕ) × (tree : Checked) × HasCode program tree code }
+    requires code { (program : List ℕ) × (tree : Checked) × HasCode program tree code.value }
     requires nameable { IsNameable journal.now }
-    ensures { (program : List ℕ) (tree : Checked) → HasCode program tree code → HasSymbols program tree symbols.now
-        → AccountsFor view.Entries program input limits.now journal.now result }
+    ensures { (program : List ℕ) (tree : Checked) → HasCode program tree code.value
+        → HasSymbols program tree symbols.now
+        → AccountsFor view.Entries program input.value limits.now journal.now result }
 {
-    let code = Arc::new(alloc, code)?;
     let traced = trace_code(alloc, code, input, limits, journal)?;
     let Traced {
         replayed,
@@ -99,7 +97,10 @@ fn entries(
         state,
     } = traced;
     drop(state);
-    let text = trace_text(alloc, symbols, journal, told.items())?;
+    let text = have!(
+        trace_text(alloc, symbols, journal, told.items()),
+        Ending::OutOfMemory
+    );
     Ok(Account {
         end: replayed.end,
         text: Text::of(text),
@@ -109,21 +110,25 @@ fn entries(
 // The same with the state behind its last entry.
 fn state(
     alloc: Global,
-    code: Code,
+    code: Arc<Code>,
     symbols: &Symbols,
-    input: Text,
+    input: Arc<Text>,
     limits: &Limits,
     journal: &Journal,
 ) -> Result<Account, Ending>
     requires range { IsInRange 1 limits.now }
-    requires code { (program : List ℕ) × (tree : Checked) × HasCode program tree code }
+    requires code { (program : List ℕ) × (tree : Checked) × HasCode program tree code.value }
     requires nameable { IsNameable journal.now }
-    ensures { (program : List ℕ) (tree : Checked) → HasCode program tree code → HasSymbols program tree symbols.now
-        → AccountsFor view.State program input limits.now journal.now result }
+    ensures { (program : List ℕ) (tree : Checked) → HasCode program tree code.value
+        → HasSymbols program tree symbols.now
+        → AccountsFor view.State program input.value limits.now journal.now result }
 {
-    let code = Arc::new(alloc, code)?;
-    let traced = trace_code(alloc, Arc::try_clone(&code)?, input, limits, journal)?;
-    let text = where_text(alloc, symbols, &code, journal, &traced)?;
+    let lent = have!(Arc::try_clone(&code), Ending::OutOfMemory);
+    let traced = trace_code(alloc, lent, input, limits, journal)?;
+    let text = have!(
+        where_text(alloc, symbols, &code, journal, &traced),
+        Ending::OutOfMemory
+    );
     Ok(Account {
         end: traced.replayed.end,
         text: Text::of(text),
@@ -144,7 +149,8 @@ fn account(
     ensures { (program : List ℕ) (tree : Checked) (view : AView) → HasCode program tree ready.code
         → HasTeller program tree view ready.teller → AccountsFor view program input limits.now journal.now result }
 {
-    let code = ready.code;
+    let code = have!(Arc::new(alloc, ready.code), Ending::OutOfMemory);
+    let input = have!(Arc::new(alloc, input), Ending::OutOfMemory);
     match &ready.teller {
         Teller::Output => output(alloc, code, input, limits, journal),
         Teller::Entries(symbols) => entries(alloc, code, symbols, input, limits, journal),
@@ -157,7 +163,7 @@ fn tell_replay(alloc: Global, account: Account) -> Result<Answer, Ending>
     requires lines { HasEndLines account.end }
     ensures { TellsReplay account result }
 {
-    let notes = replay_notes(alloc, &account.end)?;
+    let notes = have!(replay_notes(alloc, &account.end), Ending::OutOfMemory);
     Ok(Answer {
         ending: ending_of_replay(&account.end),
         ran: None,

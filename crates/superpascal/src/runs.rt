@@ -13,6 +13,7 @@ ghost use Rattle.superpascal.specs.Runs.{IsRunOf, Reports as AReports};
 ghost use Rattle.superpascal.specs.Steps.{AnswersCommand, ReportsGenerated, ReportsRun};
 
 use crate::ending::{Answer, Ending};
+use crate::have;
 use crate::host::Host;
 use crate::notes::{end_lines, ending_of, generated_output, run_notes, witness_text};
 use crate::prepare::compile;
@@ -43,8 +44,8 @@ pub(crate) fn run_prepared<R: Threads + Wait + Sync, G: Gate>(
 {
     accepted_programs_are_ready();
     races_are_shown();
-    let code = Arc::new(host.alloc, code)?;
-    let input = Arc::new(host.alloc, input)?;
+    let code = have!(Arc::new(host.alloc, code));
+    let input = have!(Arc::new(host.alloc, input));
     run_program(host.rt, host.alloc, code, input, workers, limits, host.gate)
 }
 
@@ -59,7 +60,7 @@ fn reported(
     requires run { IsReadyRun ran }
     ensures { ReportsRun (reports text title watchers.items) (Reports show) ran result }
 {
-    let notes = run_notes(alloc, watchers, show, &ran)?;
+    let notes = have!(run_notes(alloc, watchers, show, &ran), Ending::OutOfMemory);
     Ok(Answer {
         ending: ending_of(ran.closed.end()),
         ran: Some(ran),
@@ -74,8 +75,8 @@ fn witnessed(alloc: Global, ran: Ran) -> Result<Answer, Ending>
     requires run { IsReadyRun ran }
     ensures { (made : AReports) → ReportsRun made Witness ran result }
 {
-    let output = witness_text(alloc, &ran)?;
-    let notes = end_lines(alloc, &ran)?;
+    let output = have!(witness_text(alloc, &ran), Ending::OutOfMemory);
+    let notes = have!(end_lines(alloc, &ran), Ending::OutOfMemory);
     Ok(Answer {
         ending: ending_of(ran.closed.end()),
         ran: Some(ran),
@@ -107,7 +108,7 @@ fn tell_generated(alloc: Global, size: u32, ran: Ran) -> Result<Answer, Ending>
     requires run { IsReadyRun ran }
     ensures { ReportsGenerated size ran result }
 {
-    let output = generated_output(alloc, size, &ran)?;
+    let output = have!(generated_output(alloc, size, &ran), Ending::OutOfMemory);
     Ok(Answer {
         ending: ending_of(ran.closed.end()),
         ran: Some(ran),
@@ -129,9 +130,12 @@ pub(crate) fn run_generated<R: Threads + Wait + Sync, G: Gate>(
         → AnswersCommand f s made (Gen size workers) result }
 {
     accepted_options_are_in_range();
-    let text = generated(host.alloc, size)?;
+    let text = have!(generated(host.alloc, size), Ending::OutOfMemory);
     let code = compile(host.rt, host.alloc, text.as_slice())?;
     let input = Text::of(Vec::new(host.alloc));
-    let ran = run_prepared(host, code, input, workers, &default_limits())?;
+    let ran = have!(
+        run_prepared(host, code, input, workers, &default_limits()),
+        Ending::OutOfMemory
+    );
     tell_generated(host.alloc, size, ran)
 }

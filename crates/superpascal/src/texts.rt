@@ -8,6 +8,7 @@ ghost use Rattle.superpascal.specs.Texts.{HasCodeText};
 
 use crate::answers::accepted;
 use crate::ending::{Answer, Ending};
+use crate::have;
 use crate::prepare::{load_text, prepare};
 use sp_base::{Halt, Word};
 use sp_code::listing;
@@ -35,7 +36,7 @@ pub(crate) fn check<L: Library>(
 {
     let text = load_text(alloc, library, file)?;
     accepts_apart(rt, alloc, text.as_slice())?;
-    let line = Vec::from_slice(alloc, b"accepted\n")?;
+    let line = have!(Vec::from_slice(alloc, b"accepted\n"), Ending::OutOfMemory);
     Ok(accepted(Vec::new(alloc), line))
 }
 
@@ -52,7 +53,7 @@ pub(crate) fn list<L: Library>(
     let code = prepare(rt, alloc, library, file)?;
     let lines = listing(alloc, &code);
     drop(code);
-    let lines = lines?;
+    let lines = have!(lines, Ending::OutOfMemory);
     Ok(accepted(lines, Vec::new(alloc)))
 }
 
@@ -69,7 +70,7 @@ pub(crate) fn build<L: Library>(
     let code = prepare(rt, alloc, library, file)?;
     let bytes = encode(alloc, &code);
     drop(code);
-    let bytes = bytes?;
+    let bytes = have!(bytes, Ending::OutOfMemory);
     if bytes.len() > LONGEST_CODE {
         return Err(Ending::LongCode);
     }
@@ -85,7 +86,10 @@ fn sets_text(rt: &impl Threads, alloc: Global, text: &[u8]) -> Result<Vec<u8>, H
     let lines = print_sets(alloc, &checked, &sets);
     drop(checked);
     drop(sets);
-    Ok(lines?)
+    match lines {
+        Ok(lines) => Ok(lines),
+        Err(_) => Err(Halt::Memory),
+    }
 }
 
 /// Tells the sets of the text in this file.

@@ -14,6 +14,7 @@ ghost use Rattle.superpascal.specs.Steps.{AnswersCommand, AnswersWords, ReadsCom
 use crate::answers::ended;
 use crate::ending::{Answer, Ending};
 use crate::executions::exec_file;
+use crate::have;
 use crate::host::Host;
 use crate::outcome::Outcome;
 use crate::prepare::{prepare, read_input};
@@ -61,7 +62,10 @@ fn run<R: Threads + Wait + Sync, L: Library, I: Source, G: Gate>(
 {
     let code = prepare(host.rt, host.alloc, library, &asked.file)?;
     let input = read_input(host.alloc, input)?;
-    let ran = run_prepared(host, code, input, asked.workers, &asked.limits)?;
+    let ran = have!(
+        run_prepared(host, code, input, asked.workers, &asked.limits),
+        Ending::OutOfMemory
+    );
     tell_run(host.alloc, watchers, asked.telling, ran)
 }
 

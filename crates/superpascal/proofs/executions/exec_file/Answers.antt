@@ -2,6 +2,7 @@ use Rattle.std.proofs.Common.{refl}
 use Rattle.std.proofs.lemmas.Result.{err_from_is_err_and}
 use Rattle.sp_words.specs.declared.command.Command.TheVariants as command
 use Rattle.superpascal.specs.Steps.{AnswersCommand}
+use Rattle.superpascal.specs.declared.ending.Ending.TheVariants.{OutOfMemory}
 use Rattle.superpascal.proofs.ExecCauses.{execution_told, execution_unread, execution_unready, execution_wanting}
 use Rattle.superpascal.proofs.Parts.{at_exit}
 use Rattle.superpascal.proofs.Tellable.{execution_ends}
@@ -12,7 +13,7 @@ run_file-requires-clause-file g c κs within = (c.in_ok-code.ensures.0, c.in_ok-
 
 pub tell_execution-requires : goal.tell_execution-requires
 tell_execution-requires g c =
-    let h = c.in_ok-code.ensures in execution_ends _ _ _ c.in_ok-closed.closed (c.in_ok-closed.ensures h.0 h.2)
+    let h = c.in_ok-code.ensures in execution_ends _ _ _ c.in-Ok.value (c.in-Ok.ensures h.0 h.2)
 
 pub returns-in_err-code : goal.returns-in_err-code
 returns-in_err-code g c = λ reports.
@@ -28,16 +29,13 @@ returns-in_err-input g c = λ reports.
     (err_from_is_err_and r c.from_residual-in_err-input.ensures.1)
     (execution_unread _ _ reports c.args.asked.now h.0 h.1 c.in_ok-code.code h.2 _ c.in_err-input.ensures)
 
-pub returns-in_err-closed : goal.returns-in_err-closed
-returns-in_err-closed g c = λ reports.
+pub returns-in-Err : goal.returns-in-Err
+returns-in-Err g c = λ reports.
     let h = c.in_ok-code.ensures in
-    let r = c.from_residual-in_err-closed.result in
-    at_exit (AnswersCommand _ _ reports (command.Exec c.args.asked.now)) r _
-    (err_from_is_err_and r c.from_residual-in_err-closed.ensures.1)
-    (execution_wanting _ _ reports c.args.asked.now h.0 h.1 c.in_ok-code.code h.2 _ refl)
+    execution_wanting _ _ reports c.args.asked.now h.0 h.1 c.in_ok-code.code h.2 OutOfMemory refl
 
 pub returns : goal.returns
 returns g c = λ reports.
     let h = c.in_ok-code.ensures in
     execution_told _ _ reports c.args.asked.now h.0 h.1 c.in_ok-code.code h.2 c.in_ok-input.input c.in_ok-input.ensures
-    c.in_ok-closed.closed (c.in_ok-closed.ensures h.0 h.2) c.tell_execution.result c.tell_execution.ensures
+    c.in-Ok.value (c.in-Ok.ensures h.0 h.2) c.tell_execution.result c.tell_execution.ensures

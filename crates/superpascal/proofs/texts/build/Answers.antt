@@ -15,17 +15,17 @@ returns-in_err-code g c =
 pub returns-then-len-gt-LONGEST_CODE : goal.returns-then-len-gt-LONGEST_CODE
 returns-then-len-gt-LONGEST_CODE g c =
     let (text, known, tree, has_code) = c.in_ok-code.ensures.prepared in
-    code_long _ c.args.file.now text known c.in_ok-bytes.bytes.items
-    (has_code_text text tree c.in_ok-code.code c.in_ok-bytes.bytes.items has_code c.in_ok-bytes.ensures)
+    code_long _ c.args.file.now text known c.in-Ok.value.items
+    (has_code_text text tree c.in_ok-code.code c.in-Ok.value.items has_code c.in-Ok.ensures)
     (omega (arith, c.if-len-gt-LONGEST_CODE.true, c.len.ensures))
 
 pub returns : goal.returns
 returns g c =
     let (text, known, tree, has_code) = c.in_ok-code.ensures.prepared in
-    text_made _ (Build c.args.file.now) c.args.file.now (refl, λ k. k) text known c.in_ok-bytes.bytes.items
+    text_made _ (Build c.args.file.now) c.args.file.now (refl, λ k. k) text known c.in-Ok.value.items
     c.new.result.items (
       (
-        has_code_text text tree c.in_ok-code.code c.in_ok-bytes.bytes.items has_code c.in_ok-bytes.ensures,
+        has_code_text text tree c.in_ok-code.code c.in-Ok.value.items has_code c.in-Ok.ensures,
         omega (arith, c.if-len-gt-LONGEST_CODE.false, c.len.ensures),
       ),
       c.new.ensures.items,

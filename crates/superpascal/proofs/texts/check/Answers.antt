@@ -26,6 +26,6 @@ returns g c =
     text_made _ (Check c.args.file.now) c.args.file.now (refl, λ k. k) c.as_slice.result.now
     (subst (λ (t : List ℕ). IfSome (g.L.Library.held c.args.library.now c.args.file.now) (λ all. t ≡ all))
     (sym c.as_slice.ensures.value) c.in_ok-text.ensures.loaded.0)
-    c.new.result.items c.in_ok-line.line.items
-    (c.in_ok-accepts_apart.ensures, c.new.ensures.items, c.in_ok-line.ensures.items) c.accepted.result
+    c.new.result.items c.in-Ok.value.items
+    (c.in_ok-accepts_apart.ensures, c.new.ensures.items, c.in-Ok.ensures.items) c.accepted.result
     c.accepted.ensures

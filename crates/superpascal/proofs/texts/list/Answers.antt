@@ -15,7 +15,7 @@ returns-in_err-code g c =
 pub returns : goal.returns
 returns g c =
     let (text, known, tree, has_code) = c.in_ok-code.ensures.prepared in
-    text_made _ (Code c.args.file.now) c.args.file.now (refl, λ k. k) text known c.in_ok-lines.lines.items
+    text_made _ (Code c.args.file.now) c.args.file.now (refl, λ k. k) text known c.in-Ok.value.items
     c.new.result.items (
       (
         tree,
@@ -23,7 +23,7 @@ returns g c =
         has_code.has.short,
         c.in_ok-code.code,
         has_code.code,
-        c.in_ok-lines.ensures,
+        c.in-Ok.ensures,
       ),
       c.new.ensures.items,
     ) c.accepted.result c.accepted.ensures
