@@ -368,11 +368,16 @@ def two_cells_each(count, unfit):
     return [2] * (count - 1) + [1 if unfit else 2]
 
 
+def in_turn(kinds, count):
+    """So many kinds: these, again and again."""
+    return [kinds[k % len(kinds)] for k in range(count)]
+
+
 def calls_of_lists(operands=100_000, calls=100_000, kinds=("reference 2",), unfit=False, writes=False):
     """Accepted: n operands are pushed once, and each of n calls puts one of its own on top. The formals are of these
     kinds in turn, and no address has more cells than its own formal asks for. Or refused by V5: the operand of the last
     call has too few cells. Writes: the block that is called writes a number."""
-    kinds = [kinds[k % len(kinds)] for k in range(operands)]
+    kinds = in_turn(kinds, operands)
     instrs = [f"addr 0 {k + 2}" if "reference" in kind else "const 1" for k, kind in enumerate(kinds)] + ["const 0"]
     after = operands + 2 + calls
     done = after + 3 * calls + 3
@@ -383,7 +388,7 @@ def calls_of_lists(operands=100_000, calls=100_000, kinds=("reference 2",), unfi
     instrs += ["nocase", f"addr 0 {operands + 2}", "call 1 0", "end", *body]
     count = operands + calls
     formals = range(count + 2, count + operands + 3)
-    sizes = [kind.split()[1] for kind in kinds] + two_cells_each(calls, unfit)
+    sizes = [int(kind.split()[1]) for kind in kinds] + two_cells_each(calls, unfit)
     layouts = [layout(0, 0, "-", sizes, range(2, count + 2)),
                layout(1, done + 1, 0, [1] * len(formals), formals, [*kinds, "reference 2"])]
     return code(layouts, instrs)
@@ -395,7 +400,7 @@ def calls_at_heights(operands=200_000, calls=100_000, kinds=("reference 2",), un
     has too few cells, or is no value."""
     height, away = operands + step * calls, operands + (step + 2) * calls + 1
     drops = away + 2 * calls
-    by_value = ["value" in kinds[k % len(kinds)] for k in range(height)]
+    by_value = ["value" in kind for kind in in_turn(kinds, height)]
     pushes = ["const 1" if value else f"addr 0 {k + 2}" for k, value in enumerate(by_value)]
     gone = ["write int" if value else "read int" for value in reversed(by_value)]
     if by_value[-1] and unfit:
@@ -409,8 +414,7 @@ def calls_at_heights(operands=200_000, calls=100_000, kinds=("reference 2",), un
     instrs += gone + ["end", "return"]
     formals = range(height + 2, height + operands + 2)
     layouts = [layout(0, 0, "-", two_cells_each(height, unfit), range(2, height + 2)),
-               layout(1, drops + height + 1, 0, [1] * operands, formals,
-                      [kinds[k % len(kinds)] for k in range(operands)])]
+               layout(1, drops + height + 1, 0, [1] * operands, formals, in_turn(kinds, operands))]
     return code(layouts, instrs)
 
 
