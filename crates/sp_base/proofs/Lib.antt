@@ -1,2 +1,3 @@
 pub mod Facts
 mod ListFronts
+pub mod Additions

@@ -3,12 +3,11 @@
 ghost use Rattle.std.specs.Prelude.{◌≡◌, ◌++◌, IfOk, codes, decimal};
 ghost use Rattle.std.specs.List.{flat_map};
 ghost use Rattle.sp_code.specs.Listing.{number_text, instr_line, child_line, table_lines, numbered_texts, listing_text};
-ghost use Rattle.sp_writer.specs.Adds.{Adds};
+ghost use Rattle.sp_base.specs.Adds.{Adds};
 
 use crate::code::{ChildTable, Code, ForkTable};
 use crate::instr::Instr;
-use sp_base::Memory;
-use sp_writer::Writer;
+use sp_base::{Memory, Writer};
 use std::alloc::Global;
 
 /// Puts each number after a space.

@@ -6,16 +6,15 @@ ghost use Rattle.sp_codefile.specs.CodeText.{IsCode};
 ghost use Rattle.sp_codefile.specs.DecodeAnswers.{Decodes};
 ghost use Rattle.sp_codefile.specs.Items.{last_children, with_child, item_text, ItemFits, HasRoom, after_item};
 ghost use Rattle.sp_codefile.specs.Items.{IsNextItem};
-ghost use Rattle.sp_writer.specs.Adds.{Adds};
+ghost use Rattle.sp_base.specs.Adds.{Adds};
 
 use crate::have;
 use crate::item::Item;
 use crate::line_reader::read_line;
 use crate::line_writer::{put_child, put_instr, put_layout, put_text};
-use sp_base::{List, Memory};
+use sp_base::{List, Memory, Writer};
 use sp_code::{ChildTable, Code, ForkTable, MAX_CODE, MAX_FRAME, Parts};
 use sp_journal::split_first;
-use sp_writer::Writer;
 use std::alloc::Global;
 use thiserror::Error;
 

@@ -8,11 +8,10 @@ ghost use Rattle.sp_codefile.specs.CodeText.{parent_text, answer_text, formal_te
 ghost use Rattle.sp_codefile.specs.CodeText.{index_text, child_text, line, child_of, table_text};
 ghost use Rattle.sp_codefile.specs.CodeText.{IsNumber, MayBeNumber, FormalFits, LayoutFits, ChildFits, TableFits};
 ghost use Rattle.sp_codefile.specs.CodeText.{IsByte, InstrFits, IsTextOf};
-ghost use Rattle.sp_writer.specs.Adds.{Adds};
+ghost use Rattle.sp_base.specs.Adds.{Adds};
 
-use sp_base::{Memory, Text};
+use sp_base::{Memory, Text, Writer};
 use sp_code::{ChildTable, Code, ForkTable, Formal, Instr, Layout};
-use sp_writer::Writer;
 use std::alloc::Global;
 
 /// Puts a number after a space.

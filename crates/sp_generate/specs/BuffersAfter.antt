@@ -12,7 +12,7 @@ use Rattle.sp_code.specs.declared.code.Layout.{Layout}
 use Rattle.sp_code.specs.TreeCode.{layouts_from}
 use Rattle.sp_tree.specs.Bare.{bare_block}
 use Rattle.sp_varsets.specs.declared.sets.Sets.{Sets}
-use Rattle.sp_writer.specs.Adds.{Keeps}
+use Rattle.sp_base.specs.Adds.{Keeps}
 use Rattle.sp_generate.specs.declared.code_buffer.CodeBuffer.{CodeBuffer}
 use Rattle.sp_generate.specs.declared.code_context.CodeContext.{CodeContext}
 use Rattle.sp_generate.specs.declared.statement_context.StatementContext.{StatementContext}

@@ -16,11 +16,10 @@ use crate::lists::list_of;
 use crate::single::size;
 use crate::statement_context::StatementContext;
 use crate::statements::put_statement;
-use sp_base::{List, Memory};
+use sp_base::{List, Memory, Writer};
 use sp_code::{Formal, Instr, Layout};
 use sp_tree::{Block, Checked, Role};
 use sp_varsets::Sets;
-use sp_writer::Writer;
 use std::alloc::Global;
 
 /// The cells of a variable in its frame.

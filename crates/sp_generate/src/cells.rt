@@ -7,9 +7,8 @@ ghost use Rattle.sp_generate.specs.CodeTables.{offsets_from, offsets_by};
 use crate::lists::list_of;
 use crate::numbers::sum;
 use crate::single::number_at;
-use sp_base::{List, Memory, Text};
+use sp_base::{List, Memory, Text, Writer};
 use sp_tree::KindOf;
-use sp_writer::Writer;
 use std::alloc::Global;
 
 /// How many elements an array has.

@@ -4,14 +4,13 @@ ghost use Rattle.std.specs.Prelude.{◌≡◌, ◌+◌, length, map, IfOk, OnOk}
 ghost use Rattle.sp_tree.specs.CheckedOf.{arms, arm_of};
 ghost use Rattle.sp_tree.specs.Bare.{bare_arms};
 ghost use Rattle.sp_code.specs.TreeCode.{test_code};
-ghost use Rattle.sp_writer.specs.Adds.{Adds};
+ghost use Rattle.sp_base.specs.Adds.{Adds};
 ghost use Rattle.sp_generate.specs.CodeBuffers.{blank_tests, filled_ends, filled_test, filled_tests};
 
 use crate::code_buffer::set;
-use sp_base::{List, Memory};
+use sp_base::{List, Memory, Writer};
 use sp_code::Instr;
 use sp_tree::Arm;
-use sp_writer::Writer;
 
 /// A test for each constant, which leads nowhere yet.
 fn put_blank(code: &mut Writer<Instr>, constants: &[i64])

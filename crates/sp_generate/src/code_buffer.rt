@@ -1,15 +1,14 @@
 //! Code as far as it is written, and how a part of it is mended.
 
 ghost use Rattle.std.specs.Prelude.{◌≡◌, ◌++◌, ◌∷◌, ◌+◌, [], length, List, slice_set};
-ghost use Rattle.sp_writer.specs.Adds.{Keeps};
+ghost use Rattle.sp_base.specs.Adds.{Keeps};
 ghost use Rattle.sp_code.specs.declared.instr.Instr.{Instr as AnInstr};
 ghost use Rattle.sp_code.specs.declared.instr.Instr.TheVariants.{Jump, Jumpf};
 ghost use Rattle.sp_code.specs.declared.code.ForkTable.{ForkTable as ATable};
 
 use crate::numbers::{narrow, sum};
-use sp_base::{List, Text};
+use sp_base::{List, Text, Writer};
 use sp_code::{ForkTable, Instr};
-use sp_writer::Writer;
 
 /// The instructions, fork tables and texts that are written so far. Tables and texts have their numbers by their order.
 /// The writer of the instructions keeps in mind whether memory was refused for any of the three.

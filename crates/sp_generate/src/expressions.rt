@@ -9,19 +9,18 @@ ghost use Rattle.sp_tree.specs.Bare.{bare_width};
 ghost use Rattle.sp_code.specs.Scopes.{kind_at, selected_type, type_of};
 ghost use Rattle.sp_code.specs.TreeCode.{unary_code, standard_code, value_code, form_code, var_code, selectors_code};
 ghost use Rattle.sp_code.specs.TreeCode.{actuals_code, width_code};
-ghost use Rattle.sp_writer.specs.Adds.{Adds};
+ghost use Rattle.sp_base.specs.Adds.{Adds};
 ghost use Rattle.sp_generate.specs.Views.{plain_program, scopes, call_code};
 
 use crate::code_context::CodeContext;
 use crate::levels::Scope;
 use crate::single::{
-    address, binary_instr, call_instr, element_type, field_instr, field_type, greatest,
-    index_instr, input_instr, least, read_instr, variable_kind,
+    address, binary_instr, call_instr, element_type, field_instr, field_type, greatest, index_instr,
+    input_instr, least, read_instr, variable_kind,
 };
-use sp_base::{Boxed, List};
+use sp_base::{Boxed, List, Writer};
 use sp_code::Instr;
 use sp_tree::{Actual, Expr, ExprForm, Selector, StandardFn, UnaryOp, Var};
-use sp_writer::Writer;
 
 fn put_unary(code: &mut Writer<Instr>, op: UnaryOp)
     ensures { Adds code.old code.new (unary_code op) }

@@ -5,14 +5,13 @@ ghost use Rattle.sp_tree.specs.Bare.{without_places, bare_block, variable_of};
 ghost use Rattle.sp_tree.specs.CheckedOf.{program_of, block_of};
 ghost use Rattle.sp_tree.specs.Cells.{variables_of};
 ghost use Rattle.sp_code.specs.Scopes.{is_local, locals_among, parameters_of, frame_of, index_among, slot_in};
-ghost use Rattle.sp_writer.specs.Adds.{Adds};
+ghost use Rattle.sp_base.specs.Adds.{Adds};
 ghost use Rattle.sp_generate.specs.CodeTables.{slots_of};
 
 use crate::lists::list_of;
 use crate::numbers::narrow;
-use sp_base::{List, Memory};
+use sp_base::{List, Memory, Writer};
 use sp_tree::{Block, Checked, Role, Variable};
-use sp_writer::Writer;
 use std::alloc::Global;
 
 fn is_local(role: Role) -> bool

@@ -6,9 +6,8 @@ ghost use Rattle.sp_generate.specs.Handings.{members, is_shared, moved_of, share
 
 use crate::lists::list_of;
 use crate::numbers::sum;
-use sp_base::{List, Memory};
+use sp_base::{List, Memory, Writer};
 use sp_varsets::{MOST_WORDS, Sets, VarSet};
-use sp_writer::Writer;
 use std::alloc::Global;
 
 /// The variables of a set, in order of their numbers.

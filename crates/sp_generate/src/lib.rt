@@ -19,7 +19,7 @@
 //!   single instructions, `expressions.rt`, `simple.rt`, `statements.rt`, `choices.rt` and `blocks.rt` are the pass,
 //!   `handings.rt` is what a process is handed.
 //! - The writer of the instructions keeps in mind whether memory was refused, for tables and texts too, so the pass has
-//!   no `?`. Its contracts say `Adds` of `sp_writer`, and `Wrote` of `specs/BuffersAfter.antt`.
+//!   no `?`. Its contracts say `Adds` of `sp_base`, and `Wrote` of `specs/BuffersAfter.antt`.
 //! - `specs/CodeBuffers.antt` is what stands once a part was written behind what stood: the form of every contract of
 //!   the pass. `Tables` and `Handings` are the fork tables by the numbers of statements, `Numbered` the code with
 //!   them.

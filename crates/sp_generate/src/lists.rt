@@ -2,8 +2,7 @@
 
 ghost use Rattle.std.specs.Prelude.{◌≡◌, false, IfOk};
 
-use sp_base::{List, Memory};
-use sp_writer::Writer;
+use sp_base::{List, Memory, Writer};
 
 /// What is written, as a list, or want of memory if the writer is lost.
 pub fn list_of<T: Drop>(out: Writer<T>) -> Result<List<T>, Memory>

@@ -2,7 +2,7 @@
 
 ghost use Rattle.std.specs.Prelude.{◌≡◌, ◌<◌, ◌↔◌, IsTrue, IfOk, length, map};
 ghost use Rattle.sp_tree.specs.CheckedOf.{program_of, block_of};
-ghost use Rattle.sp_writer.specs.Adds.{Keeps};
+ghost use Rattle.sp_base.specs.Adds.{Keeps};
 ghost use Rattle.sp_generate.specs.BuffersAfter.{written, with_blocks, layouts_in};
 ghost use Rattle.sp_varsets.specs.AreSets.{AreSets};
 ghost use Rattle.sp_generate.specs.NumberedCode.{numbered_code};
@@ -14,12 +14,11 @@ use crate::code_context::CodeContext;
 use crate::code_tables::survey;
 use crate::numbers::narrow;
 use crate::room::hands_too_much;
-use sp_base::{List, Memory};
+use sp_base::{List, Memory, Writer};
 use sp_code::{Code, Layout, MAX_CODE, Parts};
 use sp_length::length;
 use sp_tree::Checked;
 use sp_varsets::Sets;
-use sp_writer::Writer;
 use std::alloc::Global;
 use thiserror::Error;
 

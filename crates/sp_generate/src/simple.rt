@@ -7,7 +7,7 @@ ghost use Rattle.sp_code.specs.declared.instr.Instr.TheVariants as i;
 ghost use Rattle.sp_code.specs.Scopes.{Many, kind_at, kind_of, type_of, is_given};
 ghost use Rattle.sp_code.specs.TreeCode.{value_code, var_code, width_code, right_code, write_instr};
 ghost use Rattle.sp_code.specs.TreeCode.{reading_instr};
-ghost use Rattle.sp_writer.specs.Adds.{Adds};
+ghost use Rattle.sp_base.specs.Adds.{Adds};
 ghost use Rattle.sp_generate.specs.Views.{plain_program, scopes};
 ghost use Rattle.sp_generate.specs.CodeBuffers.{assign_code, right_side, sends_code, receives_code};
 
@@ -15,10 +15,9 @@ use crate::code_context::CodeContext;
 use crate::expressions::{put_form, put_value, put_var, put_width};
 use crate::levels::Scope;
 use crate::single::{assign_instr, is_many, reading_instr, write_instr};
-use sp_base::List;
+use sp_base::{List, Writer};
 use sp_code::Instr;
 use sp_tree::{Expr, ExprForm, Var};
-use sp_writer::Writer;
 
 /// The right side of an assignment of an array or record: of a variable its address alone.
 fn put_many(g: &CodeContext, sc: &[Scope], code: &mut Writer<Instr>, k: u32, form: &ExprForm)

@@ -11,15 +11,13 @@ ghost use Rattle.sp_generate.specs.declared.levels.Scope.TheVariants as scope;
 ghost use Rattle.sp_generate.specs.Steps.{for_instr, next_instr};
 ghost use Rattle.sp_generate.specs.Views.{plain_program};
 ghost use Rattle.sp_generate.specs.CodeBuffers.{starts_of, ends_of};
-ghost use Rattle.sp_writer.specs.Adds.{Keeps};
+ghost use Rattle.sp_base.specs.Adds.{Keeps};
 ghost use Rattle.sp_generate.specs.BuffersAfter.{Wrote, written, with_statement, with_form, with_children, with_arms};
 ghost use Rattle.sp_generate.specs.BuffersAfter.{with_branch, with_passed, with_loop, with_spread, with_choices};
 ghost use Rattle.sp_generate.specs.BuffersAfter.{with_inside, child_of, children_of, index_table};
 
 use crate::choices::{fill_ends, fill_tests, put_blanks};
-use crate::code_buffer::{
-    CodeBuffer, count, mark, mend_branch, mend_jump, patch_table, place, set,
-};
+use crate::code_buffer::{CodeBuffer, count, mark, mend_branch, mend_jump, patch_table, place, set};
 use crate::expressions::{put_call, put_value};
 use crate::handings::{but_index, moved, shared};
 use crate::levels::Scope;
@@ -30,10 +28,9 @@ use crate::simple::{
 };
 use crate::single::slot;
 use crate::statement_context::StatementContext;
-use sp_base::{List, Memory, Text};
+use sp_base::{List, Memory, Text, Writer};
 use sp_code::{ChildTable, ForkTable, Instr};
 use sp_tree::{Arm, Expr, Form, Stmt, Var};
-use sp_writer::Writer;
 
 /// A statement.
 #[cycle(statement)]

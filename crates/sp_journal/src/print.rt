@@ -7,12 +7,11 @@ ghost use Rattle.sp_journal.specs.Names.{proc_name};
 ghost use Rattle.sp_journal.specs.Texts.{entry_text, event_text, offer_text, way_text, journal_text};
 ghost use Rattle.sp_journal.specs.Ledger.{IsLedger};
 ghost use Rattle.sp_journal.specs.declared.version.Version.TheVariants as version;
-ghost use Rattle.sp_writer.specs.Adds.{Adds};
+ghost use Rattle.sp_base.specs.Adds.{Adds};
 
 use crate::entry::{Entry, Event, Journal, Way};
 use crate::ledger::Ledger;
-use sp_base::Memory;
-use sp_writer::Writer;
+use sp_base::{Memory, Writer};
 use std::alloc::Global;
 
 impl Way {

@@ -5,12 +5,11 @@ ghost use Rattle.sp_tree.specs.CheckedOf.{expression_of, variable_of, selectors,
 ghost use Rattle.sp_tree.specs.CheckedOf.{width_of};
 ghost use Rattle.sp_lines.specs.Marks.{mark, standard_marks, value_marks, variable_marks, selectors_marks};
 ghost use Rattle.sp_lines.specs.Marks.{actuals_marks, width_marks};
-ghost use Rattle.sp_writer.specs.Adds.{Adds};
+ghost use Rattle.sp_base.specs.Adds.{Adds};
 
 use crate::mark::Mark;
-use sp_base::{List, Place};
+use sp_base::{List, Place, Writer};
 use sp_tree::{Actual, Expr, ExprForm, Selector, StandardFn, UnaryOp, Var};
-use sp_writer::Writer;
 
 /// One instruction more, of the part that begins at `part`.
 pub fn put(out: &mut Writer<Mark>, statement: Place, part: Place)

@@ -7,9 +7,8 @@ ghost use Rattle.sp_lines.specs.Marks.{marks};
 use crate::expressions::put;
 use crate::mark::Mark;
 use crate::statements::put_statement;
-use sp_base::{List, Memory};
+use sp_base::{List, Memory, Writer};
 use sp_tree::Checked;
-use sp_writer::Writer;
 use std::alloc::Global;
 
 /// The marks of a checked tree: one for each instruction of its code, in order. What is made in this call takes its

@@ -6,13 +6,12 @@ ghost use Rattle.sp_tree.specs.CheckedOf.{expression_of, variable_of, statement_
 ghost use Rattle.sp_tree.specs.CheckedOf.{arms, arm_of};
 ghost use Rattle.sp_lines.specs.Marks.{own, is_many, right_marks, test_marks, tests_marks, statement_marks};
 ghost use Rattle.sp_lines.specs.Marks.{all_marks, child_marks, children_marks, arms_marks};
-ghost use Rattle.sp_writer.specs.Adds.{Adds};
+ghost use Rattle.sp_base.specs.Adds.{Adds};
 
 use crate::expressions::{put, put_actuals, put_value, put_variable, put_width};
 use crate::mark::Mark;
-use sp_base::{List, Place};
+use sp_base::{List, Place, Writer};
 use sp_tree::{Arm, Expr, ExprForm, Form, KindOf, Stmt, Var};
-use sp_writer::Writer;
 
 /// Whether values of a type are many cells.
 fn is_many(kinds: &[KindOf], k: u32) -> bool

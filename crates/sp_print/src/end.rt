@@ -3,11 +3,10 @@
 ghost use Rattle.std.specs.Prelude.{◌≡◌, IfOk};
 ghost use Rattle.std.specs.List.{flat_map};
 ghost use Rattle.sp_print.specs.OutcomeLines.{waiter_line, end_text, HasLines};
-ghost use Rattle.sp_writer.specs.Adds.{Adds};
+ghost use Rattle.sp_base.specs.Adds.{Adds};
 
-use sp_base::Memory;
+use sp_base::{Memory, Writer};
 use sp_journal::{End, Waiter};
-use sp_writer::Writer;
 use std::alloc::Global;
 
 /// The lines of an end that is not `Memory`: `done`; or `deadlock` and then `waits NAME send CHANNEL` or

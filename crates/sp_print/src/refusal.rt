@@ -3,8 +3,7 @@
 ghost use Rattle.std.specs.Prelude.{◌≡◌, IfOk};
 ghost use Rattle.sp_print.specs.OutcomeLines.{refusal_text};
 
-use sp_base::{Memory, Refusal};
-use sp_writer::Writer;
+use sp_base::{Memory, Refusal, Writer};
 use std::alloc::Global;
 
 /// The line of a broken rule and its place: `refused RULE LINE:COLUMN`.

@@ -3,9 +3,8 @@
 ghost use Rattle.std.specs.Prelude.{◌≡◌, IfOk};
 ghost use Rattle.sp_print.specs.OutcomeLines.{verdict_text};
 
-use sp_base::Memory;
+use sp_base::{Memory, Writer};
 use sp_journal::Verdict;
-use sp_writer::Writer;
 use std::alloc::Global;
 
 /// The line of a verdict: `ordered`, `unjudged`, `race send CHANNEL EARLIER LATER` or

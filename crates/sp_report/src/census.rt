@@ -3,13 +3,12 @@
 ghost use Rattle.std.specs.Prelude.{◌≡◌, [], IfOk, codes};
 ghost use Rattle.std.specs.List.{flat_map};
 ghost use Rattle.sp_report.specs.Census.{census_text, count_line, count_of, is_counted, kind_name, kinds};
-ghost use Rattle.sp_writer.specs.Adds.{Adds};
+ghost use Rattle.sp_base.specs.Adds.{Adds};
 
 use crate::have;
 use crate::watcher::Watcher;
-use sp_base::{List, Memory};
+use sp_base::{List, Memory, Writer};
 use sp_journal::{Entry, Event};
-use sp_writer::Writer;
 use std::alloc::Global;
 
 /// What is counted.

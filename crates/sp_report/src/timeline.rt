@@ -4,13 +4,12 @@ ghost use Rattle.std.specs.Prelude.{◌≡◌, ◌++◌, [], IfOk, codes, decima
 ghost use Rattle.sp_journal.specs.Births.{IsNameable, first_births};
 ghost use Rattle.sp_report.specs.Nameable.{nameable_prop};
 ghost use Rattle.sp_report.specs.Timeline.{numbered_lines, timeline_text};
-ghost use Rattle.sp_writer.specs.Adds.{Adds};
+ghost use Rattle.sp_base.specs.Adds.{Adds};
 
 use crate::have;
 use crate::watcher::Watcher;
-use sp_base::{List, Memory};
+use sp_base::{List, Memory, Writer};
 use sp_journal::{Entry, Journal, print_journal};
-use sp_writer::Writer;
 use std::alloc::Global;
 
 /// Tells the entries in their order, each after its index.

@@ -8,14 +8,13 @@ ghost use Rattle.sp_journal.specs.Ledger.{IsLedger};
 ghost use Rattle.sp_report.specs.InOrder.{sorted_by_name};
 ghost use Rattle.sp_report.specs.Nameable.{nameable_prop};
 ghost use Rattle.sp_report.specs.Tree.{forked_processes, last_pair, tree_line, tree_lines, tree_text};
-ghost use Rattle.sp_writer.specs.Adds.{Adds};
+ghost use Rattle.sp_base.specs.Adds.{Adds};
 
 use crate::have;
 use crate::preorder::rising_names;
 use crate::watcher::Watcher;
-use sp_base::{List, Memory, Pair, ProcName};
+use sp_base::{List, Memory, Pair, ProcName, Writer};
 use sp_journal::{Entry, Journal, Ledger};
-use sp_writer::Writer;
 use std::alloc::Global;
 use std::collections::BTreeMap;
 

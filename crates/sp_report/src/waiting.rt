@@ -14,15 +14,14 @@ ghost use Rattle.sp_report.specs.WaitingText.{waiting_lines};
 ghost use Rattle.sp_report.specs.WaitingText.{waiting_text};
 ghost use Rattle.sp_base.specs.Names.{name_text};
 ghost use Rattle.sp_journal.specs.Names.{proc_name};
-ghost use Rattle.sp_writer.specs.Adds.{Adds};
+ghost use Rattle.sp_base.specs.Adds.{Adds};
 
-use crate::condition::Condition;
 use crate::have;
+use crate::condition::Condition;
 use crate::table::Table;
 use crate::watcher::Watcher;
-use sp_base::{List, Memory, ProcName};
+use sp_base::{List, Memory, ProcName, Writer};
 use sp_journal::{Entry, Journal, Ledger};
-use sp_writer::Writer;
 use std::alloc::Global;
 use std::collections::BTreeMap;
 

@@ -3,16 +3,15 @@
 ghost use Rattle.std.specs.Prelude.{◌≡◌, ℕ, ◌<◌, ◌≤◌, ◌-◌, ◌^◌, ◌++◌, List, IfOk, length, map};
 ghost use Rattle.sp_sets.specs.SetsText.{IsImplicit, IsLine, IsLineAt, IsOfBlock, IsSetsText, Joined, head_by};
 ghost use Rattle.sp_tree.specs.CheckedOf.{block_of, program_of};
-ghost use Rattle.sp_writer.specs.Adds.{Adds, Keeps};
+ghost use Rattle.sp_base.specs.Adds.{Adds, Keeps};
 
 use crate::have;
 use crate::sets_line::SetsLine;
 use crate::variables::put_both;
 use crate::walk::ordered_lines;
-use sp_base::{Memory, Place};
+use sp_base::{Memory, Place, Writer};
 use sp_tree::{Block, Checked, Variable};
 use sp_varsets::Sets;
-use sp_writer::Writer;
 use std::alloc::Global;
 
 /// Puts the beginning of a line.

@@ -4,14 +4,13 @@ ghost use Rattle.std.specs.Prelude.{◌≡◌, ℕ, ◌≤◌, ◌-◌, ◌^◌,
 ghost use Rattle.std.specs.List.{flat_map};
 ghost use Rattle.sp_sets.specs.Orders.{IsInOrder, place_of_variable, variable_cmp};
 ghost use Rattle.sp_sets.specs.SetsText.{IsBoth, IsVariables, members, name_text};
-ghost use Rattle.sp_writer.specs.Adds.{Adds, Keeps};
+ghost use Rattle.sp_base.specs.Adds.{Adds, Keeps};
 
 use crate::have;
 use crate::sets_line::place_cmp;
-use sp_base::{Memory, Place};
+use sp_base::{Memory, Place, Writer};
 use sp_tree::Variable;
 use sp_varsets::VarSet;
-use sp_writer::Writer;
 use std::alloc::Global;
 use std::cmp::Ordering;
 

@@ -7,13 +7,12 @@ ghost use Rattle.sp_sets.specs.Forks.{statements_lines, tree_lines};
 ghost use Rattle.sp_sets.specs.Orders.{IsInOrder, line_cmp};
 ghost use Rattle.sp_tree.specs.CheckedOf.{arm_of, arms, else_part, program_of, statement_form_of, statement_of};
 ghost use Rattle.sp_tree.specs.CheckedOf.{statements};
-ghost use Rattle.sp_writer.specs.Adds.{Adds};
+ghost use Rattle.sp_base.specs.Adds.{Adds};
 
 use crate::have;
 use crate::sets_line::{SetsLine, line_cmp};
-use sp_base::{Boxed, List, Memory, Place};
+use sp_base::{Boxed, List, Memory, Place, Writer};
 use sp_tree::{Arm, Checked, Form, Stmt};
-use sp_writer::Writer;
 use std::alloc::Global;
 
 /// Puts a line for each process statement of a parallel statement at this place.

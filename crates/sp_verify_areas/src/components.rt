@@ -7,9 +7,8 @@ ghost use Rattle.sp_verify_areas.specs.Rounds.{has_owner, number_at};
 use crate::have;
 use crate::owners::Owner;
 use crate::ways::free_ways;
-use sp_base::{List, Memory};
+use sp_base::{List, Memory, Writer};
 use sp_code::{Code, MAX_CODE};
-use sp_writer::Writer;
 
 /// Whether an instruction has an owner.
 pub(crate) fn has_owner(owners: &List<Owner>, p: u32) -> bool

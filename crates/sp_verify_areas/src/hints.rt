@@ -1,11 +1,10 @@
 //! Where variables are likely to be found. It only saves time: whoever uses a hint looks whether it is right.
 
-use crate::flags::{flag_at, mark, no_flags};
 use crate::have;
+use crate::flags::{flag_at, mark, no_flags};
 use crate::tree::{Frame, Node};
-use sp_base::{List, Memory};
+use sp_base::{List, Memory, Writer};
 use sp_code::{Code, Layout};
-use sp_writer::Writer;
 use std::collections::BTreeMap;
 
 /// How many frames there are from the outermost one to that of a variable, and its place in the frame; and the number

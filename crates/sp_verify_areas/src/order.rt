@@ -1,9 +1,8 @@
 //! An order in which what others stand on comes first. It only saves time: no proof rests on it.
 
-use crate::flags::{flag_at, mark, no_flags};
 use crate::have;
-use sp_base::{List, Memory};
-use sp_writer::Writer;
+use crate::flags::{flag_at, mark, no_flags};
+use sp_base::{List, Memory, Writer};
 
 // Goes from an item to the one that it stands on, and so on, as far as those that were not seen.
 fn climb(up: &List<Option<usize>>, seen: &mut List<bool>, way: &mut Writer<usize>, item: usize) {

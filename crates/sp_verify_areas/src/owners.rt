@@ -13,12 +13,11 @@ ghost use Rattle.sp_verify_areas.specs.Owners.{IsSpread, IsSpreadBy, IsTrueOf, K
 ghost use Rattle.sp_verify_areas.specs.Owners.{as_child};
 ghost use Rattle.sp_verify_areas.specs.Owners.{is_same, common_owner, of_child};
 
-use crate::blocks::Blocks;
 use crate::have;
+use crate::blocks::Blocks;
 use crate::ways::ways_on;
-use sp_base::{List, Memory};
+use sp_base::{List, Memory, Writer};
 use sp_code::{ChildTable, Code, Instr};
-use sp_writer::Writer;
 
 /// Whose code an instruction is: the area in whose code it lies, by the area's last step.
 #[derive(Clone, Copy)]

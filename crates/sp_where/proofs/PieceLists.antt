@@ -6,8 +6,8 @@ use Rattle.std.proofs.lemmas.List.{take-append-le, take_all, length-take, length
 use Rattle.std.proofs.Math.Seq.{take-append-add}
 use Rattle.std.proofs.lemmas.Bool.{cases_lt}
 use Rattle.sp_cell.specs.declared.cell.Cell.{Cell}
-use Rattle.sp_writer.specs.declared.writer.Writer.{Writer}
-use Rattle.sp_writer.specs.Adds.{Adds}
+use Rattle.sp_base.specs.declared.writer.Writer.{Writer}
+use Rattle.sp_base.specs.Adds.{Adds}
 use Rattle.sp_where.specs.declared.values.Shown.{Shown}
 use Rattle.sp_where.specs.Shorts.{AddsShort, CoversForm, Fills, filled_by}
 use Rattle.sp_where.specs.Values.{Piece, Fixed}

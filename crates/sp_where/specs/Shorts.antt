@@ -6,8 +6,8 @@ use Rattle.sp_journal.specs.Births.{births}
 use Rattle.sp_cell.specs.declared.cell.Cell.{Cell}
 use Rattle.sp_where.specs.declared.values.Shown.{Shown}
 use Rattle.sp_where.specs.Values.{Piece, filled, form_by}
-use Rattle.sp_writer.specs.declared.writer.Writer.{Writer}
-use Rattle.sp_writer.specs.Adds.{Keeps}
+use Rattle.sp_base.specs.declared.writer.Writer.{Writer}
+use Rattle.sp_base.specs.Adds.{Keeps}
 
 -- of the first `most` bytes, whatever comes behind, the new ones are the old ones and then these
 abbrev pub AddsShort : (most : ℕ) → Writer ℕ → Writer ℕ → List ℕ → Type 0

@@ -6,14 +6,13 @@ ghost use Rattle.sp_journal.specs.Ledger.{IsLedger};
 ghost use Rattle.sp_tree.specs.Items.{truth_text};
 ghost use Rattle.sp_where.specs.Shorts.{AddsShort};
 ghost use Rattle.sp_where.specs.Values.{cell_channel_text, cell_text, char_text, constant_text, names_of, ordinal_text};
-ghost use Rattle.sp_writer.specs.Adds.{Adds};
+ghost use Rattle.sp_base.specs.Adds.{Adds};
 
 use crate::symbols::Symbols;
-use sp_base::Memory;
+use sp_base::{Memory, Writer};
 use sp_cell::Cell;
 use sp_journal::Ledger;
 use sp_tree::KindOf;
-use sp_writer::Writer;
 
 /// Puts the bytes, as far as there are no more than `most` then.
 pub(crate) fn put_short(out: &mut Writer<u8>, most: usize, bytes: &[u8])

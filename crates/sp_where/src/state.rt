@@ -19,20 +19,19 @@ ghost use Rattle.sp_where.specs.KnownOf.{IsKnown, known_by, known_of};
 ghost use Rattle.sp_where.specs.States.{fault_in, first_line, is_end, is_live, laid_line, lines_below};
 ghost use Rattle.sp_where.specs.States.{line_start, live_processes, named_text, where_text, working_line};
 ghost use Rattle.sp_where.specs.Values.{cell_channel_text};
-ghost use Rattle.sp_writer.specs.Adds.{Adds};
+ghost use Rattle.sp_base.specs.Adds.{Adds};
 
 use crate::cells::put_channel;
 use crate::state_calls::put_frames;
 use crate::state_variables::Known;
 use crate::symbols::Symbols;
-use sp_base::{Fault, Memory, Place, ProcName};
+use sp_base::{Fault, Memory, Place, ProcName, Writer};
 use sp_code::{Code, Instr};
 use sp_journal::{Entry, Event, Journal, Ledger};
 use sp_kernel::Seen;
 use sp_machine::Proc;
 use sp_replay::{FollowedRun, Traced, lasts};
 use sp_shown::landing;
-use sp_writer::Writer;
 use std::alloc::Global;
 use std::collections::BTreeMap;
 

@@ -12,14 +12,13 @@ ghost use Rattle.sp_where.specs.StateCalls.{but_of, call_place, frames_text, has
 ghost use Rattle.sp_where.specs.StateCalls.{is_of, is_shown, moved_frame, moved_frames, own_frame, returns_below};
 ghost use Rattle.sp_where.specs.StateCalls.{shown_frame};
 ghost use Rattle.sp_where.specs.StateVariables.{moved_variables};
-ghost use Rattle.sp_writer.specs.Adds.{Adds, Covers, Keeps};
+ghost use Rattle.sp_base.specs.Adds.{Adds, Covers, Keeps};
 
 use crate::state_variables::{Known, first_variable, put_moved_variables, put_own_variables};
-use sp_base::{List, Memory};
+use sp_base::{List, Memory, Writer};
 use sp_cell::Spot;
 use sp_machine::{Frame, Frames, Home, Proc, layout_of};
 use sp_store::Store;
-use sp_writer::Writer;
 use std::alloc::Global;
 
 // Puts what a frame is of.

@@ -9,17 +9,17 @@ ghost use Rattle.sp_where.specs.KnownOf.{IsKnown, known_of};
 ghost use Rattle.sp_where.specs.StateVariables.{address_by, content_line, first_variable, moved_line, moved_lines};
 ghost use Rattle.sp_where.specs.StateVariables.{moved_variables, own_lines, own_variables, same_spot, value_line};
 ghost use Rattle.sp_where.specs.StateVariables.{variable_line};
-ghost use Rattle.sp_writer.specs.Adds.{Adds, Keeps};
+ghost use Rattle.sp_base.specs.Adds.{Adds, Keeps};
 
 use crate::symbols::Symbols;
 use crate::values::put_value;
+use sp_base::Writer;
 use sp_cell::{Address, Cell, Spot};
 use sp_code::{Code, Formal};
 use sp_journal::Ledger;
 use sp_machine::{Frame, Home, layout_of, referred};
 use sp_store::Store;
 use sp_tree::Variable;
-use sp_writer::Writer;
 
 /// What is known beside the state: the names that the journal gives, the text, and its code.
 #[derive(Drop)]

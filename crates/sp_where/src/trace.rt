@@ -5,15 +5,14 @@ ghost use Rattle.sp_journal.specs.Births.{births, CanFollow, IsNameable};
 ghost use Rattle.sp_journal.specs.Ledger.{IsLedger};
 ghost use Rattle.sp_base.specs.Places.{place_text};
 ghost use Rattle.sp_where.specs.Traces.{message_text, passed, place_of_event, trace_line, trace_text};
-ghost use Rattle.sp_writer.specs.Adds.{Adds};
+ghost use Rattle.sp_base.specs.Adds.{Adds};
 
 use crate::symbols::Symbols;
 use crate::values::put_value;
-use sp_base::{List, Memory};
+use sp_base::{List, Memory, Writer};
 use sp_cell::Cell;
 use sp_journal::{Entry, Event, Journal, Ledger, put_entry_text};
 use sp_lines::Told;
-use sp_writer::Writer;
 use std::alloc::Global;
 
 /// Puts the place that an event has whose turn ended at this instruction.

@@ -6,15 +6,14 @@ ghost use Rattle.sp_journal.specs.Ledger.{IsLedger};
 ghost use Rattle.sp_tree.specs.Cells.{count};
 ghost use Rattle.sp_where.specs.Shorts.{Fills, forms};
 ghost use Rattle.sp_where.specs.Values.{CellOf, comma, cut, field_in, form, form_in, parts_from, value_text};
-ghost use Rattle.sp_writer.specs.Adds.{Adds, Keeps};
+ghost use Rattle.sp_base.specs.Adds.{Adds, Keeps};
 
 use crate::cells::{put_cell, put_short};
 use crate::symbols::Symbols;
-use sp_base::Text;
+use sp_base::{Text, Writer};
 use sp_cell::Cell;
 use sp_journal::Ledger;
 use sp_tree::KindOf;
-use sp_writer::Writer;
 
 /// A value has no more bytes than these, but for the `..` behind a longer one.
 const LONGEST: usize = 120;

@@ -9,10 +9,9 @@ ghost use Rattle.superpascal.specs.Causes.{accepted_answer, answer_without_outpu
 ghost use Rattle.superpascal.specs.declared.ending.Ending.TheVariants as variants;
 
 use crate::ending::{Answer, Ending};
-use sp_base::{Memory, Text};
+use sp_base::{Memory, Text, Writer};
 use sp_codefile::VRule;
 use sp_print::refusal_line;
-use sp_writer::Writer;
 use std::alloc::Global;
 
 // An answer without an output.

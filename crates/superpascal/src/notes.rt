@@ -8,14 +8,13 @@ ghost use Rattle.superpascal.specs.AnswerParts.{HasEndLines, IsTellable, lines_o
 ghost use Rattle.superpascal.specs.Replays.{ending_of_replay};
 ghost use Rattle.superpascal.specs.Runs.{end_lines, ending_of, generated_output, is_journal, run_notes, witness_text};
 
-use crate::ending::Ending;
 use crate::have;
-use sp_base::{Memory, Show};
+use crate::ending::Ending;
+use sp_base::{Memory, Show, Writer};
 use sp_execute::{Ran, witness};
 use sp_journal::{End, print_journal};
 use sp_print::verdict_line;
 use sp_report::{Watcher, tell};
-use sp_writer::Writer;
 use std::alloc::Global;
 
 /// What the end of a run is for the call.

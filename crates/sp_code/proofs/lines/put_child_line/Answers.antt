@@ -2,7 +2,7 @@ use Rattle.std.proofs.Common.{◌≡◌, ℕ, List, ◌++◌, refl, append_assoc
 use Rattle.std.specs.List.{flat_map}
 use Rattle.sp_code.specs.declared.code.ChildTable.{ChildTable}
 use Rattle.sp_code.specs.Listing.{number_text, child_line}
-use Rattle.sp_writer.proofs.Additions.{joined}
+use Rattle.sp_base.proofs.Additions.{joined}
 use Rattle.sp_code.proofs.lines.put_child_line.Goals as goal
 
 regrouped : (e m f s g n : List ℕ) → e ++ (m ++ f ++ s ++ g ++ n) ≡ e ++ m ++ f ++ s ++ g ++ n

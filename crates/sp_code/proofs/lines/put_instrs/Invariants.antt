@@ -1,6 +1,6 @@
 use Rattle.std.proofs.Common.{drop}
 use Rattle.sp_code.specs.Listing.{numbered_texts, instr_line}
-use Rattle.sp_writer.specs.Adds.{Covers}
+use Rattle.sp_base.specs.Adds.{Covers}
 use Rattle.sp_code.proofs.lines.put_instrs.Given as goal
 
 abbrev pub invariant-loop-number : goal.invariant-loop-number

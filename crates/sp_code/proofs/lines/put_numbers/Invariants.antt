@@ -1,7 +1,7 @@
 use Rattle.std.proofs.Common.{drop}
 use Rattle.std.specs.List.{flat_map}
 use Rattle.sp_code.specs.Listing.{number_text}
-use Rattle.sp_writer.specs.Adds.{Covers}
+use Rattle.sp_base.specs.Adds.{Covers}
 use Rattle.sp_code.proofs.lines.put_numbers.Given as goal
 
 abbrev pub invariant-loop-number : goal.invariant-loop-number

@@ -4,7 +4,7 @@ use Rattle.sp_code.specs.Listing.{number_text}
 use Rattle.sp_code.specs.declared.code.Formal.{Formal}
 use Rattle.sp_codefile.specs.CodeText.{parent_text, answer_text, formal_text}
 use Rattle.sp_codefile.proofs.TextLaws.{regrouped_line}
-use Rattle.sp_writer.proofs.Additions.{joined}
+use Rattle.sp_base.proofs.Additions.{joined}
 use Rattle.sp_codefile.proofs.line_writer.put_layout.Goals as goal
 
 pub returns-clause-text : goal.returns-clause-text

@@ -1,7 +1,7 @@
 use Rattle.std.proofs.Common.{All, take}
 use Rattle.sp_code.specs.Listing.{numbered_texts}
 use Rattle.sp_codefile.specs.CodeText.{table_text, TableFits}
-use Rattle.sp_writer.specs.Adds.{Adds}
+use Rattle.sp_base.specs.Adds.{Adds}
 use Rattle.sp_codefile.proofs.line_writer.put_tables.Given as goal
 
 abbrev pub invariant-loop-number : goal.invariant-loop-number

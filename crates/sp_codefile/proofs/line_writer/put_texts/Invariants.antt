@@ -1,7 +1,7 @@
 use Rattle.std.proofs.Common.{All, take}
 use Rattle.std.specs.List.{flat_map}
 use Rattle.sp_codefile.specs.CodeText.{line, text_text, IsByte}
-use Rattle.sp_writer.specs.Adds.{Adds}
+use Rattle.sp_base.specs.Adds.{Adds}
 use Rattle.sp_codefile.proofs.line_writer.put_texts.Given as goal
 
 abbrev pub invariant-loop-text : goal.invariant-loop-text

@@ -1,6 +1,6 @@
 use Rattle.std.proofs.Common.{drop}
 use Rattle.sp_code.specs.TreeCode.{test_code}
-use Rattle.sp_writer.specs.Adds.{Covers}
+use Rattle.sp_base.specs.Adds.{Covers}
 use Rattle.sp_generate.proofs.choices.put_blank.Given as goal
 
 abbrev pub invariant-loop-m : goal.invariant-loop-m

@@ -1,7 +1,7 @@
 use Rattle.std.proofs.Common.{map, drop}
 use Rattle.sp_tree.specs.CheckedOf.{arms, arm_of}
 use Rattle.sp_tree.specs.Bare.{bare_arms}
-use Rattle.sp_writer.specs.Adds.{Covers}
+use Rattle.sp_base.specs.Adds.{Covers}
 use Rattle.sp_generate.specs.CodeBuffers.{blank_tests}
 use Rattle.sp_generate.proofs.choices.put_blanks.Given as goal
 

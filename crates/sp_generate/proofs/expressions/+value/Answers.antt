@@ -13,7 +13,7 @@ use Rattle.sp_code.specs.TreeCode.{value_code, var_code, selectors_code, actuals
 use Rattle.sp_generate.specs.Views.{plain_program, scopes}
 use Rattle.sp_varsets.proofs.AddedSets.{selectors_on, selectors_end, actuals_on, actuals_end}
 use Rattle.sp_generate.proofs.PartCode.{select_code, select_type, pass_code}
-use Rattle.sp_writer.proofs.Additions.{joined, goes_on, ends}
+use Rattle.sp_base.proofs.Additions.{joined, goes_on, ends}
 use Rattle.sp_generate.proofs.expressions.+value.Goals as goal
 
 pub put_value-returns : goal.put_value-returns

@@ -3,7 +3,7 @@ use Rattle.sp_tree.specs.CheckedOf.{selectors, selector_of, actuals, actual_of}
 use Rattle.sp_tree.specs.Bare.{bare_selectors, bare_actuals}
 use Rattle.sp_code.specs.Scopes.{selected_type}
 use Rattle.sp_code.specs.TreeCode.{selectors_code, actuals_code}
-use Rattle.sp_writer.specs.Adds.{Covers}
+use Rattle.sp_base.specs.Adds.{Covers}
 use Rattle.sp_generate.specs.Views.{plain_program, scopes}
 use Rattle.sp_generate.proofs.expressions.+value.Given as goal
 

@@ -1,6 +1,6 @@
 use Rattle.std.proofs.Common.{◌≡◌, ◌++◌, length, map, drop}
 use Rattle.sp_tree.specs.CheckedOf.{block_of}
-use Rattle.sp_writer.specs.Adds.{Keeps}
+use Rattle.sp_base.specs.Adds.{Keeps}
 use Rattle.sp_generate.specs.BuffersAfter.{with_blocks, layouts_in}
 use Rattle.sp_generate.proofs.program.put_blocks.Given as goal
 

@@ -6,7 +6,7 @@ use Rattle.sp_tree.specs.CheckedOf.{expression_of, expression_form_of, variable_
 use Rattle.sp_code.specs.declared.instr.Instr.{Instr}
 use Rattle.sp_code.specs.Scopes.{sort}
 use Rattle.sp_code.specs.TreeCode.{var_code, right_code}
-use Rattle.sp_writer.proofs.Additions.{joined}
+use Rattle.sp_base.proofs.Additions.{joined}
 use Rattle.sp_generate.specs.Views.{plain_program, scopes}
 use Rattle.sp_generate.proofs.simple.put_assign.Goals as goal
 

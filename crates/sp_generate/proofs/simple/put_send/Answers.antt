@@ -5,7 +5,7 @@ use Rattle.sp_tree.specs.CheckedOf.{expression_of}
 use Rattle.sp_code.specs.declared.instr.Instr.TheVariants as i
 use Rattle.sp_code.specs.Scopes.{kind_of}
 use Rattle.sp_code.specs.TreeCode.{value_code}
-use Rattle.sp_writer.proofs.Additions.{joined}
+use Rattle.sp_base.proofs.Additions.{joined}
 use Rattle.sp_generate.specs.Views.{plain_program, scopes}
 use Rattle.sp_generate.proofs.simple.put_send.Goals as goal
 

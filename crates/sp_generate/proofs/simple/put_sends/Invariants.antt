@@ -1,7 +1,7 @@
 use Rattle.std.proofs.Common.{map, drop}
 use Rattle.sp_tree.specs.CheckedOf.{expression_of}
 use Rattle.sp_tree.specs.Bare.{bare_expression}
-use Rattle.sp_writer.specs.Adds.{Covers}
+use Rattle.sp_base.specs.Adds.{Covers}
 use Rattle.sp_generate.specs.Views.{plain_program, scopes}
 use Rattle.sp_generate.specs.CodeBuffers.{sends_code}
 use Rattle.sp_generate.proofs.simple.put_sends.Given as goal

@@ -5,7 +5,7 @@ use Rattle.sp_tree.specs.Bare.{bare_expression, bare_width}
 use Rattle.sp_tree.specs.CheckedOf.{expression_of, width_of}
 use Rattle.sp_code.specs.Scopes.{kind_at, kind_of, is_given}
 use Rattle.sp_code.specs.TreeCode.{value_code, width_code, write_instr}
-use Rattle.sp_writer.proofs.Additions.{joined}
+use Rattle.sp_base.proofs.Additions.{joined}
 use Rattle.sp_generate.specs.Views.{plain_program, scopes}
 use Rattle.sp_generate.proofs.simple.put_write.Goals as goal
 

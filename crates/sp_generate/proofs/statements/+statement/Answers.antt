@@ -23,7 +23,7 @@ use Rattle.sp_generate.specs.CodeBuffers.{buffer_after_case}
 use Rattle.sp_generate.specs.CodeBuffers.{buffer_after_passed, filled_ends, filled_tests}
 use Rattle.sp_generate.specs.Views.{plain_program, scopes}
 use Rattle.sp_varsets.proofs.StatementRecords.{statements_on, statements_end, arms_on, arms_end}
-use Rattle.sp_writer.proofs.Additions.{noted}
+use Rattle.sp_base.proofs.Additions.{noted}
 use Rattle.sp_generate.proofs.Patches.{patched}
 use Rattle.sp_generate.proofs.Forms.{wrote, went, empty_is, statement_is, all_step, sequence_done, else_is}
 use Rattle.sp_generate.proofs.Forms.{child_next, ended_by}

@@ -1,7 +1,7 @@
 use Rattle.std.proofs.Common.{◌≡◌, ◌++◌, length, map, drop}
 use Rattle.sp_tree.specs.CheckedOf.{statements, statement_of, arms, arm_of}
 use Rattle.sp_tree.specs.Bare.{bare_arms}
-use Rattle.sp_writer.specs.Adds.{Keeps}
+use Rattle.sp_base.specs.Adds.{Keeps}
 use Rattle.sp_generate.specs.Views.{plain_program}
 use Rattle.sp_generate.specs.CodeBuffers.{starts_of, ends_of}
 use Rattle.sp_generate.specs.BuffersAfter.{with_all, with_children, with_arms, children_of}

@@ -1,7 +1,7 @@
 use Rattle.std.proofs.Common.{◌+◌, map, drop}
 use Rattle.sp_tree.specs.CheckedOf.{sends, expression_of}
 use Rattle.sp_lines.specs.Marks.{all_marks}
-use Rattle.sp_writer.specs.Adds.{Covers}
+use Rattle.sp_base.specs.Adds.{Covers}
 use Rattle.sp_lines.proofs.statements.put_sends.Given as goal
 
 abbrev pub invariant-loop-e : goal.invariant-loop-e

@@ -1,6 +1,6 @@
 use Rattle.std.proofs.Common.{drop}
 use Rattle.sp_lines.specs.Marks.{own, test_marks}
-use Rattle.sp_writer.specs.Adds.{Covers}
+use Rattle.sp_base.specs.Adds.{Covers}
 use Rattle.sp_lines.proofs.statements.put_test.Given as goal
 
 abbrev pub invariant-loop-constant : goal.invariant-loop-constant

@@ -1,6 +1,6 @@
 use Rattle.std.proofs.Common.{◌≤◌, drop, true}
 use Rattle.sp_report.specs.Timeline.{numbered_lines}
-use Rattle.sp_writer.specs.Adds.{Covers}
+use Rattle.sp_base.specs.Adds.{Covers}
 use Rattle.sp_report.proofs.timeline.put_numbered.Given as goal
 
 -- what was put, and what the lines from here on come to

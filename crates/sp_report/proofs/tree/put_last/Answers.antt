@@ -2,7 +2,7 @@ use Rattle.std.proofs.Common.{◌≡◌, ◌∙◌, ◌++◌, ◌-◌, ◌∷◌
 use Rattle.std.proofs.Common.{decimal, ap, subst, arith}
 use Rattle.sp_base.specs.declared.name.Pair.{Pair}
 use Rattle.sp_report.specs.Tree.{last_pair}
-use Rattle.sp_writer.specs.Adds.{Adds}
+use Rattle.sp_base.specs.Adds.{Adds}
 use Rattle.sp_report.proofs.tree.put_last.Goals as goal
 
 some_is : (x y : Pair) → ◌≡◌ {A = Option Pair} (Some x) (Some y) → x ≡ y

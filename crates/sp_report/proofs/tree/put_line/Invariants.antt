@@ -1,6 +1,6 @@
 use Rattle.std.proofs.Common.{take}
 use Rattle.sp_report.specs.Tree.{indent}
-use Rattle.sp_writer.specs.Adds.{Adds}
+use Rattle.sp_base.specs.Adds.{Adds}
 use Rattle.sp_report.proofs.tree.put_line.Given as goal
 
 -- two spaces for each pair so far

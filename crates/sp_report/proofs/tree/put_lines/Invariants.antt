@@ -1,5 +1,5 @@
 use Rattle.sp_report.specs.Tree.{tree_lines}
-use Rattle.sp_writer.specs.Adds.{Covers}
+use Rattle.sp_base.specs.Adds.{Covers}
 use Rattle.sp_report.proofs.tree.put_lines.Given as goal
 
 -- what was put, and the lines of the names that are left

@@ -3,7 +3,7 @@ use Rattle.sp_journal.specs.Births.{births}
 use Rattle.sp_journal.specs.Names.{proc_name}
 use Rattle.sp_report.specs.Fits.{table_conditions}
 use Rattle.sp_report.specs.WaitingText.{has_ended}
-use Rattle.sp_writer.specs.declared.writer.Writer.{Writer}
+use Rattle.sp_base.specs.declared.writer.Writer.{Writer}
 use Rattle.sp_report.proofs.Children.{none_left, one_left}
 use Rattle.sp_report.proofs.waiting.put_children.Goals as goal
 use Rattle.sp_report.proofs.waiting.put_children.Goals.{then-not-has_ended, else-not-has_ended}

@@ -2,7 +2,7 @@ use Rattle.std.proofs.Common.{◌-◌}
 use Rattle.sp_journal.specs.Births.{births}
 use Rattle.sp_report.specs.Fits.{table_conditions}
 use Rattle.sp_report.specs.WaitingText.{children_text, unended_children}
-use Rattle.sp_writer.specs.Adds.{Adds}
+use Rattle.sp_base.specs.Adds.{Adds}
 use Rattle.sp_report.proofs.waiting.put_children.Given as goal
 
 -- the children so far

@@ -1,7 +1,7 @@
 use Rattle.sp_journal.specs.Births.{births}
 use Rattle.sp_report.specs.Fits.{table_conditions}
 use Rattle.sp_report.specs.WaitingText.{waiting_lines}
-use Rattle.sp_writer.specs.Adds.{Covers}
+use Rattle.sp_base.specs.Adds.{Covers}
 use Rattle.sp_report.proofs.waiting.put_lines.Given as goal
 
 -- what was put, and the lines of the names that are left

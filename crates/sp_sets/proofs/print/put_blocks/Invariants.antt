@@ -1,7 +1,7 @@
 use Rattle.std.proofs.Common.{◌≡◌, ◌++◌, ℕ, List, map}
 use Rattle.sp_tree.specs.CheckedOf.{block_of}
 use Rattle.sp_sets.specs.SetsText.{IsOfBlock, Joined}
-use Rattle.sp_writer.specs.Adds.{Keeps}
+use Rattle.sp_base.specs.Adds.{Keeps}
 use Rattle.sp_sets.proofs.print.put_blocks.Given as goal
 
 abbrev pub invariant-each : goal.invariant-each

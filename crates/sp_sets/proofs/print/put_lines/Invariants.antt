@@ -1,6 +1,6 @@
 use Rattle.std.proofs.Common.{◌≡◌, ◌++◌, ℕ, List}
 use Rattle.sp_sets.specs.SetsText.{IsLineAt, Joined}
-use Rattle.sp_writer.specs.Adds.{Keeps}
+use Rattle.sp_base.specs.Adds.{Keeps}
 use Rattle.sp_sets.proofs.print.put_lines.Given as goal
 
 abbrev pub invariant-each : goal.invariant-each

@@ -1,7 +1,7 @@
 use Rattle.std.proofs.Common.{drop}
 use Rattle.std.specs.List.{flat_map}
 use Rattle.sp_sets.specs.SetsText.{name_text}
-use Rattle.sp_writer.specs.Adds.{Covers}
+use Rattle.sp_base.specs.Adds.{Covers}
 use Rattle.sp_sets.proofs.variables.put_names.Given as goal
 
 abbrev pub invariant-loop-x : goal.invariant-loop-x

@@ -1,7 +1,7 @@
 use Rattle.std.proofs.Common.{map, drop}
 use Rattle.sp_tree.specs.CheckedOf.{statements, statement_of, arms, arm_of}
 use Rattle.sp_sets.specs.Forks.{statements_lines, arms_lines}
-use Rattle.sp_writer.specs.Adds.{Covers}
+use Rattle.sp_base.specs.Adds.{Covers}
 use Rattle.sp_sets.proofs.walk.+walk.Given as goal
 
 abbrev pub invariant-statements_lines-loop-s : goal.invariant-statements_lines-loop-s

@@ -1,7 +1,7 @@
 use Rattle.std.proofs.Common.{map, drop}
 use Rattle.sp_tree.specs.CheckedOf.{statements, statement_of}
 use Rattle.sp_sets.specs.Forks.{process_lines}
-use Rattle.sp_writer.specs.Adds.{Covers}
+use Rattle.sp_base.specs.Adds.{Covers}
 use Rattle.sp_sets.proofs.walk.process_lines.Given as goal
 
 abbrev pub invariant-loop-k : goal.invariant-loop-k

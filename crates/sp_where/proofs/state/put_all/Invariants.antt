@@ -1,7 +1,7 @@
 use Rattle.std.specs.List.{flat_map}
 use Rattle.sp_kernel.specs.Kernels.{system_of}
 use Rattle.sp_replay.specs.TraceAnswers.{last_in}
-use Rattle.sp_writer.specs.Adds.{Covers}
+use Rattle.sp_base.specs.Adds.{Covers}
 use Rattle.sp_where.specs.KnownOf.{known_of}
 use Rattle.sp_where.specs.States.{named_text}
 use Rattle.sp_where.proofs.state.put_all.Given as goal

@@ -1,6 +1,6 @@
 use Rattle.std.proofs.Common.{◌++◌, refl, codes}
 use Rattle.sp_base.specs.Faults.{fault_name}
-use Rattle.sp_writer.proofs.Additions.{joined}
+use Rattle.sp_base.proofs.Additions.{joined}
 use Rattle.sp_where.specs.States.{line_start}
 use Rattle.sp_where.proofs.state.put_faulted.Goals as goal
 

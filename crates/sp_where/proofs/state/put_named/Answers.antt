@@ -1,7 +1,7 @@
 use Rattle.std.proofs.Common.{◌∙◌, ◌++◌, ℕ, ap, refl}
 use Rattle.sp_kernel.specs.Kernels.{system_of}
 use Rattle.sp_replay.specs.TraceAnswers.{last_in}
-use Rattle.sp_writer.proofs.Additions.{joined}
+use Rattle.sp_base.proofs.Additions.{joined}
 use Rattle.sp_where.specs.KnownOf.{known_of}
 use Rattle.sp_where.specs.States.{first_line, lines_below}
 use Rattle.sp_where.proofs.state.put_named.Goals as goal

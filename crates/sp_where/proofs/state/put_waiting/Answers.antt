@@ -1,6 +1,6 @@
 use Rattle.std.proofs.Common.{◌++◌, refl, codes}
 use Rattle.sp_journal.specs.Births.{births}
-use Rattle.sp_writer.proofs.Additions.{joined}
+use Rattle.sp_base.proofs.Additions.{joined}
 use Rattle.sp_where.specs.States.{line_start}
 use Rattle.sp_where.specs.Values.{cell_channel_text}
 use Rattle.sp_where.proofs.state.put_waiting.Goals as goal

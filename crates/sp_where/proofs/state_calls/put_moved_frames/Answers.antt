@@ -1,6 +1,6 @@
 use Rattle.std.proofs.Common.{refl}
 use Rattle.sp_code.specs.Memory.{last_frames}
-use Rattle.sp_writer.proofs.Additions.{ends}
+use Rattle.sp_base.proofs.Additions.{ends}
 use Rattle.sp_where.specs.KnownOf.{known_of}
 use Rattle.sp_where.proofs.StateLines.{none_left}
 use Rattle.sp_where.proofs.state_calls.put_moved_frames.Goals as goal

@@ -1,6 +1,6 @@
 use Rattle.std.proofs.Common.{◌≤◌, length}
 use Rattle.sp_code.specs.Memory.{last_frames}
-use Rattle.sp_writer.specs.Adds.{Covers}
+use Rattle.sp_base.specs.Adds.{Covers}
 use Rattle.sp_where.specs.KnownOf.{known_of}
 use Rattle.sp_where.specs.StateCalls.{frames_text}
 use Rattle.sp_where.proofs.state_calls.put_own_frames.Given as goal

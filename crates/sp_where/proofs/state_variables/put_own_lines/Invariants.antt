@@ -1,6 +1,6 @@
 use Rattle.std.proofs.Common.{drop}
 use Rattle.sp_machine.specs.Frames.{frame_of}
-use Rattle.sp_writer.specs.Adds.{Covers}
+use Rattle.sp_base.specs.Adds.{Covers}
 use Rattle.sp_where.specs.KnownOf.{known_of}
 use Rattle.sp_where.specs.StateVariables.{own_lines}
 use Rattle.sp_where.proofs.state_variables.put_own_lines.Given as goal

@@ -1,9 +1,10 @@
 //! Writers, and what all of them write.
 
 ghost use Rattle.std.specs.Prelude.{◌≡◌, ◌++◌, ◌∷◌, [], IfOk, OnOk, Ok, ℕ, true, false};
-ghost use Rattle.sp_writer.specs.Adds.{Adds, Keeps};
+ghost use Rattle.sp_base.specs.Adds.{Adds, Keeps};
 
-use sp_base::{List, Memory};
+use crate::halt::Memory;
+use crate::list::List;
 use std::alloc::Global;
 
 /// A list that is written piece by piece. A writer that was refused memory is lost: it writes nothing more, and what it

@@ -1,7 +1,7 @@
 -- None of this belongs to what the program promises: it is for contracts between crates.
 -- What a writer has after a call, if memory was not refused up to then: a writer that was refused memory is lost.
 use Rattle.std.specs.Prelude.{◌≡◌, List, ◌++◌, false}
-use Rattle.sp_writer.specs.declared.writer.Writer.{Writer}
+use Rattle.sp_base.specs.declared.writer.Writer.{Writer}
 
 -- if the new writer is not lost, the old one was not, and this holds
 abbrev pub Keeps : {T : Type 0} → Writer T → Writer T → Type 0 → Type 0

@@ -4,10 +4,12 @@ ghost use Rattle.std.specs.Prelude.{decimal};
 ghost use Rattle.std.specs.Fmt.{signed_decimal};
 ghost use Rattle.sp_base.specs.Names.{name_text, channel_text};
 ghost use Rattle.sp_base.specs.Places.{place_text};
-ghost use Rattle.sp_writer.specs.Adds.{Adds};
+ghost use Rattle.sp_base.specs.Adds.{Adds};
 
+use crate::decimal::{put_decimal, put_signed};
+use crate::name::{ChanName, ProcName};
+use crate::place::Place;
 use crate::writer::Writer;
-use sp_base::{ChanName, Place, ProcName, put_decimal, put_signed};
 
 impl Writer<u8> {
     /// Puts the number in decimal last, as `0` or `42`.
