@@ -1,11 +1,11 @@
-//! Tests of the calls of `sp_values`, each once.
+//! Tests of the calls of arithmetic of `sp_machine`, each once.
 
 use sp_base::{Fault, MAXINT};
-use sp_tree::{BinaryOp, UnaryOp};
-use sp_values::{
-    absolute_of, binary, in_range, modulus, next_of, odd, previous_of, product, quotient,
-    square_of, truth_of, unary, within,
+use sp_machine::{
+    absolute_of, binary, in_range, modulus, next_of, odd, previous_of, product, quotient, square_of,
+    truth_of, unary, within,
 };
+use sp_tree::{BinaryOp, UnaryOp};
 
 #[test]
 fn sums_and_products_too_large(rt: HostRuntime) {

@@ -1,4 +1,4 @@
-//! Rows of the meaning (`sp_meaning`), and tests of the arithmetic of expressions (`sp_values`).
+//! Rows of the meaning (`sp_meaning`), and tests of the arithmetic of expressions (`sp_machine`).
 //!
 //! To know:
 //! - `proofs/ProcessRows.antt` and `ChannelRows` run small programs along schedules: the prover computes each run by
@@ -7,7 +7,7 @@
 //!   limit.
 //! - `proofs/Programs.antt` has the programs, worked by hand, and `Trees` the trees of their texts; `TreeRows` says
 //!   that those trees give these programs. The gallery runs the same texts.
-//! - `src/arithmetic.rt`: the calls of `sp_values`.
+//! - `src/arithmetic.rt`: the calls of arithmetic of `sp_machine`.
 #![tactic(auto)]
 
 #[cfg(test)]

@@ -1,3 +1,4 @@
+mod ByteRuns
 mod FrameLists
 mod Positions
 mod OutputBytes

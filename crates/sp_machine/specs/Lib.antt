@@ -1,3 +1,5 @@
+pub mod ReadResults
+pub mod OperatorResults
 pub mod StackEntries
 pub mod Frames
 pub mod FirstFrames

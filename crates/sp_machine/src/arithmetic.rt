@@ -5,20 +5,20 @@ ghost use Rattle.sp_code.specs.Machine.{Stuck, on_two, on_one};
 ghost use Rattle.sp_code.specs.Memory.{memory};
 ghost use Rattle.sp_code.specs.PlainStore.{plain};
 ghost use Rattle.sp_code.specs.declared.instr.Instr.TheVariants as instr;
-ghost use Rattle.sp_values.specs.OperatorResults.{operator_result};
+ghost use Rattle.sp_machine.specs.OperatorResults.{operator_result};
 ghost use Rattle.sp_machine.specs.StackEntries.{entries_of};
 ghost use Rattle.sp_machine.specs.Procs.{equality_step, does, CameBy, KeepsNumberAndInput, code_run_of, memory_of};
 ghost use Rattle.sp_machine.specs.Conversions.{conversion_result};
 
 use crate::have;
+use crate::operators::{
+    absolute_of, binary, next_of, odd, previous_of, square_of, truth_of, unary, within,
+};
 use crate::stack::Operand;
 use crate::state::{Interrupt, State, unpacked};
 use sp_base::{Fault, Limits, Memory};
 use sp_code::{Code, Instr};
 use sp_tree::{BinaryOp, UnaryOp};
-use sp_values::{
-    absolute_of, binary, next_of, odd, previous_of, square_of, truth_of, unary, within,
-};
 
 /// An operation on one ordinal.
 #[derive(Clone, Copy)]

@@ -9,22 +9,22 @@ ghost use Rattle.sp_code.specs.Machine.{Stuck, reads, writes, writes_wide, print
 ghost use Rattle.sp_code.specs.Memory.{memory, is_held, left_after, position_in, position_at, or_zero, put_cell};
 ghost use Rattle.sp_code.specs.PlainStore.{plain};
 ghost use Rattle.sp_code.specs.declared.instr.Instr.TheVariants as instr;
-ghost use Rattle.sp_values.specs.ReadResults.{read_result_of};
+ghost use Rattle.sp_machine.specs.ReadResults.{read_result_of};
 ghost use Rattle.sp_machine.specs.StackEntries.{entries_of};
 ghost use Rattle.sp_machine.specs.Procs.{does, over_step, CameBy, KeepsNumberAndInput, code_run_of, memory_of};
 ghost use Rattle.sp_machine.specs.Texts.{item_in, text_of, is_cut, Emits};
 
 use crate::have;
+use crate::items::{
+    ReadResult, byte_of, char_in, cut_to, is_at_line_end, line_length, number_in, truth_text,
+};
+use crate::operators::truth_of;
 use crate::stack::Operand;
 use crate::state::{Interrupt, State};
 use sp_base::{Fault, Limits, Memory, put_signed};
 use sp_cell::{Address, Cell, Spot};
 use sp_code::Code;
 use sp_store::Store;
-use sp_values::{
-    ReadResult, byte_of, char_in, cut_to, is_at_line_end, line_length, number_in, truth_of,
-    truth_text,
-};
 
 /// What is read.
 #[derive(Clone, Copy)]

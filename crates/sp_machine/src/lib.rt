@@ -1,5 +1,6 @@
 //! One process of the stack machine: its turns, and what a fork, a join and an answer do to it. The process runs any
 //! code that is sound.
+//! It has the arithmetic of the language on ordinals too, and values as the input and the output have them.
 //!
 //! Calls:
 //! - `first_fits`: whether the frame of the program has no more cells than the limit. It is asked before `Proc::root`.
@@ -16,6 +17,27 @@
 //!   it, and what they share is shared. Where memory is refused, it is as before.
 //! - `Proc::join`: takes back from a child that has ended what moved to it.
 //!
+//! Calls of arithmetic:
+//! - `in_range`: the number where it is an integer of the language, else F2. `within`: the number where it is from
+//!   `low` to `high`, else F1.
+//! - `next_of`, `previous_of`: the number after one below `high`, or before one above `low`, else F1.
+//! - `absolute_of`, `square_of`, `product`: the absolute value, the square, the product, or F2.
+//! - `quotient`: truncated toward zero, or F2; F3 by 0. `modulus`: the remainder, from 0 to `n - 1`; F3 where `n` is
+//!   not above 0.
+//! - `odd`, `truth_of`: 1 for true, 0 for false.
+//! - `unary`, `binary`: what an operator gives of one ordinal or of two, or the fault.
+//!
+//! Calls of items:
+//! - `number_in`: an integer that stands first behind blanks, with its sign, and how many bytes were taken; F17
+//!   without a digit, F18 where nothing is behind the blanks, F2 outside the integers.
+//! - `char_in`: the next byte, a space for a line feed, and that one byte was taken; F18 where nothing is left.
+//! - `line_length`, `is_at_line_end`: how many bytes the line has yet, with its line feed; whether nothing is left of
+//!   it.
+//! - `truth_text`: `false` for a number that is not above 0, else `true`. `byte_of`: the ordinal modulo 256, 0 to 255
+//!   also of a negative one.
+//! - `cut_to`: the text as far as the width goes, where it is to be cut, else all of it.
+//! - `ReadResult`: what reading gives, a value and how many bytes it took, or a fault.
+//!
 //! To know:
 //! - The types are `Proc`, `Answer`, `Stop` (why a turn ended), `State`, `Stack`, `Operand`, `Frames`, `Frame`, `Home`.
 //! - `turn`, `root` and `split` require one layout for each block, `turn` also that frames have room for formals.
@@ -30,10 +52,16 @@
 //! - A fork that asks for many variables notes once where all stand that the process sees (`src/seen.rt`), so that it
 //!   takes no time for each pair of one that is asked for and one of a frame. For a few, each frame is searched.
 //! - After want of memory nothing is said of a process but that it keeps its number and its input.
+//! - Each call of arithmetic gives exactly what its definition in `sp_tree`'s `specs/Operators.antt` gives;
+//!   `specs/OperatorResults.antt` leads from a result in memory to what is defined.
+//! - All calls of items but `cut_to` give exactly what their definitions in `sp_tree`'s `specs/Items.antt` give;
+//!   `specs/ReadResults.antt` leads from a `ReadResult` in memory to what is defined.
 //!
 //! To change:
 //! - An instruction: its function, and `any_step` in `src/turn.rt`; `step` too, if programs make it often.
 //! - The frames: `src/frames.rt`.
+//! - An operator: `src/operators.rt`, and `sp_tree`'s `specs/Operators.antt`.
+//! - An item: `src/items.rt`, and `sp_tree`'s `specs/Items.antt`.
 #![tactic(auto)]
 
 mod arithmetic;
@@ -43,7 +71,9 @@ mod control;
 mod first;
 mod frames;
 mod io;
+mod items;
 mod layouts;
+mod operators;
 mod proc;
 mod seen;
 mod send;
@@ -57,7 +87,14 @@ mod views;
 
 pub use first::first_fits;
 pub use frames::{Frame, Frames, Home, referred};
+pub use items::{
+    ReadResult, byte_of, char_in, cut_to, is_at_line_end, line_length, number_in, truth_text,
+};
 pub use layouts::layout_of;
+pub use operators::{
+    absolute_of, binary, in_range, modulus, next_of, odd, previous_of, product, quotient,
+    square_of, truth_of, unary, within,
+};
 pub use proc::{Answer, Proc};
 pub use stack::{Operand, Stack};
 pub use state::{State, Stop};

@@ -1,6 +1,6 @@
 -- All of this belongs to what the program promises (docs/promise.txt).
 -- Numbers read from the input, and items as they are written. The meaning and the machine's definition share it, so
--- that both read and write the same bytes; `sp_values` promises it.
+-- that both read and write the same bytes; `sp_machine` promises it.
 use Rattle.std.specs.Prelude.{ℕ, suc, ◌+◌, ◌-◌, ◌*◌, ◌==◌, nat_abs, ℤ, pos, neg_ℤ, List, [], ◌∷◌, ◌++◌, Bool, true}
 use Rattle.std.specs.Prelude.{false, ◌||◌, if◌then◌else◌, int_le, length, take, drop, replicate, codes}
 use Rattle.sp_base.specs.declared.fault.Fault.{Fault}

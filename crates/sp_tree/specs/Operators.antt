@@ -1,6 +1,6 @@
 -- All of this belongs to what the program promises (docs/promise.txt).
 -- Operators and standard functions of ordinals, as functions to a number or a fault. The meaning and the code share
--- them, and `sp_values` promises them, so that no operator is said twice. `succ` tests the greatest number of its
+-- them, and `sp_machine` promises them, so that no operator is said twice. `succ` tests the greatest number of its
 -- type alone and `pred` the least, since a value in range is what either is given.
 use Rattle.std.specs.Prelude.{ℤ, pos, ◌+ℤ◌, ◌-ℤ◌, ◌*ℤ◌, neg_ℤ, nat_abs, int_lt, int_le, int_div, int_rem, Bool, ◌&&◌}
 use Rattle.std.specs.Prelude.{◌||◌, not, if◌then◌else◌}

@@ -1,7 +1,7 @@
 //! What the operators and standard functions give of ordinals, or the fault.
 
 ghost use Rattle.std.specs.Prelude.{◌≡◌, ◌≢◌, int_div, int_rem, pos, ◌*ℤ◌};
-ghost use Rattle.sp_values.specs.OperatorResults.{operator_result};
+ghost use Rattle.sp_machine.specs.OperatorResults.{operator_result};
 ghost use Rattle.sp_tree.specs.declared.operators.BinaryOp.TheVariants.{Div, Mod};
 ghost use Rattle.sp_tree.specs.Operators.{Yields, truth, integer, value_in_range, successor, predecessor};
 ghost use Rattle.sp_tree.specs.Operators.{absolute_value, square};

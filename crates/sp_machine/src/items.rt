@@ -6,7 +6,7 @@ ghost use Rattle.sp_tree.specs.Characters.{is_blank, is_digit};
 ghost use Rattle.sp_tree.specs.Items.{blanks, digits, number_from, number_in, number_after};
 ghost use Rattle.sp_tree.specs.Items.{digits_after};
 ghost use Rattle.sp_tree.specs.Items.{char_in, line_length, at_line_end, truth_text, byte};
-ghost use Rattle.sp_values.specs.ReadResults.{read_result_of};
+ghost use Rattle.sp_machine.specs.ReadResults.{read_result_of};
 
 use sp_base::{Fault, MAXINT};
 

@@ -1,5 +1,5 @@
 -- None of this belongs to what the program promises: it is for contracts between crates.
--- What a call of an operator gives, as the definitions of sp_tree have it. The contracts of sp_values, the machine
+-- What a call of an operator gives, as the definitions of sp_tree have it. The contracts of operators, the machine
 -- and the interpreter cite it.
 use Rattle.std.specs.Prelude.{ℤ, Result, Ok, Err}
 use Rattle.sp_base.specs.declared.fault.Fault.{Fault}

@@ -1,2 +1,0 @@
-pub mod ReadResults
-pub mod OperatorResults
