@@ -1,7 +1,7 @@
 //! The length of each form of statement and expression, beside the table of lengths.
 
 use sp_front::compiled;
-use sp_length::length;
+use sp_generate::length;
 use std::alloc::Global;
 
 struct Row<'a> {

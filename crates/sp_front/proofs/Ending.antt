@@ -10,7 +10,7 @@ use Rattle.sp_varsets.specs.declared.sets.Sets.{Sets}
 use Rattle.sp_varsets.specs.AreSets.{AreSets}
 use Rattle.sp_code.specs.declared.code.Parts.{Parts}
 use Rattle.sp_code.specs.Places.{tree_length}
-use Rattle.sp_length.specs.CappedLength.{capped_length}
+use Rattle.sp_generate.specs.CappedLength.{capped_length}
 use Rattle.sp_tree.specs.Bare.{without_places}
 use Rattle.sp_front.specs.declared.analysis.Accepted.{Accepted}
 use Rattle.sp_front.specs.Compiles.{IsAccepted}

@@ -7,8 +7,7 @@ use crate::analysis::compile;
 use crate::apart::{OfText, apart};
 use crate::to_code::LONG_CODE;
 use sp_base::Halt;
-use sp_generate::is_too_long;
-use sp_length::length;
+use sp_generate::{is_too_long, length};
 use std::alloc::Global;
 use std::thread::Threads;
 

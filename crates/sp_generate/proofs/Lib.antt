@@ -1,3 +1,4 @@
+mod LengthSums
 mod Tables
 mod PartCode
 mod Patches

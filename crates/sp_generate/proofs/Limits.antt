@@ -1,7 +1,7 @@
 -- A length as it is told is beyond the limit of code exactly where the length is.
 use Rattle.std.proofs.Common.{◌≡◌, ℕ, ◌<◌, ◌≤◌, ◌↔◌, Bool, true, false, true≢false, sym, arith}
 use Rattle.std.specs.Prelude.{min, IsTrue}
-use Rattle.sp_length.specs.CappedLength.{capped_length}
+use Rattle.sp_generate.specs.CappedLength.{capped_length}
 
 within : (m n : ℕ) → min n m ≤ 1048576 → 1048576 < m → n ≤ 1048576
 within m n h k = omega (arith, h, k)

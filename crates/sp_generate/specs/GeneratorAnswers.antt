@@ -9,7 +9,7 @@ use Rattle.sp_code.specs.declared.code.Parts.{Parts}
 use Rattle.sp_code.specs.Places.{tree_length}
 use Rattle.sp_code.specs.TreeCode.{program_code}
 use Rattle.sp_code.specs.Shares.{SetsAre}
-use Rattle.sp_length.specs.CappedLength.{capped_length}
+use Rattle.sp_generate.specs.CappedLength.{capped_length}
 use Rattle.sp_generate.specs.Handings.{IsInOrder}
 use Rattle.sp_generate.specs.declared.program.GenError.{GenError}
 use Rattle.sp_generate.specs.declared.program.GenError.TheVariants.{TooLong, Memory}

@@ -1,3 +1,5 @@
+pub mod CappedLength
+pub mod TreeLengths
 pub mod Sorts
 pub mod CodeTables
 pub mod Views

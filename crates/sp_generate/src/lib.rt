@@ -1,9 +1,11 @@
 //! The code of a checked tree, instruction by instruction, with what its forks hand over.
+//! Besides, how many instructions that is, before any of it is made.
 //!
 //! Calls:
 //! - `generate`: of a tree with its sets, its code (`IsCodeOf`), or want of memory, where the code has at most
-//!   1,048,576 instructions; else `GenError::TooLong` with its length as `length` of `sp_length` tells it.
+//!   1,048,576 instructions; else `GenError::TooLong` with its length as `length` tells it.
 //! - `is_too_long`: whether code of this length, as `length` tells it, is longer than code may be.
+//! - `length`: the number of instructions of the program's code, or 4,294,967,295 where it has more (`told`).
 //!
 //! Laws:
 //! - `one_code`: a program has one code.
@@ -25,6 +27,8 @@
 //!   them.
 //! - `proofs/Forms` has a lemma for each form, `CaseTests` the jumps of a `case`. `Inside`, `SetTests` and
 //!   `StatementCode` lead from the numbers of statements to the sets of any statement; `OneCode` is the law.
+//! - `length` is one pass over the tree in memory, and takes no memory. The sums are told up to the greatest `u32`, which
+//!   stands for every greater length: so no sum wraps (`src/length_sum.rt`, `specs/CappedLength.antt`).
 //!
 //! Lemmas for others, in `proofs`:
 //! - `Limits`: a length as it is told is beyond the limit of code exactly where the length is.
@@ -32,6 +36,7 @@
 //! To change:
 //! - A form: `Emitted` of `sp_code`, the function of its name, its lemma in `proofs/Forms`, its clauses in `Tables`,
 //!   `Inside` and `StatementCode`.
+//! - The length of a form: `specs/Lengths.antt` of `sp_code`, then the function of its syntax class.
 #![tactic(auto)]
 
 mod blocks;
@@ -40,19 +45,24 @@ mod choices;
 mod code_buffer;
 mod code_context;
 mod code_tables;
+mod expression_lengths;
 mod expressions;
 mod frames;
 mod handings;
 mod law;
+mod length_sum;
 mod levels;
 mod lists;
 mod numbers;
 mod program;
+mod program_length;
 mod room;
 mod simple;
 mod single;
 mod statement_context;
+mod statement_lengths;
 mod statements;
 
 pub use law::one_code;
 pub use program::{GenError, generate, is_too_long};
+pub use program_length::length;

@@ -20,7 +20,7 @@ ghost use Rattle.sp_varsets.specs.AreSets.{AreSets, HaveOwnNumbers, HaveEarlierP
 ghost use Rattle.sp_interfere.specs.Rules.{rules_first};
 ghost use Rattle.sp_interfere.specs.Verdict.{IsVerdict};
 ghost use Rattle.sp_code.specs.Places.{tree_length};
-ghost use Rattle.sp_length.specs.CappedLength.{capped_length};
+ghost use Rattle.sp_generate.specs.CappedLength.{capped_length};
 ghost use Rattle.sp_lines.specs.Marks.{marks};
 ghost use Rattle.sp_generate.specs.GeneratorAnswers.{Answered};
 ghost use Rattle.sp_front.specs.Codes.{Codes};
@@ -88,11 +88,11 @@ pub fn check_sets(checked: &Checked, sets: &Sets) -> Result<(), Refusal>
     judged
 }
 
-/// `sp_length::length`.
+/// `sp_generate::length`.
 pub fn length_of(program: &Checked) -> u32
     ensures { result ≡ capped_length (tree_length (plain_of program.now)) }
 {
-    let length = sp_length::length(program);
+    let length = sp_generate::length(program);
     length
 }
 

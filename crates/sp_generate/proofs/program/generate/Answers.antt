@@ -2,7 +2,7 @@ use Rattle.std.proofs.Common.{ℕ, ◌≤◌, subst, ◌∙◌}
 use Rattle.sp_tree.specs.CheckedOf.{program_of}
 use Rattle.sp_tree.specs.Bare.{without_places}
 use Rattle.sp_code.specs.Places.{tree_length}
-use Rattle.sp_length.specs.CappedLength.{capped_length}
+use Rattle.sp_generate.specs.CappedLength.{capped_length}
 use Rattle.sp_generate.proofs.Limits.{not_long, told_within}
 use Rattle.sp_generate.proofs.StatementCode.{is_code}
 use Rattle.sp_generate.proofs.program.generate.Goals as goal

@@ -1,2 +1,0 @@
-pub mod CappedLength
-pub mod Trees
