@@ -1,3 +1,7 @@
+mod Ways
+mod EntryNumbers
+mod NumberedJournals
+mod NumberedEnds
 mod DeadlockWaiters
 mod Races
 mod Conclusions

@@ -21,7 +21,7 @@ use Rattle.sp_meaning.specs.Ends.{EndIs, EndsSo}
 use Rattle.sp_meaning.specs.LocalWork.{RunInput}
 use Rattle.sp_meaning.specs.Runs.{StateOf}
 use Rattle.sp_judge.specs.Prefixes.{WaitersAreSilent}
-use Rattle.sp_numbered.specs.Journals.{IsWitness}
+use Rattle.sp_execute.specs.NumberedJournals.{IsWitness}
 use Rattle.sp_witness.specs.Contention.{NeverContends}
 use Rattle.sp_witness.specs.TableNumbers.{IsPlain}
 use Rattle.sp_witness.specs.OccurrenceNumbers.{witness_journal}

@@ -16,7 +16,7 @@ use Rattle.sp_journal.specs.Names.{Channel, chan_name, proc_name}
 use Rattle.sp_judge.specs.Races.{IsFault}
 use Rattle.sp_link.specs.Premises.{IsReady}
 use Rattle.sp_meaning.specs.LocalWork.{RunInput}
-use Rattle.sp_numbered.specs.Journals.{IsWitness}
+use Rattle.sp_execute.specs.NumberedJournals.{IsWitness}
 use Rattle.sp_replay.specs.declared.replayer.Replayed.{Replayed}
 use Rattle.sp_witness.specs.Contention.{NeverContends}
 use Rattle.sp_witness.specs.OccurrenceNumbers.{witness_journal}

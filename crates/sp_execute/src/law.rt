@@ -24,9 +24,9 @@ ghost use Rattle.sp_execute.specs.Witnesses.{IsFollowedToFault, ShowsRace};
 ghost use Rattle.sp_link.specs.Premises.{IsReady};
 ghost use Rattle.sp_tree.specs.Plain.{Stmt};
 
+use crate::numbering_laws::{witnesses_are_journals, witnesses_end_in_contention};
 use sp_judge::runs_without_a_fault_are_clean;
 use sp_lines::waiting_processes_are_shown;
-use sp_numbered::{witnesses_are_journals, witnesses_end_in_contention};
 use sp_shown::landings_have_marks;
 use sp_witness::ordered_runs_never_contend;
 

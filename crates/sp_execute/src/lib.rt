@@ -1,5 +1,6 @@
 //! A program from its code to its verdict: the run of its code is concluded to be one of the program, judged, and both
 //! are given. Code that has no source is run too, to its end alone.
+//! By laws, a run's journal by names has one by numbers, and so has the witness of its race.
 //!
 //! Calls:
 //! - `run_program`: a run of a ready program's code by 1 to 64 workers, with its exact verdict: for each program with
@@ -29,6 +30,12 @@
 //!   state that it gives, stand at statements of the text.
 //! - `races_are_shown`: along the witness of a run's race the meaning is defined, to the fault F6 of the later offer;
 //!   and a run without a fault is ordered exactly where no lawful schedule meets contention.
+//! - `runs_can_be_numbered`: occurrences along which the meaning of a ready program is defined, of which none but the
+//!   last is a fault, are those of a journal by numbers that can be named (`Numbered`).
+//! - `witnesses_are_journals`: the witness of the least race of a ready program's run without a fault is such a
+//!   journal, and shows the race (`IsWitness`).
+//! - `witnesses_end_in_contention`: along that witness the program comes to one end alone, the fault F6 of the process
+//!   of the later offer.
 //!
 //! To know:
 //! - `run_program` runs the code (`run` of `sp_runner`), `conclude` takes the run as one of the program, `judge`
@@ -42,6 +49,7 @@
 //!   program, `proofs/Races.antt` from a run's verdict to its witness.
 //! - No call takes the tree: a program is named in the contracts alone, and each clause holds of every program that has
 //!   the code.
+//! - The numbers of a journal are those of the machine of `sp_link`.
 //!
 //! To change:
 //! - What is asked of a program: `specs/Premises.antt` of `sp_link`, and a line in `accepted_ready` of
@@ -54,6 +62,7 @@ mod conclusion;
 mod execution;
 mod law;
 mod machine;
+mod numbering_laws;
 mod race_witness;
 mod replays;
 mod verdict;
@@ -64,6 +73,7 @@ pub use law::{
     accepted_programs_are_ready, journals_are_told_in_the_text, one_unfit_entry, races_are_shown,
 };
 pub use machine::run_code_file;
+pub use numbering_laws::{runs_can_be_numbered, witnesses_are_journals, witnesses_end_in_contention};
 pub use race_witness::witness;
 pub use replays::{follow, follow_told};
 pub use sp_replay::{FollowedRun, ReplayError, Replayed, Traced, lasts};

@@ -5,10 +5,10 @@ ghost use Rattle.sp_journal.specs.Births.{IsNameable};
 ghost use Rattle.sp_execute.specs.Witnesses.{IsReadyRun, witness_of};
 
 use crate::execution::Ran;
+use crate::numbering_laws::witnesses_are_journals;
 use sp_base::Memory;
 use sp_journal::{Journal, Verdict};
 use sp_judge::{runs_are_silent, runs_without_a_fault_are_clean};
-use sp_numbered::witnesses_are_journals;
 use sp_witness::races_have_offers;
 use std::alloc::Global;
 

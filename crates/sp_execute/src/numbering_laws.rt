@@ -18,8 +18,8 @@ ghost use Rattle.sp_judge.specs.Races.{IsLeastRace};
 ghost use Rattle.sp_link.specs.Premises.{IsReady};
 ghost use Rattle.sp_witness.specs.Witness.{who_at};
 ghost use Rattle.sp_witness.specs.OccurrenceNumbers.{witness_journal};
-ghost use Rattle.sp_numbered.specs.NumberedRuns.{Numbered};
-ghost use Rattle.sp_numbered.specs.Journals.{IsWitness};
+ghost use Rattle.sp_execute.specs.NumberedRuns.{Numbered};
+ghost use Rattle.sp_execute.specs.NumberedJournals.{IsWitness};
 
 use sp_meaning::done_is_idle;
 use sp_witness::races_are_real;

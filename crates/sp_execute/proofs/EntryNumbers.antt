@@ -35,8 +35,8 @@ use Rattle.sp_link.proofs.Relation.{RunContext, Linked, at_open, stop_of}
 use Rattle.sp_link.proofs.Replay.{runs_there}
 use Rattle.sp_link.proofs.Soundness.{names_on}
 use Rattle.sp_link.proofs.Theorem.{linked_along}
-use Rattle.sp_numbered.specs.NumberedRuns.{Numbered}
-use Rattle.sp_numbered.proofs.Ways.{Front, front, along_front, next_one}
+use Rattle.sp_execute.specs.NumberedRuns.{Numbered}
+use Rattle.sp_execute.proofs.Ways.{Front, front, along_front, next_one}
 
 -- one more entry by names
 names_last : (s : Births) (es : List Entry) (e : Entry)

@@ -17,7 +17,7 @@ use Rattle.sp_link.proofs.OneState.{one_state}
 use Rattle.sp_witness.specs.Witness.{who_at, witness}
 use Rattle.sp_witness.specs.Contention.{IsContention}
 use Rattle.sp_witness.specs.OccurrenceNumbers.{witness_journal}
-use Rattle.sp_numbered.specs.Journals.{IsWitness}
+use Rattle.sp_execute.specs.NumberedJournals.{IsWitness}
 
 -- in contention a process is running, and a fault stands: so the end is that fault alone
 module _ (g : RunInput) (u : StateOf g) (w : Way) (c : Channel) (first second : Name)

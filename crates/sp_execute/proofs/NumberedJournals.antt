@@ -8,11 +8,11 @@ use Rattle.sp_journal.specs.Births.{first_births, occurrences, occurrences_from,
 use Rattle.sp_meaning.specs.LocalWork.{RunInput}
 use Rattle.sp_meaning.specs.Runs.{StateOf}
 use Rattle.sp_meaning.specs.Along.{IsAlong, IsClean}
-use Rattle.sp_numbered.specs.NumberedRuns.{Numbered}
+use Rattle.sp_execute.specs.NumberedRuns.{Numbered}
 use Rattle.sp_witness.specs.Witness.{who_at, entry_list, first_part, witness}
 use Rattle.sp_witness.specs.Contention.{Shows}
 use Rattle.sp_witness.specs.OccurrenceNumbers.{entries_by_numbers}
-use Rattle.sp_numbered.specs.Journals.{IsWitness}
+use Rattle.sp_execute.specs.NumberedJournals.{IsWitness}
 use Rattle.sp_witness.proofs.NumberLookups.{found}
 use Rattle.sp_witness.proofs.Cleanness.{front_clean}
 

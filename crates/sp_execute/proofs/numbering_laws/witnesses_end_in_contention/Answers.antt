@@ -1,7 +1,7 @@
 use Rattle.sp_journal.specs.Births.{occurrences}
 use Rattle.sp_witness.proofs.VerdictMeaning.{reached}
-use Rattle.sp_numbered.proofs.Ends.{witness_ends}
-use Rattle.sp_numbered.proofs.laws.witnesses_end_in_contention.Goals as goal
+use Rattle.sp_execute.proofs.NumberedEnds.{witness_ends}
+use Rattle.sp_execute.proofs.numbering_laws.witnesses_end_in_contention.Goals as goal
 
 pub returns : goal.returns
 returns c = λ g moves shares turn ready j n t along clean w d earlier later least.

@@ -1,6 +1,6 @@
 use Rattle.sp_journal.specs.Births.{occurrences}
-use Rattle.sp_numbered.proofs.laws.witnesses_are_journals.Goals as goal
-use Rattle.sp_numbered.proofs.Journals.{is_witness}
+use Rattle.sp_execute.proofs.numbering_laws.witnesses_are_journals.Goals as goal
+use Rattle.sp_execute.proofs.NumberedJournals.{is_witness}
 
 pub returns : goal.returns
 returns c = λ g moves shares turn ready j n t along clean w d earlier later least.

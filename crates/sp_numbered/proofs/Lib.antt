@@ -1,4 +1,0 @@
-mod Ways
-mod EntryNumbers
-mod Journals
-mod Ends

@@ -1,2 +1,0 @@
-pub mod NumberedRuns
-pub mod Journals
