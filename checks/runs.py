@@ -63,7 +63,7 @@ OPEN = {
     "sp_generate/proofs/Forms": "form_count",
     "sp_generate/proofs/StatementCode": "form_way",
     "sp_grammar/proofs/Completes": "finish",
-    "sp_verify_ownership/proofs/Contents": "share_back",
+    "sp_verify_rules/proofs/Contents": "share_back",
     "sp_history/proofs/Families": "some_left",
     "sp_history/proofs/Orders": "orderly_fewer",
     "sp_history/proofs/OutProcesses": "fewer_out",

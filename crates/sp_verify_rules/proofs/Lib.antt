@@ -4,7 +4,7 @@ mod Calls
 mod ForkSteps
 mod Births
 mod StoreLaws
-pub mod Pieces
+mod Pieces
 mod Holdings
 mod Pushes
 mod Messages
@@ -21,17 +21,17 @@ pub mod FrameScopes
 mod Addresses
 mod Unbroken
 mod Effects
-pub mod Firsts
+mod Firsts
 mod Instances
 mod Readiness
-pub mod Safe
+mod Safe
 mod Holds
-pub mod WriteLaws
-pub mod TurnEnds
+mod WriteLaws
+mod TurnEnds
 pub mod RankLaws
 pub mod Premises
 mod FirstProcess
-pub mod SafeRuns
+mod SafeRuns
 mod EffectRows
 pub mod Assembly
 mod FunctionStops
@@ -41,3 +41,16 @@ mod ShapeTables
 mod KeptRows
 mod AnswerRow
 mod AnswerForks
+mod Identity
+mod Contents
+mod Sole
+mod Sides
+mod StoreChanges
+mod Plans
+mod ForkOwners
+mod JoinOwners
+mod TurnStores
+mod TurnChanges
+mod Conditions
+mod EntriesKeepApart
+mod StoreOwners

@@ -18,3 +18,5 @@ pub mod Changes
 pub mod EffectRows
 pub mod Verdict
 pub mod Activations
+pub mod Apart
+pub mod OwnChange

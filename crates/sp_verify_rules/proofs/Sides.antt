@@ -14,8 +14,8 @@ use Rattle.sp_code.specs.Machine.{Config, At}
 use Rattle.sp_code.specs.Memory.{Memory}
 use Rattle.sp_code.specs.Sound.{view_at, views_at, views_of}
 use Rattle.sp_code.specs.System.{Condition, Absent}
-use Rattle.sp_verify_ownership.specs.Apart.{config_in, map_of, meaning, AreApart, AreOlder}
-use Rattle.sp_verify_ownership.proofs.Sole.{one_frame, none_or}
+use Rattle.sp_verify_rules.specs.Apart.{config_in, map_of, meaning, AreApart, AreOlder}
+use Rattle.sp_verify_rules.proofs.Sole.{one_frame, none_or}
 
 abbrev viewed : Config (Memory Plain) → View
 viewed c = record { map = map_of c; means = meaning c }

@@ -36,13 +36,13 @@ use Rattle.sp_history.proofs.Orders.{next_is, next_not, next_yes}
 use Rattle.sp_history.proofs.Queues.{number_or, at_same, at_other}
 use Rattle.sp_verify_rules.specs.Systems.{IsLive}
 use Rattle.sp_verify_rules.specs.Writable.{IsWritable}
-use Rattle.sp_verify_ownership.specs.Apart.{config_in, map_of, spots_moved, meaning, KnowsSpot, IsMade, IsChildOf}
-use Rattle.sp_verify_ownership.specs.Apart.{IsHandedOn}
-use Rattle.sp_verify_ownership.specs.Apart.{IsMovedFrom, AreApart, AreOlder, process_of}
-use Rattle.sp_verify_ownership.proofs.Contents.{agree_back, share_agrees}
-use Rattle.sp_verify_ownership.proofs.Identity.{identity_same}
-use Rattle.sp_verify_ownership.proofs.Plans.{once, shared_at}
-use Rattle.sp_verify_ownership.proofs.Sole.{none_or, not_older}
+use Rattle.sp_verify_rules.specs.Apart.{config_in, map_of, spots_moved, meaning, KnowsSpot, IsMade, IsChildOf}
+use Rattle.sp_verify_rules.specs.Apart.{IsHandedOn}
+use Rattle.sp_verify_rules.specs.Apart.{IsMovedFrom, AreApart, AreOlder, process_of}
+use Rattle.sp_verify_rules.proofs.Contents.{agree_back, share_agrees}
+use Rattle.sp_verify_rules.proofs.Identity.{identity_same}
+use Rattle.sp_verify_rules.proofs.Plans.{once, shared_at}
+use Rattle.sp_verify_rules.proofs.Sole.{none_or, not_older}
 
 module _ (g : CodeRun) (f : ℕ → Condition Plain) (b : Births) (p : AreApart f b.birth) (older : AreOlder f b.birth)
     (young : (r : ℕ) → b.processes ≤ r → f r ≡ Absent) (q pc : ℕ) (st : List Entry) (n : Memory Plain)

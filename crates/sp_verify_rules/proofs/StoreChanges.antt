@@ -15,13 +15,13 @@ use Rattle.sp_code.specs.Sound.{identity}
 use Rattle.sp_code.specs.System.{Condition, frames_of, store_of}
 use Rattle.sp_history.proofs.Queues.{number_or, at_same, at_other}
 use Rattle.sp_verify_rules.specs.Systems.{IsLive}
-use Rattle.sp_verify_ownership.specs.Apart.{config_in, map_of, spots_moved, meaning, KnowsSpot, IsMade, IsChildOf}
-use Rattle.sp_verify_ownership.specs.Apart.{IsHandedOn}
-use Rattle.sp_verify_ownership.specs.Apart.{IsMovedFrom}
-use Rattle.sp_verify_ownership.specs.Apart.{AreApart, AreOlder, process_of}
-use Rattle.sp_verify_ownership.specs.OwnChange.{AgreesOn, OwnChange}
-use Rattle.sp_verify_ownership.proofs.Contents.{agree_back}
-use Rattle.sp_verify_ownership.proofs.Sole.{none_or, made_below, no_way, sole}
+use Rattle.sp_verify_rules.specs.Apart.{config_in, map_of, spots_moved, meaning, KnowsSpot, IsMade, IsChildOf}
+use Rattle.sp_verify_rules.specs.Apart.{IsHandedOn}
+use Rattle.sp_verify_rules.specs.Apart.{IsMovedFrom}
+use Rattle.sp_verify_rules.specs.Apart.{AreApart, AreOlder, process_of}
+use Rattle.sp_verify_rules.specs.OwnChange.{AgreesOn, OwnChange}
+use Rattle.sp_verify_rules.proofs.Contents.{agree_back}
+use Rattle.sp_verify_rules.proofs.Sole.{none_or, made_below, no_way, sole}
 
 abbrev pub ChangesTo : (r : ℕ) → (c d : Config (Memory Plain)) → Type 0
 ChangesTo r c d = OwnChange r (frames_of c) (store_of c) (frames_of d) (store_of d)

@@ -39,8 +39,8 @@ use Rattle.sp_verify_rules.specs.Touches.{stored_by}
 use Rattle.sp_verify_rules.specs.Writable.{IsWritable, MayWrite}
 use Rattle.sp_verify_rules.proofs.Pieces.{filled_keeps}
 use Rattle.sp_verify_rules.proofs.WriteLaws.{newest_writes, stores}
-use Rattle.sp_verify_ownership.specs.OwnChange.{AgreesOn, OwnChange}
-use Rattle.sp_verify_ownership.proofs.Contents.{own_agrees}
+use Rattle.sp_verify_rules.specs.OwnChange.{AgreesOn, OwnChange}
+use Rattle.sp_verify_rules.proofs.Contents.{own_agrees}
 
 -- ---- any changes
 

@@ -40,9 +40,9 @@ use Rattle.sp_verify_rules.proofs.Safe as safe
 use Rattle.sp_verify_rules.proofs.SafeRuns.{mays, calls, ready, forks, writes}
 use Rattle.sp_verify_rules.proofs.ShapePaths.{passes}
 use Rattle.sp_verify_rules.proofs.WriteLaws.{newest_writes, stores, may_store}
-use Rattle.sp_verify_ownership.specs.Apart.{spots_moved, map_of, process_of}
-use Rattle.sp_verify_ownership.specs.OwnChange.{OwnChange}
-use Rattle.sp_verify_ownership.proofs.TurnStores.{change_none, change_twice, change_one}
+use Rattle.sp_verify_rules.specs.Apart.{spots_moved, map_of, process_of}
+use Rattle.sp_verify_rules.specs.OwnChange.{OwnChange}
+use Rattle.sp_verify_rules.proofs.TurnStores.{change_none, change_twice, change_one}
 
 first_is : (a d : Area) (us vs : List Area) → ◌≡◌ {A = List Area} (a ∷ us) (d ∷ vs) → a ≡ d
 first_is a d us vs e = cc

@@ -6,7 +6,7 @@ use Rattle.sp_journal.specs.Maps.{at_key}
 use Rattle.sp_journal.specs.declared.entry.Birth.{Birth}
 use Rattle.sp_code.specs.System.{Condition}
 use Rattle.sp_history.proofs.Queues.{number_or, at_same, at_other}
-use Rattle.sp_verify_ownership.specs.Apart.{AreApart}
+use Rattle.sp_verify_rules.specs.Apart.{AreApart}
 
 -- only what each condition is matters
 pub alike : (f h : ℕ → Condition Plain) (birth : ℕ → Option Birth) → ((r : ℕ) → f r ≡ h r) → AreApart f birth

@@ -45,15 +45,15 @@ use Rattle.sp_verify_rules.specs.Systems.{awaited_children, IsLive, LivesIn, Inv
 use Rattle.sp_verify_rules.specs.Writable.{IsWritable}
 use Rattle.sp_verify_rules.proofs.TurnEnds.{T, Room, Sent}
 use Rattle.sp_verify_rules.proofs.SafeRuns.{live_along, enters_live, safe_where}
-use Rattle.sp_verify_ownership.specs.Apart.{config_in, map_of, spots_moved, meaning, process_of, IsChildOf, AreApart}
-use Rattle.sp_verify_ownership.specs.Apart.{AreOlder}
-use Rattle.sp_verify_ownership.specs.OwnChange.{OwnChange}
-use Rattle.sp_verify_ownership.proofs.StoreChanges.{ChangesTo, becomes_apart, child_before}
-use Rattle.sp_verify_ownership.proofs.Conditions.{alike, twice, same_put}
-use Rattle.sp_verify_ownership.proofs.JoinOwners.{ends_apart}
-use Rattle.sp_verify_ownership.proofs.TurnChanges.{Out, StopWrites, turn_stops, turn_faults}
-use Rattle.sp_verify_ownership.proofs.ForkOwners.{after_fork, forks_apart}
-use Rattle.sp_verify_ownership.proofs.TurnStores.{change_none, change_twice, change_write, change_own}
+use Rattle.sp_verify_rules.specs.Apart.{config_in, map_of, spots_moved, meaning, process_of, IsChildOf, AreApart}
+use Rattle.sp_verify_rules.specs.Apart.{AreOlder}
+use Rattle.sp_verify_rules.specs.OwnChange.{OwnChange}
+use Rattle.sp_verify_rules.proofs.StoreChanges.{ChangesTo, becomes_apart, child_before}
+use Rattle.sp_verify_rules.proofs.Conditions.{alike, twice, same_put}
+use Rattle.sp_verify_rules.proofs.JoinOwners.{ends_apart}
+use Rattle.sp_verify_rules.proofs.TurnChanges.{Out, StopWrites, turn_stops, turn_faults}
+use Rattle.sp_verify_rules.proofs.ForkOwners.{after_fork, forks_apart}
+use Rattle.sp_verify_rules.proofs.TurnStores.{change_none, change_twice, change_write, change_own}
 
 module _ (g : CodeRun) (k : KeepsCodeRules g.code) (e : KeepsEffects g.code (Does g.code)) (known : (p : ℕ)
     → Unknown g.code p

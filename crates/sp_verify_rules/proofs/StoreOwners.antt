@@ -10,8 +10,8 @@ use Rattle.sp_code.specs.Sound.{AreLimits, Held, run_of}
 use Rattle.sp_code.specs.System.{System, IsSystem}
 use Rattle.sp_verify_rules.specs.Verdict.{V9, IsVerified}
 use Rattle.sp_verify_rules.proofs.Assembly.{k, e, known}
-use Rattle.sp_verify_ownership.proofs.EntriesKeepApart.{along, elder}
-use Rattle.sp_verify_ownership.proofs.Sides.{partition}
+use Rattle.sp_verify_rules.proofs.EntriesKeepApart.{along, elder}
+use Rattle.sp_verify_rules.proofs.Sides.{partition}
 
 pub verified_held : (c : Parts) → KeepsSizes c → IsVerified c → (input : List ℕ) (lim : Limits) → AreLimits lim
     → (es : List Entry) (s : System Plain) → IsSystem plain (run_of c input lim) es s → Held s

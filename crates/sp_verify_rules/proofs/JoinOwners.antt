@@ -19,11 +19,11 @@ use Rattle.sp_code.specs.Sound.{CanJoin, means}
 use Rattle.sp_code.specs.System.{Condition, Gone, on_store, frames_of}
 use Rattle.sp_history.proofs.Queues.{number_or, at_same, at_other}
 use Rattle.sp_verify_rules.specs.Systems.{IsLive}
-use Rattle.sp_verify_ownership.specs.Apart.{config_in, map_of, spots_moved, meaning, KnowsSpot, IsMade, IsChildOf}
-use Rattle.sp_verify_ownership.specs.Apart.{IsHandedOn}
-use Rattle.sp_verify_ownership.specs.Apart.{IsMovedFrom, AreApart, AreOlder, process_of}
-use Rattle.sp_verify_ownership.proofs.Contents.{agree_back}
-use Rattle.sp_verify_ownership.proofs.Sole.{not_older}
+use Rattle.sp_verify_rules.specs.Apart.{config_in, map_of, spots_moved, meaning, KnowsSpot, IsMade, IsChildOf}
+use Rattle.sp_verify_rules.specs.Apart.{IsHandedOn}
+use Rattle.sp_verify_rules.specs.Apart.{IsMovedFrom, AreApart, AreOlder, process_of}
+use Rattle.sp_verify_rules.proofs.Contents.{agree_back}
+use Rattle.sp_verify_rules.proofs.Sole.{not_older}
 
 module _ (f : ℕ → Condition Plain) (birth : ℕ
     → Option Birth) (p : AreApart f birth) (older : AreOlder f birth) (q x : ℕ)

@@ -2,7 +2,7 @@
 use Rattle.std.proofs.Common.{inl, inr, Option, Some, None, sym}
 use Rattle.sp_cell.specs.Holders.{ShareAlike, ContentsAgree}
 use Rattle.sp_cell.specs.Map.{Content, Own, Shared, Output, Away, IsPiece, IsOwn, cells_of}
-use Rattle.sp_verify_ownership.specs.OwnChange.{AgreesOn}
+use Rattle.sp_verify_rules.specs.OwnChange.{AgreesOn}
 
 share_back : (a b : Option Content) → ShareAlike a b → ShareAlike b a
 share_back None b s = absurd s

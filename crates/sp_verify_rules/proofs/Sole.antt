@@ -16,11 +16,11 @@ use Rattle.sp_code.specs.Memory.{Memory}
 use Rattle.sp_code.specs.Sound.{identity}
 use Rattle.sp_code.specs.System.{Condition, frames_of}
 use Rattle.sp_verify_rules.specs.Writable.{IsWritable}
-use Rattle.sp_verify_ownership.specs.Apart.{config_in, map_of, spots_moved, meaning, KnowsSpot, IsMade, IsChildOf}
-use Rattle.sp_verify_ownership.specs.Apart.{IsHandedOn}
-use Rattle.sp_verify_ownership.specs.Apart.{IsMovedFrom}
-use Rattle.sp_verify_ownership.specs.Apart.{AreApart, AreOlder}
-use Rattle.sp_verify_ownership.proofs.Identity.{identity_same}
+use Rattle.sp_verify_rules.specs.Apart.{config_in, map_of, spots_moved, meaning, KnowsSpot, IsMade, IsChildOf}
+use Rattle.sp_verify_rules.specs.Apart.{IsHandedOn}
+use Rattle.sp_verify_rules.specs.Apart.{IsMovedFrom}
+use Rattle.sp_verify_rules.specs.Apart.{AreApart, AreOlder}
+use Rattle.sp_verify_rules.proofs.Identity.{identity_same}
 
 pub none_or : (o : Option Content) → IsNotHeld o ⊎ IsSome o
 none_or None = inl tt

@@ -1,5 +1,0 @@
-use Rattle.sp_verify_ownership.proofs.StoreOwners.{verified_held}
-use Rattle.sp_verify_ownership.proofs.laws.verified_code_is_held.Goals as goal
-
-pub returns : goal.returns
-returns k = λ c small verified. verified_held c small verified
