@@ -26,7 +26,7 @@ use Rattle.sp_lines.specs.Marks.{marks}
 use Rattle.sp_lines.specs.EntryPlaces.{DescribesEntries, lasts_after}
 use Rattle.sp_replay.specs.TraceAnswers.{never}
 use Rattle.sp_report.specs.InOrder.{sorted_by_name}
-use Rattle.sp_shown.specs.Constants.{by_kind, constants_of}
+use Rattle.sp_lines.specs.Constants.{by_kind, constants_of}
 use Rattle.sp_tree.specs.declared.checked.KindOf.{KindOf}
 use Rattle.sp_where.specs.Places.{statement_at}
 use Rattle.sp_where.specs.StateVariables.{Known}

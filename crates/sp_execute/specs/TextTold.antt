@@ -23,7 +23,7 @@ use Rattle.sp_lines.specs.EntryPlaces.{lasts_after}
 use Rattle.sp_lines.specs.WaitPlaces.{IsShown}
 use Rattle.sp_replay.specs.declared.trace.Traced.{Traced}
 use Rattle.sp_replay.specs.TraceAnswers.{never}
-use Rattle.sp_shown.specs.JumpTargets.{landing}
+use Rattle.sp_lines.specs.JumpTargets.{landing}
 
 -- the instruction with this number has a mark
 abbrev pub HasMark : Program → ℕ → Type 0

@@ -22,8 +22,8 @@ use Rattle.sp_types.specs.CheckedTree.{program_checked}
 use Rattle.sp_types.specs.declared.tables.Ordinal.{Ordinal}
 use Rattle.sp_types.specs.Tables.{kinds_by, kinds_from, numbers_of, constants_of as known_of}
 use Rattle.sp_types.specs.TypeFirst.{types_first}
-use Rattle.sp_shown.specs.Constants.{by_kind, constants_at, constants_of, kind_constants, names, part_constants}
-use Rattle.sp_shown.specs.Constants.{parts_constants}
+use Rattle.sp_lines.specs.Constants.{by_kind, constants_at, constants_of, kind_constants, names, part_constants}
+use Rattle.sp_lines.specs.Constants.{parts_constants}
 use Rattle.sp_front.specs.Checks.{IsChecked}
 use Rattle.sp_front.proofs.StatementNumbers.{given}
 use Rattle.sp_front.proofs.OneAnswer.{OneTree}

@@ -10,7 +10,7 @@ use Rattle.sp_code.specs.Places.{tree_length}
 use Rattle.sp_generate.specs.GeneratorAnswers.{IsCodeOf}
 use Rattle.sp_lines.specs.declared.mark.Mark.{Mark}
 use Rattle.sp_lines.specs.Marks.{marks}
-use Rattle.sp_shown.specs.Constants.{by_kind}
+use Rattle.sp_lines.specs.Constants.{by_kind}
 use Rattle.sp_front.specs.declared.marks.MarkedText.{MarkedText}
 use Rattle.sp_front.specs.declared.to_code.CompiledText.{CompiledText}
 use Rattle.sp_front.specs.Codes.{IsCompiled}

@@ -10,7 +10,7 @@ use Rattle.sp_tree.specs.PlainSyntax as s
 use Rattle.sp_code.specs.Places.{tree_length}
 use Rattle.sp_generate.specs.GeneratorAnswers.{IsCodeOf}
 use Rattle.sp_lines.specs.Marks.{marks}
-use Rattle.sp_shown.specs.Constants.{by_kind, constants_of}
+use Rattle.sp_lines.specs.Constants.{by_kind, constants_of}
 use Rattle.sp_front.specs.Codes.{BreaksLength}
 use Rattle.sp_front.specs.Compiles.{FirstBrokenOfPhases, IsAccepted}
 use Rattle.sp_front.specs.declared.marks.MarkedText.{MarkedText}

@@ -3,7 +3,7 @@
 
 ghost use Rattle.std.specs.Prelude.{◌≡◌, ℕ, List, Some, length, slice_get};
 ghost use Rattle.sp_tree.specs.declared.checked.KindOf.TheVariants as kind;
-ghost use Rattle.sp_shown.specs.Constants.{constants_at};
+ghost use Rattle.sp_lines.specs.Constants.{constants_at};
 ghost use Rattle.sp_front.specs.declared.marks.MarkedText.{MarkedText as AMarkedText};
 ghost use Rattle.sp_front.specs.TextMarks.{IsMarked, MarksText, NamesTo};
 
@@ -13,8 +13,7 @@ use crate::to_code::compiled;
 use sp_base::{Halt, List, Text};
 use sp_code::Code;
 use sp_grammar::one_verdict;
-use sp_lines::{Mark, marks};
-use sp_shown::{by_kind, constants};
+use sp_lines::{Mark, by_kind, constants, marks};
 use sp_tree::Checked;
 use std::alloc::Global;
 use std::thread::Threads;

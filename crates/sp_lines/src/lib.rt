@@ -1,9 +1,14 @@
 //! Where each instruction of the code of a checked tree stands in the text.
+//! Besides, what shows a run in the words of its text: the names of the constants of enumerations, and the instruction at
+//! which a process that runs is shown.
 //!
 //! Calls:
 //! - `marks`: of a tree, a mark for each instruction of its code, in order: the place of the statement to which the
 //!   instruction belongs, and the place of its part of the statement. The one error is that memory was refused.
 //! - `Told`: what is told of an entry of a journal, the instruction and the message.
+//! - `constants`: of the tree of a text, the names of the constants of each enumeration, in order of the text.
+//! - `by_kind`: the same by the numbers of types; a type that is no enumeration has none.
+//! - `landing`: the instruction to which the jumps lead from which a process goes on.
 //!
 //! Laws:
 //! - `marks_go_with_the_code`: each part of a tree has as many marks as instructions, and so has the whole program.
@@ -17,10 +22,15 @@
 //!   begins that does so.
 //! - `entries_are_told_at_their_statements`: an entry of a run of a program's code that forks, opens, sends or receives
 //!   is told at a place where a statement of the text begins that does so.
+//! - `landings_have_marks`: in a run of a program's code, jumps from where a process goes on lead to an instruction
+//!   that has a mark.
 //!
 //! To know:
 //! - `specs/Marks.antt` says them clause by clause as `Emitted` of `sp_code` says the code.
 //! - It recurses as deep as the tree is.
+//! - No tree behind the grammar has the names of an enumeration's constants, but their number alone. The types are
+//!   numbered in the order in which the text declares them, so its enumerations are those of the types, in order.
+//! - `specs/Constants.antt` and `specs/JumpTargets.antt` say what these calls give. The only error is want of memory.
 //!
 //! Lemmas for others, in `proofs`:
 //! - `StopInstructions`: where a turn stops: each instruction that stops is that of its stop, and leaves the process
@@ -36,13 +46,21 @@
 #![tactic(auto)]
 
 mod entry_place;
+mod enumerations;
 mod expressions;
+mod jumps;
+mod kinds;
+mod landing_laws;
 mod laws;
 mod mark;
 mod program;
 mod statements;
 
 pub use entry_place::Told;
+pub use enumerations::constants;
+pub use jumps::landing;
+pub use kinds::by_kind;
+pub use landing_laws::landings_have_marks;
 pub use laws::{
     entries_are_told_at_their_statements, faults_have_marks, journals_are_told,
     marks_go_with_the_code, marks_stand, stops_have_their_statements, turns_are_told,

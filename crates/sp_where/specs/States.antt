@@ -23,7 +23,7 @@ use Rattle.sp_code.specs.System.{Condition, Absent, Working, Waits, Joins, Laid,
 pub use Rattle.sp_kernel.specs.Faults.{fault_in}
 use Rattle.sp_machine.specs.Calls.{returns}
 use Rattle.sp_report.specs.InOrder.{NamedProcess, sorted_by_name}
-use Rattle.sp_shown.specs.JumpTargets.{landing}
+use Rattle.sp_lines.specs.JumpTargets.{landing}
 use Rattle.sp_base.specs.Places.{place_text}
 use Rattle.sp_where.specs.Places.{statement_at, part_at}
 use Rattle.sp_where.specs.Values.{cell_channel_text}

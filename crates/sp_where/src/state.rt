@@ -29,9 +29,9 @@ use sp_base::{Fault, Memory, Place, ProcName, Writer};
 use sp_code::{Code, Instr};
 use sp_journal::{Entry, Event, Journal, Ledger};
 use sp_kernel::Seen;
+use sp_lines::landing;
 use sp_machine::Proc;
 use sp_replay::{FollowedRun, Traced, lasts};
-use sp_shown::landing;
 use std::alloc::Global;
 use std::collections::BTreeMap;
 

@@ -14,7 +14,7 @@ use Rattle.sp_lines.specs.EntryPlaces.{lasts_after}
 use Rattle.sp_lines.specs.declared.mark.Mark.{Mark}
 use Rattle.sp_replay.specs.TraceAnswers.{TracedTo, never}
 use Rattle.sp_replay.specs.declared.trace.Traced.{Traced}
-use Rattle.sp_shown.specs.Constants.{by_kind, constants_of}
+use Rattle.sp_lines.specs.Constants.{by_kind, constants_of}
 use Rattle.sp_tree.specs.CheckedOf.{program_of}
 use Rattle.sp_tree.specs.PlainChecked as c
 use Rattle.sp_where.specs.StateVariables.{Known}

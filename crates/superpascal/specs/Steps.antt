@@ -31,7 +31,7 @@ use Rattle.sp_replay.specs.declared.replayer.Replayed.{Replayed}
 use Rattle.sp_replay.specs.TraceAnswers.{TracedTo}
 use Rattle.sp_replay.specs.declared.trace.Traced.{Traced}
 use Rattle.sp_verify_rules.specs.Verdict.{IsRejected, IsVerified}
-use Rattle.sp_shown.specs.Constants.{by_kind, constants_of}
+use Rattle.sp_lines.specs.Constants.{by_kind, constants_of}
 use Rattle.sp_tree.specs.Breaches.{IsTree}
 use Rattle.sp_tree.specs.CheckedOf.{program_of}
 use Rattle.sp_tree.specs.Places.{start}

@@ -26,8 +26,8 @@ use Rattle.sp_lines.specs.Marks.{marks}
 use Rattle.sp_lines.specs.EntryPlaces.{DescribesEntries, lasts_after}
 use Rattle.sp_lines.specs.WaitPlaces.{IsShown}
 use Rattle.sp_replay.specs.TraceAnswers.{never}
-use Rattle.sp_shown.specs.Constants.{by_kind, constants_of}
-use Rattle.sp_shown.specs.JumpTargets.{landing}
+use Rattle.sp_lines.specs.Constants.{by_kind, constants_of}
+use Rattle.sp_lines.specs.JumpTargets.{landing}
 use Rattle.sp_tree.specs.Bare.{without_places}
 use Rattle.sp_tree.specs.Breaches.{IsTree}
 use Rattle.sp_tree.specs.PlainChecked as c

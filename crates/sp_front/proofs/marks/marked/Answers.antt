@@ -1,6 +1,6 @@
 use Rattle.std.proofs.Common.{◌∙◌, ap}
 use Rattle.std.proofs.lemmas.Result.{err_from_is_err_and}
-use Rattle.sp_shown.specs.Constants.{by_kind}
+use Rattle.sp_lines.specs.Constants.{by_kind}
 use Rattle.sp_front.proofs.MarkAnswers.{all_marked, unnamed}
 use Rattle.sp_front.proofs.marks.marked.Goals as goal
 

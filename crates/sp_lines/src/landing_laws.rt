@@ -13,7 +13,7 @@ ghost use Rattle.sp_code.specs.Turns.{IsSafe, frames_fit};
 ghost use Rattle.sp_lines.specs.AtTurn.{next_of};
 ghost use Rattle.sp_lines.specs.declared.mark.Mark.{Mark};
 ghost use Rattle.sp_lines.specs.Marks.{marks};
-ghost use Rattle.sp_shown.specs.JumpTargets.{landing};
+ghost use Rattle.sp_lines.specs.JumpTargets.{landing};
 
 /// In a run of a program's code, jumps from the next instruction of a process lead to one that has a mark, where no
 /// instruction of its turn lacks what it needs and its variables fit.

@@ -15,7 +15,7 @@ use Rattle.sp_lines.specs.declared.mark.Mark.{Mark}
 use Rattle.sp_lines.specs.Marks.{marks}
 use Rattle.sp_lines.specs.AtTurn.{next_of}
 use Rattle.sp_lines.proofs.EntryStatements.{at_mark}
-use Rattle.sp_shown.specs.JumpTargets.{jump_at, jump_of, landing, landing_within, led}
+use Rattle.sp_lines.specs.JumpTargets.{jump_at, jump_of, landing, landing_within, led}
 
 is_jump : (o : Instr) (q : ℕ) → jump_of o ≡ Some q → o ≡ i.Jump q
 is_jump (i.Jump to) q e = ap i.Jump (same_Some to q e)

@@ -1,7 +1,7 @@
 //! Where jumps lead (`landing`).
 
 ghost use Rattle.std.specs.Prelude.{◌≡◌, slice_get};
-ghost use Rattle.sp_shown.specs.JumpTargets.{jump_at, landing};
+ghost use Rattle.sp_lines.specs.JumpTargets.{jump_at, landing};
 
 use sp_code::{Code, Instr};
 

@@ -1,6 +1,6 @@
 use Rattle.std.proofs.Common.{◌≡◌}
-use Rattle.sp_shown.specs.JumpTargets.{landing, landing_within}
-use Rattle.sp_shown.proofs.jumps.landing.Given as goal
+use Rattle.sp_lines.specs.JumpTargets.{landing, landing_within}
+use Rattle.sp_lines.proofs.jumps.landing.Given as goal
 
 abbrev pub invariant-loop-left : goal.invariant-loop-left
 invariant-loop-left l = landing_within l.left l.code.instrs l.at ≡ landing l.code.instrs l.fn.at

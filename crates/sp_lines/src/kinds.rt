@@ -2,7 +2,7 @@
 
 ghost use Rattle.std.specs.Prelude.{◌≡◌, IfOk};
 ghost use Rattle.std.specs.Vec.Iter.{into_iter_items};
-ghost use Rattle.sp_shown.specs.Constants.{by_kind, first_of, kind_names, rest_of, rest_behind};
+ghost use Rattle.sp_lines.specs.Constants.{by_kind, first_of, kind_names, rest_of, rest_behind};
 
 use sp_base::{List, Memory, Text};
 use sp_tree::KindOf;

@@ -7,9 +7,9 @@ use Rattle.sp_code.specs.Turns.{IsSafe, frames_fit}
 use Rattle.sp_lines.specs.AtTurn.{next_of}
 use Rattle.sp_lines.specs.declared.mark.Mark.{Mark}
 use Rattle.sp_lines.specs.Marks.{marks}
-use Rattle.sp_shown.specs.JumpTargets.{landing}
-use Rattle.sp_shown.proofs.Landings.{landing_marked}
-use Rattle.sp_shown.proofs.laws.landings_have_marks.Goals as goal
+use Rattle.sp_lines.specs.JumpTargets.{landing}
+use Rattle.sp_lines.proofs.Landings.{landing_marked}
+use Rattle.sp_lines.proofs.landing_laws.landings_have_marks.Goals as goal
 
 pub returns : goal.returns
 returns f = λ p moves shares g c same.

@@ -2,7 +2,7 @@
 
 ghost use Rattle.std.specs.Prelude.{◌≡◌, ◌++◌, map, IfOk, OnOk};
 ghost use Rattle.sp_tree.specs.SyntaxOf.{block_of, part_of, parts, program_of};
-ghost use Rattle.sp_shown.specs.Constants.{constants_of, kind_constants, names, part_constants, parts_constants};
+ghost use Rattle.sp_lines.specs.Constants.{constants_of, kind_constants, names, part_constants, parts_constants};
 
 use sp_base::{Boxed, List, Memory, Text};
 use sp_tree::{Name, SynBlock, SynKind, SynPart, Syntax};
