@@ -86,7 +86,7 @@ OPEN = {
     "sp_verify_rules/proofs/Turns": "one_fits",
     "sp_verify_rules/specs/Verdict": "is_stop",
     "sp_runner/proofs/SlotWaiters": "one_waits",
-    "sp_sets/proofs/OneText": "form_numbers",
+    "sp_varsets/proofs/OneText": "form_numbers",
     "sp_verify_shapes/specs/Remainders": "admits",
     "sp_witness/proofs/Forwards": "next_on",
     "sp_witness/proofs/TableNumbers": "by",

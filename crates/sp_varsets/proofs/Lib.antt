@@ -8,3 +8,8 @@ mod CallPaths
 pub mod Words
 pub mod AddedSets
 mod WordChanges
+mod TextJoins
+mod Members
+mod OneText
+mod LineOrders
+mod StatementLines

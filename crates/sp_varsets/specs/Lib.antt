@@ -8,3 +8,6 @@ pub mod Paths
 pub mod Bodies
 pub mod Totals
 pub mod Reaches
+pub mod LineForks
+pub mod TextOrders
+pub mod SetsText

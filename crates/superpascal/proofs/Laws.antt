@@ -17,7 +17,7 @@ use Rattle.sp_journal.specs.Texts.{IsTextOf}
 use Rattle.sp_meaning.specs.LocalWork.{RunInput}
 use Rattle.sp_meaning.specs.Runs.{IsDisjointRun}
 use Rattle.sp_scan.proofs.TokenPrefixes.{too_long}
-use Rattle.sp_sets.specs.SetsText.{IsSetsText}
+use Rattle.sp_varsets.specs.SetsText.{IsSetsText}
 use Rattle.sp_tree.specs.Bare.{without_places}
 use Rattle.sp_tree.specs.Places.{start}
 use Rattle.sp_tree.specs.PlainChecked as c

@@ -18,7 +18,7 @@ use Rattle.sp_journal.specs.ReadAnswers.{IsText}
 use Rattle.sp_meaning.specs.LocalWork.{RunInput}
 use Rattle.sp_meaning.specs.Runs.{IsDisjointRun}
 use Rattle.sp_verify_rules.specs.Verdict.{IsVerified}
-use Rattle.sp_sets.specs.SetsText.{IsSetsText}
+use Rattle.sp_varsets.specs.SetsText.{IsSetsText}
 use Rattle.sp_tree.specs.Bare.{without_places}
 use Rattle.sp_tree.specs.Plain as m
 use Rattle.sp_tree.specs.PlainChecked as c

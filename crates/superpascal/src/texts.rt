@@ -6,9 +6,9 @@ ghost use Rattle.superpascal.specs.Causes.{files_of};
 ghost use Rattle.superpascal.specs.Steps.{AnswersText, TellsSets};
 ghost use Rattle.superpascal.specs.Texts.{HasCodeText};
 
+use crate::have;
 use crate::answers::accepted;
 use crate::ending::{Answer, Ending};
-use crate::have;
 use crate::prepare::{load_text, prepare};
 use sp_base::{Halt, Word};
 use sp_code::listing;
@@ -17,7 +17,7 @@ use sp_format::format;
 use sp_front::{accepts_apart, analyse_apart, one_answer};
 use sp_generate::one_code;
 use sp_outside::Library;
-use sp_sets::print_sets;
+use sp_varsets::print_sets;
 use std::alloc::Global;
 use std::thread::Threads;
 

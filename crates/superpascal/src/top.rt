@@ -11,10 +11,10 @@ ghost use Rattle.superpascal.specs.Causes.{Cause, files_of, stream_of};
 ghost use Rattle.superpascal.specs.Promise.{Promise};
 ghost use Rattle.superpascal.specs.Steps.{AnswersCommand, AnswersWords, ReadsCommand};
 
+use crate::have;
 use crate::answers::ended;
 use crate::ending::{Answer, Ending};
 use crate::executions::exec_file;
-use crate::have;
 use crate::host::Host;
 use crate::outcome::Outcome;
 use crate::prepare::{prepare, read_input};
@@ -29,7 +29,7 @@ use sp_front::{accepted_texts_are_disjoint, one_answer, one_compilation, one_lis
 use sp_journal::one_journal_of_a_text;
 use sp_outside::{Gate, Library, Sink, Source};
 use sp_report::Watcher;
-use sp_sets::one_sets_text;
+use sp_varsets::one_sets_text;
 use sp_words::{Command, RunRequest, WordsError, accepted_options_are_in_range, read_words};
 use std::alloc::Global;
 use std::sync::Wait;

@@ -6,7 +6,7 @@ ghost use Rattle.sp_code.specs.Listing.{listing_text};
 ghost use Rattle.sp_codefile.specs.CodeText.{IsTextOf};
 ghost use Rattle.sp_codefile.specs.DecodeAnswers.{Decodes};
 ghost use Rattle.sp_codefile.specs.VerifyAnswers.{Verifies};
-ghost use Rattle.sp_sets.specs.SetsText.{IsSetsText};
+ghost use Rattle.sp_varsets.specs.SetsText.{IsSetsText};
 ghost use Rattle.sp_format.specs.Formats.{Formats};
 
 use sp_base::{Halt, Memory};
@@ -48,11 +48,11 @@ pub fn verify(code: Code) -> Result<Verified, Rejected>
     verified
 }
 
-/// `sp_sets::print_sets`.
+/// `sp_varsets::print_sets`.
 pub fn print_sets(alloc: Global, checked: &Checked, sets: &Sets) -> Result<Vec<u8>, Memory>
     ensures { IfOk result (λ out. IsSetsText (program_of checked.now) sets.now out.items) }
 {
-    let printed = sp_sets::print_sets(alloc, checked, sets);
+    let printed = sp_varsets::print_sets(alloc, checked, sets);
     printed
 }
 

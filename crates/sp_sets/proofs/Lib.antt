@@ -1,5 +1,0 @@
-mod Joins
-mod Members
-mod OneText
-mod LineOrders
-mod StatementLines

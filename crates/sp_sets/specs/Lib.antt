@@ -1,3 +1,0 @@
-pub mod Forks
-pub mod Orders
-pub mod SetsText
