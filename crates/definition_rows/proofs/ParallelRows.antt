@@ -9,7 +9,7 @@ use Rattle.sp_meaning.specs.Values.{Ordinal}
 use Rattle.sp_meaning.specs.Runs.{StateOf, start, next_state, system_of, Lawful, IsDisjointRun}
 use Rattle.sp_meaning.specs.Schedules.{ScheduleLeads, EndsAlike}
 use Rattle.sp_meaning.specs.Disjoint.{AreParallel}
-use Rattle.sp_judge.specs.Runs.{AllEndAlike}
+use Rattle.sp_race.specs.Runs.{AllEndAlike}
 use Rattle.definition_rows.specs.Programs.{both_set}
 
 abbrev State : Type 0

@@ -2,7 +2,7 @@
 //! is that of all its schedules.
 
 ghost use Rattle.sp_meaning.specs.Runs.{StateOf, IsDisjointRun};
-ghost use Rattle.sp_judge.specs.Runs.{AllEndAlike};
+ghost use Rattle.sp_race.specs.Runs.{AllEndAlike};
 ghost use Rattle.definition_rows.specs.Programs.{both_set};
 
 /// Two processes that write one variable are seen.

@@ -1,11 +1,11 @@
 //! Tests of clocks, and of the verdicts on journals written by hand.
 
 ghost use Rattle.sp_journal.specs.Births.{occurrences, IsNameable};
-ghost use Rattle.sp_judge.specs.Prefixes.{WaitersAreSilent};
+ghost use Rattle.sp_race.specs.Prefixes.{WaitersAreSilent};
 
 use sp_base::{ChanName, Fault, List, Memory, Pair, ProcName};
 use sp_journal::{End, Entry, Event, Journal, Verdict, Way};
-use sp_judge::{
+use sp_race::{
     Clock, clocks_say_what_is_known, runs_are_silent, runs_without_a_fault_are_clean, verdict_of,
     verdicts_are_exact, verdicts_hold_of_runs,
 };

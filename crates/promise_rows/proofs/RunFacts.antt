@@ -12,7 +12,7 @@ use Rattle.sp_journal.specs.declared.outcome.Verdict.{Verdict}
 use Rattle.sp_journal.specs.declared.outcome.Verdict.TheVariants as verdict
 use Rattle.sp_journal.specs.Births.{occurrences}
 use Rattle.sp_journal.specs.Names.{Channel, Ended, Happening, Name, Offered, Opened, Occurrence}
-use Rattle.sp_judge.specs.Races.{IsFault, IsVerdict}
+use Rattle.sp_race.specs.Races.{IsFault, IsVerdict}
 use Rattle.promise_rows.specs.Files.{root_waits}
 use Rattle.promise_rows.proofs.WaitingRuns.{g as waiting_run, is_over as waits_over, two_entries}
 use Rattle.promise_rows.proofs.OutputRuns.{g, is_over, one_end}

@@ -15,7 +15,7 @@ use Rattle.sp_journal.specs.declared.outcome.Verdict.{Verdict}
 use Rattle.sp_journal.specs.declared.outcome.Verdict.TheVariants as verdict
 use Rattle.sp_journal.specs.declared.version.Version.TheVariants as version
 use Rattle.sp_journal.specs.Texts.{journal_text}
-use Rattle.sp_judge.specs.Races.{IsFault}
+use Rattle.sp_race.specs.Races.{IsFault}
 use Rattle.sp_meaning.specs.Along.{IsAlong}
 use Rattle.sp_tree.specs.Plain.{Program}
 use Rattle.sp_witness.specs.Contention.{NeverContends}

@@ -5,7 +5,7 @@ use Rattle.sp_tree.specs.Plain.{Program, Stmt}
 use Rattle.sp_journal.specs.Births.{occurrences}
 use Rattle.sp_code.specs.declared.code.Parts.{Parts}
 use Rattle.sp_code.specs.Sound.{run_of}
-use Rattle.sp_judge.specs.Races.{IsVerdict}
+use Rattle.sp_race.specs.Races.{IsVerdict}
 use Rattle.sp_kernel.specs.declared.closed.Closed.{Closed}
 use Rattle.sp_runner.specs.Ends.{EndsWith}
 use Rattle.sp_runner.specs.Runs.{IsRun}

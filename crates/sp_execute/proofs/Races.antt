@@ -14,13 +14,13 @@ use Rattle.sp_journal.specs.declared.outcome.Verdict.{Verdict}
 use Rattle.sp_journal.specs.declared.outcome.Verdict.TheVariants as verdict
 use Rattle.sp_journal.specs.Births.{IsNameable, occurrences}
 use Rattle.sp_journal.specs.Names.{Channel, Occurrence, chan_name, proc_name}
-use Rattle.sp_judge.specs.Races.{IsFault, IsJudged, IsLeastRace, IsVerdict, Race}
+use Rattle.sp_race.specs.Races.{IsFault, IsJudged, IsLeastRace, IsVerdict, Race}
 use Rattle.sp_link.specs.Premises.{IsReady}
 use Rattle.sp_meaning.specs.Along.{IsAlong, IsClean}
 use Rattle.sp_meaning.specs.Ends.{EndIs, EndsSo}
 use Rattle.sp_meaning.specs.LocalWork.{RunInput}
 use Rattle.sp_meaning.specs.Runs.{StateOf}
-use Rattle.sp_judge.specs.Prefixes.{WaitersAreSilent}
+use Rattle.sp_race.specs.Prefixes.{WaitersAreSilent}
 use Rattle.sp_execute.specs.NumberedJournals.{IsWitness}
 use Rattle.sp_witness.specs.Contention.{NeverContends}
 use Rattle.sp_witness.specs.TableNumbers.{IsPlain}

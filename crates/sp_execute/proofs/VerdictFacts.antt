@@ -6,7 +6,7 @@ use Rattle.sp_journal.specs.declared.outcome.End.{End}
 use Rattle.sp_journal.specs.declared.outcome.Verdict.{Verdict}
 use Rattle.sp_journal.specs.declared.outcome.Verdict.TheVariants as verdict
 use Rattle.sp_journal.specs.Names.{Occurrence}
-use Rattle.sp_judge.specs.Runs.{AllEndAlike, IsRunVerdict}
+use Rattle.sp_race.specs.Runs.{AllEndAlike, IsRunVerdict}
 use Rattle.sp_meaning.specs.LocalWork.{RunInput}
 use Rattle.sp_meaning.specs.Runs.{StateOf}
 

@@ -15,8 +15,8 @@ use Rattle.sp_meaning.specs.Along.{IsAlong}
 use Rattle.sp_meaning.specs.Ends.{EndIs}
 use Rattle.sp_code.specs.declared.code.Parts.{Parts}
 use Rattle.sp_code.specs.TreeCode.{program_code}
-use Rattle.sp_judge.specs.Races.{IsVerdict}
-use Rattle.sp_judge.specs.Runs.{AllEndAlike}
+use Rattle.sp_race.specs.Races.{IsVerdict}
+use Rattle.sp_race.specs.Runs.{AllEndAlike}
 use Rattle.sp_kernel.specs.declared.closed.Closed.{Closed}
 use Rattle.sp_link.specs.Premises.{IsReady, run_by}
 use Rattle.sp_runner.specs.Ends.{EndsWith}

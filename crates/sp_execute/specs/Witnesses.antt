@@ -13,7 +13,7 @@ use Rattle.sp_journal.specs.declared.outcome.Verdict.{Verdict}
 use Rattle.sp_journal.specs.declared.outcome.Verdict.TheVariants as verdict
 use Rattle.sp_journal.specs.Births.{occurrences}
 use Rattle.sp_journal.specs.Names.{Channel, chan_name, proc_name}
-use Rattle.sp_judge.specs.Races.{IsFault}
+use Rattle.sp_race.specs.Races.{IsFault}
 use Rattle.sp_link.specs.Premises.{IsReady}
 use Rattle.sp_meaning.specs.LocalWork.{RunInput}
 use Rattle.sp_execute.specs.NumberedJournals.{IsWitness}

@@ -25,8 +25,8 @@ ghost use Rattle.sp_link.specs.Premises.{IsReady};
 ghost use Rattle.sp_tree.specs.Plain.{Stmt};
 
 use crate::numbering_laws::{witnesses_are_journals, witnesses_end_in_contention};
-use sp_judge::runs_without_a_fault_are_clean;
 use sp_lines::{landings_have_marks, waiting_processes_are_shown};
+use sp_race::runs_without_a_fault_are_clean;
 use sp_witness::ordered_runs_never_contend;
 
 /// The program of a text that breaks no rule is ready: where its forks take over and share exactly what the sets of its

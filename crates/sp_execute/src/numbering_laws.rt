@@ -14,7 +14,7 @@ ghost use Rattle.sp_meaning.specs.LocalWork.{RunInput};
 ghost use Rattle.sp_meaning.specs.Runs.{StateOf};
 ghost use Rattle.sp_meaning.specs.Along.{IsAlong, IsClean};
 ghost use Rattle.sp_meaning.specs.Ends.{EndsSo};
-ghost use Rattle.sp_judge.specs.Races.{IsLeastRace};
+ghost use Rattle.sp_race.specs.Races.{IsLeastRace};
 ghost use Rattle.sp_link.specs.Premises.{IsReady};
 ghost use Rattle.sp_witness.specs.Witness.{who_at};
 ghost use Rattle.sp_witness.specs.OccurrenceNumbers.{witness_journal};

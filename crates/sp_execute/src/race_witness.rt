@@ -8,7 +8,7 @@ use crate::execution::Ran;
 use crate::numbering_laws::witnesses_are_journals;
 use sp_base::Memory;
 use sp_journal::{Journal, Verdict};
-use sp_judge::{runs_are_silent, runs_without_a_fault_are_clean};
+use sp_race::{runs_are_silent, runs_without_a_fault_are_clean};
 use sp_witness::races_have_offers;
 use std::alloc::Global;
 

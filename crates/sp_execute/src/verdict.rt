@@ -4,13 +4,13 @@ ghost use Rattle.std.specs.Prelude.{IfOk};
 ghost use Rattle.sp_journal.specs.Births.{occurrences};
 ghost use Rattle.sp_tree.specs.Interference.{IsFreeOfInterference};
 ghost use Rattle.sp_meaning.specs.LocalWork.{RunInput};
-ghost use Rattle.sp_judge.specs.Races.{IsVerdict};
+ghost use Rattle.sp_race.specs.Races.{IsVerdict};
 ghost use Rattle.sp_execute.specs.Runs.{IsAbout, Promises};
 
 use crate::conclusion::Concluded;
 use sp_base::Memory;
 use sp_journal::Verdict;
-use sp_judge::{runs_are_silent, verdict_of, verdicts_hold_of_runs};
+use sp_race::{runs_are_silent, verdict_of, verdicts_hold_of_runs};
 use std::alloc::Global;
 
 /// Whether the result of a run of a program depends on the schedule. The verdict is exactly that of the journal and the

@@ -4,3 +4,9 @@ pub mod OrderedRuns
 pub mod PastsAndNotes
 pub mod OfferOrder
 pub mod OrderTest
+pub mod JudgeTables
+pub mod Clocks
+pub mod Counts
+pub mod Prefixes
+pub mod Races
+pub mod Runs

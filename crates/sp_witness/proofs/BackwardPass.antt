@@ -9,9 +9,9 @@ use Rattle.sp_journal.specs.Maps.{at_key}
 use Rattle.sp_journal.specs.Names.{Name, Channel, same_name, same_channel, Happening, Opened, Forked, Offered, Ended}
 use Rattle.sp_journal.specs.Names.{Faulted, Laid, Paused}
 use Rattle.sp_journal.specs.Past.{Knowledge, learn, teach, report, known_with, knowledge_after_offer, knowledge_after}
-use Rattle.sp_judge.specs.Prefixes.{WaitsForNone}
-use Rattle.sp_judge.proofs.Keys.{channel_is, channel_itself}
-use Rattle.sp_judge.proofs.PrefixLaws.{learn_more, teach_more, report_more, learn_here}
+use Rattle.sp_race.specs.Prefixes.{WaitsForNone}
+use Rattle.sp_race.proofs.Keys.{channel_is, channel_itself}
+use Rattle.sp_race.proofs.PrefixLaws.{learn_more, teach_more, report_more, learn_here}
 use Rattle.sp_witness.specs.NeededEntries.{any_child, parent_is, needed_to_meet, needed_before}
 use Rattle.sp_witness.proofs.KnowledgeSteps.{IsChildAt, any_here, any_is, key_here, key_is, key_more, learn_is}
 use Rattle.sp_witness.proofs.KnowledgeSteps.{report_here}

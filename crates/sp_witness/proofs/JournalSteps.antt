@@ -26,7 +26,7 @@ use Rattle.sp_race.proofs.GoodSteps.{GoodStep, leads_on, steps}
 use Rattle.sp_race.proofs.NoteLaws.{known_linked}
 use Rattle.sp_race.proofs.LinkedSteps.{opens_linked, forks_linked, ends_linked, moves_linked, offers_linked}
 use Rattle.sp_race.proofs.LinkedSteps.{pause_linked}
-use Rattle.sp_race.proofs.Verdict.{KnownAfterEntries, Stepped, stepped, said, next_at, local_moves, moves_know}
+use Rattle.sp_race.proofs.OrderedSchedules.{KnownAfterEntries, Stepped, stepped, said, next_at, local_moves, moves_know}
 use Rattle.sp_witness.proofs.Independent.{IsLocal}
 use Rattle.sp_witness.proofs.IndependentSteps.{Head, Tag, Block, heads, Does, Runs, BlockRuns}
 use Rattle.sp_witness.proofs.Pasts.{heads_from}

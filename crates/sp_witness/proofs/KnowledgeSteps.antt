@@ -7,7 +7,7 @@ use Rattle.sp_journal.specs.Maps.{at_key}
 use Rattle.sp_journal.specs.Names.{Name, same_name}
 use Rattle.sp_journal.specs.Past.{learn, teach, report}
 use Rattle.sp_journal.proofs.NameLaws.{name_itself, name_is}
-use Rattle.sp_judge.proofs.PrefixLaws.{teach_more, learn_here}
+use Rattle.sp_race.proofs.PrefixLaws.{teach_more, learn_here}
 use Rattle.sp_witness.specs.NeededEntries.{any_child}
 
 pub learn_is : (p : Name) (known : ℕ → Bool) (past : Name → ℕ → Bool) (q : Name) (i : ℕ) → learn p known past q i ≡ true

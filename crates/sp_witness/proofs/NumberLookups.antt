@@ -12,8 +12,8 @@ use Rattle.sp_journal.specs.Births.{Births, first_births, births_after_entry, bi
 use Rattle.sp_journal.specs.Births.{NameableFrom, happening, occurrence, occurrences_from}
 use Rattle.sp_journal.proofs.BirthLaws.{Lawful, lawful_start, lawful_after}
 use Rattle.sp_meaning.specs.Along.{IsClean}
-use Rattle.sp_judge.specs.Prefixes.{WaitersAreSilent}
-use Rattle.sp_judge.proofs.Numbers.{same_process, same_chan, all_named}
+use Rattle.sp_race.specs.Prefixes.{WaitersAreSilent}
+use Rattle.sp_race.proofs.Numbers.{same_process, same_chan, all_named}
 use Rattle.sp_witness.specs.Witness.{first_part}
 use Rattle.sp_witness.specs.OccurrenceNumbers.{process_number, channel_number, event_of, numbered_entry}
 use Rattle.sp_witness.specs.OccurrenceNumbers.{entries_by_numbers_from}

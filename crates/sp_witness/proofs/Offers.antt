@@ -9,7 +9,7 @@ use Rattle.sp_journal.specs.declared.entry.Journal.{Journal}
 use Rattle.sp_journal.specs.declared.entry.Way.{Way}
 use Rattle.sp_journal.specs.Names.{Channel, Happening, Offered, Occurrence}
 use Rattle.sp_journal.specs.Births.{Births, first_births, births_after_entry, happening, occurrences, occurrences_from}
-use Rattle.sp_judge.specs.Races.{Race}
+use Rattle.sp_race.specs.Races.{Race}
 use Rattle.sp_witness.specs.TableNumbers.{IsPlain}
 
 -- the entry of an occurrence

@@ -10,7 +10,7 @@ use Rattle.sp_journal.specs.Past.{Knowledge, knowledge_after, knowledge_of, no_k
 use Rattle.sp_journal.specs.Past.{CompletedFrom}
 use Rattle.sp_race.specs.OfferOrder.{AreKnown}
 use Rattle.sp_race.proofs.Completion.{ordered_known}
-use Rattle.sp_judge.specs.Races.{KnowsCompletion, IsLeastRace}
+use Rattle.sp_race.specs.Races.{KnowsCompletion, IsLeastRace}
 use Rattle.sp_witness.proofs.Pasts.{Stage, next_stage, get_at}
 
 pub get_front : (xs ys : List Occurrence) (i : ℕ) (e : Occurrence) → slice_get xs i ≡ Some e

@@ -14,10 +14,10 @@ use Rattle.sp_journal.specs.Births.{Births, first_births, births_after_entry, bi
 use Rattle.sp_journal.specs.Births.{occurrences}
 use Rattle.sp_journal.specs.Past.{Knowledge, knowledge_after, no_knowledge}
 use Rattle.sp_meaning.specs.Along.{IsClean}
-use Rattle.sp_judge.specs.Prefixes.{WaitersSilentFrom, WaitersAreSilent}
-use Rattle.sp_judge.proofs.PrefixLaws.{nothing_kept}
-use Rattle.sp_judge.proofs.Numbers.{all_named}
-use Rattle.sp_judge.proofs.Fronts.{silent_front}
+use Rattle.sp_race.specs.Prefixes.{WaitersSilentFrom, WaitersAreSilent}
+use Rattle.sp_race.proofs.PrefixLaws.{nothing_kept}
+use Rattle.sp_race.proofs.Numbers.{all_named}
+use Rattle.sp_race.proofs.Fronts.{silent_front}
 use Rattle.sp_witness.specs.Witness.{witness, is_member, is_among}
 use Rattle.sp_witness.specs.OccurrenceNumbers.{witness_journal}
 use Rattle.sp_witness.specs.NeededEntries.{needed_marks}

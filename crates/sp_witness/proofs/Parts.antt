@@ -12,8 +12,8 @@ use Rattle.sp_meaning.specs.LocalWork.{RunInput}
 use Rattle.sp_meaning.specs.Along.{IsCleanly, IsClean}
 use Rattle.sp_meaning.proofs.Maps.{differs}
 use Rattle.sp_meaning.proofs.Keys.{name_test}
-use Rattle.sp_judge.specs.Prefixes.{is_counted, WaitsForNone}
-use Rattle.sp_judge.proofs.PrefixLaws.{PrefixesAreKnown}
+use Rattle.sp_race.specs.Prefixes.{is_counted, WaitsForNone}
+use Rattle.sp_race.proofs.PrefixLaws.{PrefixesAreKnown}
 use Rattle.sp_race.specs.Notes.{Event}
 use Rattle.sp_race.proofs.NoteLaws.{grown_size}
 use Rattle.sp_witness.specs.Witness.{who_at, past_before, is_pause, is_known, offers_after, is_member, is_among}

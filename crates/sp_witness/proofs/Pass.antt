@@ -10,7 +10,7 @@ use Rattle.sp_journal.specs.Names.{Paused, Occurrence}
 use Rattle.sp_journal.specs.Past.{Knowledge, knowledge_after}
 use Rattle.sp_journal.proofs.NameLaws.{name_itself, name_is}
 use Rattle.sp_meaning.specs.Along.{IsCleanly, IsClean}
-use Rattle.sp_judge.specs.Prefixes.{WaitsForNone, WaitersSilentFrom}
+use Rattle.sp_race.specs.Prefixes.{WaitsForNone, WaitersSilentFrom}
 use Rattle.sp_witness.specs.Witness.{who_of, who_at, past_before, is_pause, is_known, offers_after, is_member, is_among}
 use Rattle.sp_witness.specs.Witness.{members}
 use Rattle.sp_witness.specs.NeededEntries.{needed_before, needed_processes, needed_entries, needed_marks}

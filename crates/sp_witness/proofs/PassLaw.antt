@@ -5,8 +5,8 @@ use Rattle.std.proofs.lemmas.List.{take-append-drop}
 use Rattle.sp_journal.specs.Names.{Occurrence}
 use Rattle.sp_journal.specs.Past.{no_knowledge}
 use Rattle.sp_meaning.specs.Along.{IsClean}
-use Rattle.sp_judge.specs.Prefixes.{WaitersSilentFrom, WaitersAreSilent}
-use Rattle.sp_judge.proofs.Fronts.{silent_front}
+use Rattle.sp_race.specs.Prefixes.{WaitersSilentFrom, WaitersAreSilent}
+use Rattle.sp_race.proofs.Fronts.{silent_front}
 use Rattle.sp_witness.specs.Witness.{who_at, past_before, members, first_part}
 use Rattle.sp_witness.specs.NeededEntries.{needed_entries, backward_pass}
 use Rattle.sp_witness.proofs.PastFacts.{nothing_stands, stands_from}

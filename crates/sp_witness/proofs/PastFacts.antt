@@ -3,8 +3,8 @@ use Rattle.std.proofs.Common.{◌≡◌, ℕ, suc, ◌+◌, List, [], ◌∷◌,
 use Rattle.std.proofs.Common.{arith}
 use Rattle.sp_journal.specs.Names.{Occurrence}
 use Rattle.sp_journal.specs.Past.{Knowledge, knowledge_after, knowledge_from, no_knowledge}
-use Rattle.sp_judge.specs.Prefixes.{WaitsForNone, WaitersSilentFrom}
-use Rattle.sp_judge.proofs.PrefixLaws.{PrefixesAreKnown, one_entry, nothing_kept}
+use Rattle.sp_race.specs.Prefixes.{WaitsForNone, WaitersSilentFrom}
+use Rattle.sp_race.proofs.PrefixLaws.{PrefixesAreKnown, one_entry, nothing_kept}
 use Rattle.sp_race.proofs.NoteLaws.{grown_size}
 use Rattle.sp_race.proofs.Completion.{Paired, judged_paired, nothing_paired, Rounded, judged_rounded, nothing_rounded}
 

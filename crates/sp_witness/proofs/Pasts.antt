@@ -14,10 +14,10 @@ use Rattle.sp_journal.specs.Past.{Knowledge, learn, known_with, knowledge_after_
 use Rattle.sp_journal.specs.Past.{knowledge_of, no_knowledge}
 use Rattle.sp_journal.proofs.NameLaws.{name_itself, name_is}
 use Rattle.sp_meaning.specs.Along.{IsCleanly, IsClean}
-use Rattle.sp_judge.specs.Prefixes.{is_counted, Counts, WaitersSilentFrom}
-use Rattle.sp_judge.proofs.PrefixLaws.{learn_all, teach_all, report_all, learn_more, teach_more, report_more}
-use Rattle.sp_judge.proofs.PrefixLaws.{PrefixesAreKnown}
-use Rattle.sp_judge.proofs.PrefixLaws.{one_entry}
+use Rattle.sp_race.specs.Prefixes.{is_counted, Counts, WaitersSilentFrom}
+use Rattle.sp_race.proofs.PrefixLaws.{learn_all, teach_all, report_all, learn_more, teach_more, report_more}
+use Rattle.sp_race.proofs.PrefixLaws.{PrefixesAreKnown}
+use Rattle.sp_race.proofs.PrefixLaws.{one_entry}
 use Rattle.sp_race.proofs.NoteLaws.{last_entry, kept_entry, grown_size}
 use Rattle.sp_witness.specs.Witness.{who_of, who_at, past_before, is_pause, is_known, offers_after, is_member, is_among}
 use Rattle.sp_witness.proofs.IndependentSteps.{Head, MarkedFree, Cuts}

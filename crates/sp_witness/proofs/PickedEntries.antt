@@ -16,8 +16,8 @@ use Rattle.sp_journal.specs.Births.{GivesNumbers, NameableFrom, happening, occur
 use Rattle.sp_journal.specs.Past.{Knowledge, knowledge_after, knowledge_after_offer, no_knowledge}
 use Rattle.sp_journal.proofs.BirthLaws.{Lawful, lawful, parent_older, name_by_birth, name_of_root}
 use Rattle.sp_journal.proofs.Walk.{birth_stays}
-use Rattle.sp_judge.proofs.Numbers.{ExtendsBirths, stays, same_process, same_chan, children_named, all_named}
-use Rattle.sp_judge.proofs.Fronts.{forks_by}
+use Rattle.sp_race.proofs.Numbers.{ExtendsBirths, stays, same_process, same_chan, children_named, all_named}
+use Rattle.sp_race.proofs.Fronts.{forks_by}
 use Rattle.sp_witness.specs.Witness.{who_of, who_at}
 use Rattle.sp_witness.specs.NeededEntries.{any_child, parent_is, needed_to_meet, needed_before, needed_processes}
 use Rattle.sp_witness.specs.NeededEntries.{needed_entries, needed_marks}

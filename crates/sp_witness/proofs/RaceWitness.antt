@@ -19,15 +19,15 @@ use Rattle.sp_meaning.specs.Along.{ticks_of, Turn, before_entries, Along, IsAlon
 use Rattle.sp_meaning.proofs.Maps.{differs}
 use Rattle.sp_meaning.proofs.Keys.{name_test}
 use Rattle.sp_meaning.proofs.JournalSchedules.{no_fault_step}
-use Rattle.sp_judge.specs.Prefixes.{WaitersSilentFrom, WaitersAreSilent, WaitsForNone}
-use Rattle.sp_judge.proofs.PrefixLaws.{nothing_kept}
+use Rattle.sp_race.specs.Prefixes.{WaitersSilentFrom, WaitersAreSilent, WaitsForNone}
+use Rattle.sp_race.proofs.PrefixLaws.{nothing_kept}
 use Rattle.sp_race.specs.Notes.{Event, no_notes, next_event_of}
 use Rattle.sp_race.specs.RunNotes.{WithNotes}
 use Rattle.sp_race.specs.OfferOrder.{AreKnown}
 use Rattle.sp_race.proofs.GoodSteps.{sound_opening, knows_nothing}
-use Rattle.sp_race.proofs.Verdict.{KnownAfterEntries, stepped, said, linked_start}
-use Rattle.sp_judge.specs.Races.{KnowsCompletion}
-use Rattle.sp_judge.proofs.Fronts.{silent_front}
+use Rattle.sp_race.proofs.OrderedSchedules.{KnownAfterEntries, stepped, said, linked_start}
+use Rattle.sp_race.specs.Races.{KnowsCompletion}
+use Rattle.sp_race.proofs.Fronts.{silent_front}
 use Rattle.sp_witness.specs.Witness.{who_of, who_at, entry_list, past_before, is_pause, is_known, offers_after}
 use Rattle.sp_witness.specs.Witness.{is_member, is_among, members, first_part, witness}
 use Rattle.sp_witness.specs.Contention.{IsContention, Shows}

@@ -8,8 +8,8 @@ use Rattle.sp_journal.specs.Past.{Knowledge, knowledge_of}
 use Rattle.sp_meaning.specs.LocalWork.{RunInput}
 use Rattle.sp_meaning.specs.Runs.{StateOf, IsDisjointRun}
 use Rattle.sp_meaning.specs.Along.{IsAlong, IsClean}
-use Rattle.sp_judge.specs.Prefixes.{WaitersAreSilent}
-use Rattle.sp_judge.specs.Races.{KnowsCompletion, IsLeastRace}
+use Rattle.sp_race.specs.Prefixes.{WaitersAreSilent}
+use Rattle.sp_race.specs.Races.{KnowsCompletion, IsLeastRace}
 use Rattle.sp_witness.specs.Contention.{Shows}
 use Rattle.sp_witness.proofs.Order.{known_front}
 use Rattle.sp_witness.proofs.RaceWitness.{shown}

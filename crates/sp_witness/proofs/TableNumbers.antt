@@ -14,7 +14,7 @@ use Rattle.sp_journal.specs.Births.{GivesNumbers}
 use Rattle.sp_journal.specs.Births.{NameableFrom, happening, occurrence, occurrences_from}
 use Rattle.sp_journal.proofs.Facts.{below, between}
 use Rattle.sp_journal.proofs.BirthLaws.{Lawful, lawful_after}
-use Rattle.sp_judge.proofs.Numbers.{ExtendsBirths, stays, one_channel, channel_stays, children_named}
+use Rattle.sp_race.proofs.Numbers.{ExtendsBirths, stays, one_channel, channel_stays, children_named}
 use Rattle.sp_witness.specs.TableNumbers.{IsPlain, Table, renumbered_event, renumbered_entry, table_after}
 use Rattle.sp_witness.specs.TableNumbers.{marked_entries}
 use Rattle.sp_witness.specs.TableNumbers.{renumbered_entries, table_of}

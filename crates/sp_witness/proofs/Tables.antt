@@ -14,7 +14,7 @@ use Rattle.sp_journal.specs.Births.{GivesNumbers}
 use Rattle.sp_journal.specs.Births.{NameableFrom, IsNameable, occurrence, occurrences}
 use Rattle.sp_journal.proofs.BirthLaws.{Lawful, lawful_start, lawful}
 use Rattle.sp_journal.proofs.Walk.{births_parts}
-use Rattle.sp_judge.proofs.Numbers.{ExtendsBirths, stays, all_named}
+use Rattle.sp_race.proofs.Numbers.{ExtendsBirths, stays, all_named}
 use Rattle.sp_witness.specs.Witness.{who_of, who_at, entry_list, first_part, witness}
 use Rattle.sp_witness.specs.OccurrenceNumbers.{witness_journal}
 use Rattle.sp_witness.specs.TableNumbers.{IsPlain, first_table, renumbered_entry, marked_entries, renumbered_entries}

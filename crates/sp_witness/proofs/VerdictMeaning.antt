@@ -22,8 +22,8 @@ use Rattle.sp_journal.specs.declared.entry.Way.{Way}
 use Rattle.sp_journal.specs.declared.outcome.End.{End}
 use Rattle.sp_journal.specs.declared.outcome.Verdict.{Verdict}
 use Rattle.sp_journal.specs.declared.outcome.Verdict.TheVariants as verdict
-use Rattle.sp_judge.specs.Races.{IsLeastRace, IsFault, IsVerdict}
-use Rattle.sp_judge.specs.Runs.{AllEndAlike, IsRunVerdict}
+use Rattle.sp_race.specs.Races.{IsLeastRace, IsFault, IsVerdict}
+use Rattle.sp_race.specs.Runs.{AllEndAlike, IsRunVerdict}
 
 module _ (g : RunInput) where
   -- a lawful schedule from s to t

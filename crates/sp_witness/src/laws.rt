@@ -18,8 +18,8 @@ ghost use Rattle.sp_meaning.specs.LocalWork.{RunInput};
 ghost use Rattle.sp_meaning.specs.Runs.{StateOf};
 ghost use Rattle.sp_meaning.specs.Along.{IsAlong, IsClean};
 ghost use Rattle.sp_meaning.specs.Ends.{EndIs};
-ghost use Rattle.sp_judge.specs.Prefixes.{WaitersAreSilent};
-ghost use Rattle.sp_judge.specs.Races.{IsFault, IsLeastRace, IsVerdict, Race};
+ghost use Rattle.sp_race.specs.Prefixes.{WaitersAreSilent};
+ghost use Rattle.sp_race.specs.Races.{IsFault, IsLeastRace, IsVerdict, Race};
 ghost use Rattle.sp_witness.specs.Witness.{first_part, witness};
 ghost use Rattle.sp_witness.specs.Contention.{NeverContends, Shows};
 ghost use Rattle.sp_witness.specs.NeededEntries.{backward_pass};
@@ -27,7 +27,7 @@ ghost use Rattle.sp_witness.specs.Flags.{picked_first_part, marks};
 ghost use Rattle.sp_witness.specs.OccurrenceNumbers.{entries_by_numbers, witness_journal};
 ghost use Rattle.sp_witness.specs.TableNumbers.{first_table, renumbered_entry, renumbered_entries, table_of, IsPlain};
 
-use sp_judge::{runs_are_silent, runs_without_a_fault_are_clean, verdicts_hold_of_runs};
+use sp_race::{runs_are_silent, runs_without_a_fault_are_clean, verdicts_hold_of_runs};
 
 /// The race is real. A program keeps the rules of interference; a run of it, along a journal without a fault, has a
 /// race, and this is its least pair. Then the witness of the two offers is the journal of a run of the same program,

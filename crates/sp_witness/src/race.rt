@@ -2,7 +2,7 @@
 
 ghost use Rattle.std.specs.Prelude.{◌≡◌, ◌<◌, IfOk, IfSome, length, slice_get};
 ghost use Rattle.sp_journal.specs.Births.{occurrences, IsNameable};
-ghost use Rattle.sp_judge.specs.Prefixes.{WaitersAreSilent};
+ghost use Rattle.sp_race.specs.Prefixes.{WaitersAreSilent};
 ghost use Rattle.sp_meaning.specs.Along.{IsClean};
 ghost use Rattle.sp_witness.specs.Witness.{witness as shown};
 ghost use Rattle.sp_witness.specs.OccurrenceNumbers.{witness_journal};

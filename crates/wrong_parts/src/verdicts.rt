@@ -3,9 +3,9 @@
 ghost use Rattle.std.specs.Prelude.{◌≡◌, ◌<◌, ℕ, max, IfOk, IfSome, OnOk, OnErr, length, slice_get};
 ghost use Rattle.sp_journal.specs.Births.{occurrences, IsNameable};
 ghost use Rattle.sp_meaning.specs.Along.{IsClean};
-ghost use Rattle.sp_judge.specs.Clocks.{count_of};
-ghost use Rattle.sp_judge.specs.Prefixes.{WaitersAreSilent};
-ghost use Rattle.sp_judge.specs.Races.{IsVerdict};
+ghost use Rattle.sp_race.specs.Clocks.{count_of};
+ghost use Rattle.sp_race.specs.Prefixes.{WaitersAreSilent};
+ghost use Rattle.sp_race.specs.Races.{IsVerdict};
 ghost use Rattle.sp_witness.specs.TableNumbers.{IsPlain};
 ghost use Rattle.sp_witness.specs.OccurrenceNumbers.{witness_journal};
 ghost use Rattle.sp_witness.specs.Witness.{witness as shown};
@@ -14,7 +14,7 @@ ghost use Rattle.sp_execute.specs.Witnesses.{IsReadyRun, witness_of};
 use sp_base::Memory;
 use sp_execute::Ran;
 use sp_journal::{End, Journal, Verdict};
-use sp_judge::Clock;
+use sp_race::Clock;
 use std::alloc::Global;
 
 /// `Clock::merge`.
@@ -26,13 +26,13 @@ pub fn merge(clock: &mut Clock, other: &Clock) -> Result<(), Memory>
     merged
 }
 
-/// `sp_judge::verdict_of`.
+/// `sp_race::verdict_of`.
 pub fn verdict_of(alloc: Global, journal: &Journal, end: &End) -> Result<Verdict, Memory>
     requires nameable { IsNameable journal.now }
     requires silent { WaitersAreSilent (occurrences journal.now) }
     ensures { IfOk result (λ verdict. IsVerdict (occurrences journal.now) end.now verdict) }
 {
-    let judged = sp_judge::verdict_of(alloc, journal, end);
+    let judged = sp_race::verdict_of(alloc, journal, end);
     judged
 }
 

@@ -4,9 +4,9 @@ use Rattle.sp_journal.specs.declared.entry.Journal.{Journal}
 use Rattle.sp_journal.specs.declared.outcome.End.{End}
 use Rattle.sp_journal.specs.Births.{occurrences}
 use Rattle.sp_meaning.specs.LocalWork.{RunInput}
-use Rattle.sp_judge.specs.Prefixes.{WaitersAreSilent}
+use Rattle.sp_race.specs.Prefixes.{WaitersAreSilent}
 use Rattle.sp_tree.specs.Interference.{IsFreeOfInterference}
-use Rattle.sp_judge.specs.Races.{IsVerdict}
+use Rattle.sp_race.specs.Races.{IsVerdict}
 use Rattle.sp_execute.specs.Runs.{IsAbout, Promises}
 use Rattle.sp_execute.proofs.VerdictFacts.{alike, if_judged}
 use Rattle.sp_execute.proofs.verdict.judge.Goals as goal

@@ -1,5 +1,0 @@
-use Rattle.sp_judge.proofs.ClockLaws.{none_counted}
-use Rattle.sp_judge.proofs.clock.Clock.is_empty.Goals as goal
-
-pub returns : goal.returns
-returns c = λ empty. none_counted c.args.self.now.counts.entries (c.is_empty.ensures.0 empty)

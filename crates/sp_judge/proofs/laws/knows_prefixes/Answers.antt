@@ -1,8 +1,0 @@
-use Rattle.sp_judge.proofs.PrefixLaws.{prefixes, counted_alone}
-use Rattle.sp_judge.proofs.laws.knows_prefixes.Goals as goal
-
-pub returns-clause-prefixes : goal.returns-clause-prefixes
-returns-clause-prefixes c = prefixes
-
-pub returns-clause-counted : goal.returns-clause-counted
-returns-clause-counted c = counted_alone
