@@ -17,7 +17,7 @@ ghost use Rattle.superpascal.specs.Calls.{Call};
 ghost use Rattle.promise_rows.specs.Observations.{Ends, Holds, IsQuiet, Observed};
 ghost use Rattle.promise_rows.specs.Programs.{calls_unknown, waits, writes_42};
 
-use sp_grammar::one_verdict;
+use sp_tree::one_verdict;
 
 /// `run` of `program p; begin q end.`: status 1, the line of N1 at `q`, and no output.
 pub fn unknown_names_are_refused()

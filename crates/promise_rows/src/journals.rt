@@ -9,8 +9,8 @@ ghost use Rattle.promise_rows.specs.Observations.{Ends, Holds, IsQuiet, Observed
 ghost use Rattle.promise_rows.specs.Programs.{writes_42};
 ghost use Rattle.promise_rows.specs.Files.{one_end, two_ends};
 
-use sp_grammar::one_verdict;
 use sp_journal::one_journal_of_a_text;
+use sp_tree::one_verdict;
 
 /// `replay` of `program p; begin write('42') end.` along a journal in which the root ends: status 0, the output of the
 /// program, and the lines of its end.

@@ -14,16 +14,16 @@ use Rattle.sp_tree.specs.Scans as s
 use Rattle.sp_tree.specs.Scans.{Scans, BreaksHere, BreaksAlong, LongText, IsTokens}
 use Rattle.sp_base.specs.declared.halt.Refusal.{Refusal}
 use Rattle.sp_tree.specs.Breaches.{nesting, BreaksGrammar, IsFirstBroken}
-use Rattle.sp_grammar.specs.Symbols.{Symbol, AProgram, AHeading, Value, part}
-use Rattle.sp_grammar.specs.Table.{RowEntry, Row, rows, look, gap}
-use Rattle.sp_grammar.specs.Machine.{skips_if, allows, acts, act, NextStack, On, No, next_of_act, next_behind, end_from}
-use Rattle.sp_grammar.specs.Machine.{RunEnd, Done, StuckAt}
-use Rattle.sp_grammar.specs.Machine.{run}
-use Rattle.sp_grammar.specs.Stops.{refusal_of}
-use Rattle.sp_grammar.proofs.Completes.{TokensOfAll, none, and, back}
-use Rattle.sp_grammar.proofs.Firsts.{first_broken, spells, none_broken}
-use Rattle.sp_grammar.proofs.TokenOrder.{lexeme_length, comment_length}
-use Rattle.sp_grammar.proofs.OneList.{not_both, one_comment, same_rest, blank_opens, opens, differ, not_blank}
+use Rattle.sp_tree.specs.Symbols.{Symbol, AProgram, AHeading, Value, part}
+use Rattle.sp_tree.specs.Table.{RowEntry, Row, rows, look, gap}
+use Rattle.sp_tree.specs.SymbolMachine.{skips_if, allows, acts, act, NextStack, On, No, next_of_act, next_behind, end_from}
+use Rattle.sp_tree.specs.SymbolMachine.{RunEnd, Done, StuckAt}
+use Rattle.sp_tree.specs.SymbolMachine.{run}
+use Rattle.sp_tree.specs.Stops.{refusal_of}
+use Rattle.sp_tree.proofs.Completes.{TokensOfAll, none, and, back}
+use Rattle.sp_tree.proofs.Firsts.{first_broken, spells, none_broken}
+use Rattle.sp_tree.proofs.TokenOrder.{lexeme_length, comment_length}
+use Rattle.sp_tree.proofs.OneList.{not_both, one_comment, same_rest, blank_opens, opens, differ, not_blank}
 use Rattle.sp_scan.proofs.Breaches.{fine_blank, comment_item}
 use Rattle.sp_scan.proofs.TokenPrefixes.{nothing_here, lexis}
 use Rattle.sp_format.specs.Items.{Item, HasItems}

@@ -14,8 +14,8 @@ use Rattle.sp_tree.specs.Lexemes.{BraceBody, brace_ends, brace_byte, StarBody, s
 use Rattle.sp_tree.specs.Lexemes.{brace_comment, star_comment, opens_comment, lower_case_prefix, Lexeme, name, word}
 use Rattle.sp_tree.specs.Lexemes.{number, text}
 use Rattle.sp_tree.specs.Lexemes.{sign, Longest}
-use Rattle.sp_grammar.proofs.TokenOrder.{HoldsOfEach, each_at}
-use Rattle.sp_grammar.proofs.OneList.{sign_plain, no_letter, no_digit, no_quote, differ}
+use Rattle.sp_tree.proofs.TokenOrder.{HoldsOfEach, each_at}
+use Rattle.sp_tree.proofs.OneList.{sign_plain, no_letter, no_digit, no_quote, differ}
 use Rattle.sp_scan.specs.Finds.{IsWordOf}
 use Rattle.sp_scan.proofs.Tokens.{longest_name, longest_number, longest_text, longest_sign}
 use Rattle.sp_format.specs.Items.{canonical_spelling, front}

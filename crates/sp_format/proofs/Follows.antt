@@ -12,7 +12,7 @@ use Rattle.sp_tree.specs.Spelling.{digits_value}
 use Rattle.sp_tree.specs.Lexemes.{signs, refused_words, opens_comment, Longest, Comment}
 use Rattle.sp_tree.specs.Scans as s
 use Rattle.sp_tree.specs.Scans.{BreaksHere, begins_digit, goes_on_real}
-use Rattle.sp_grammar.proofs.TokenOrder.{each_at}
+use Rattle.sp_tree.proofs.TokenOrder.{each_at}
 use Rattle.sp_format.specs.declared.context.Context.{Context}
 use Rattle.sp_format.specs.Items.{Item, item, item_from, canonical_spelling, HasItems, no_item, blank, comment, token}
 use Rattle.sp_format.specs.Layout.{context_of, gap, items_layout, canonical_text, indentation, breaks, touches, depth}

@@ -13,9 +13,9 @@ use Rattle.sp_tree.specs.Places.{start, place_at}
 use Rattle.sp_tree.specs.Lexemes.{Comment, Longest, Lexeme, opens_comment}
 use Rattle.sp_tree.specs.Scans as s
 use Rattle.sp_tree.specs.Scans.{Scans, BreaksHere, IsTokens, offset}
-use Rattle.sp_grammar.proofs.TokenOrder.{lexeme_length, comment_length}
-use Rattle.sp_grammar.proofs.OneList.{one_comment, one_kind, same_rest, blank_opens, opens, differ, not_blank}
-use Rattle.sp_grammar.proofs.TextParts.{scans_chain}
+use Rattle.sp_tree.proofs.TokenOrder.{lexeme_length, comment_length}
+use Rattle.sp_tree.proofs.OneList.{one_comment, one_kind, same_rest, blank_opens, opens, differ, not_blank}
+use Rattle.sp_tree.proofs.TextParts.{scans_chain}
 use Rattle.sp_scan.specs.Finds as f
 use Rattle.sp_scan.specs.Finds.{IsGap, blank_gap, comment_gap}
 use Rattle.sp_scan.proofs.TokenPrefixes.{to_lexis}

@@ -14,17 +14,17 @@ use Rattle.sp_tree.specs.PlainSyntax.{Program}
 use Rattle.sp_tree.specs.Grammar.{IsRelational, equal, IsAdding, plus, minus}
 use Rattle.sp_tree.specs.Grammar.{or, IsMultiplying, times, quotient, modulo, and}
 use Rattle.sp_tree.specs.Viable.{Any, Spells}
-use Rattle.sp_grammar.specs.Symbols.{Symbol, AToken, AName, AProgram, AFormal, AStatement, MoreLabels, MoreArms}
-use Rattle.sp_grammar.specs.Symbols.{AnExpression, ARelation, ASimple, MoreTerms, ATerm, MoreFactors, AFactor, Value}
-use Rattle.sp_grammar.specs.Table as row
-use Rattle.sp_grammar.specs.Table.{ConstantRow, PartsRow, FormRow, SelectorRow, FactorRow, SimpleRow, Row, RowEntry}
-use Rattle.sp_grammar.specs.Table.{rows}
-use Rattle.sp_grammar.specs.Table.{look, gap}
-use Rattle.sp_grammar.specs.Machine.{Why, Bad, acts, NextStack, On, No, next_of_act, next_behind, end_from, RunEnd}
-use Rattle.sp_grammar.specs.Machine.{Done, StuckAt, run}
-use Rattle.sp_grammar.proofs.From.{found}
-use Rattle.sp_grammar.proofs.Run.{leads}
-use Rattle.sp_grammar.proofs.To.{program}
+use Rattle.sp_tree.specs.Symbols.{Symbol, AToken, AName, AProgram, AFormal, AStatement, MoreLabels, MoreArms}
+use Rattle.sp_tree.specs.Symbols.{AnExpression, ARelation, ASimple, MoreTerms, ATerm, MoreFactors, AFactor, Value}
+use Rattle.sp_tree.specs.Table as row
+use Rattle.sp_tree.specs.Table.{ConstantRow, PartsRow, FormRow, SelectorRow, FactorRow, SimpleRow, Row, RowEntry}
+use Rattle.sp_tree.specs.Table.{rows}
+use Rattle.sp_tree.specs.Table.{look, gap}
+use Rattle.sp_tree.specs.SymbolMachine.{Why, Bad, acts, NextStack, On, No, next_of_act, next_behind, end_from, RunEnd}
+use Rattle.sp_tree.specs.SymbolMachine.{Done, StuckAt, run}
+use Rattle.sp_tree.proofs.FromTable.{found}
+use Rattle.sp_tree.proofs.MachineRuns.{leads}
+use Rattle.sp_tree.proofs.ToTable.{program}
 
 -- a token that may not stand behind another
 abbrev pub clash : Kind → Kind → Bool

@@ -17,7 +17,7 @@ use Rattle.sp_tree.specs.Spelling.{digits_value}
 use Rattle.sp_tree.specs.Lexemes.{signs, refused_words, lower_case_prefix, Longest, Comment}
 use Rattle.sp_tree.specs.Scans as s
 use Rattle.sp_tree.specs.Scans.{Scans, BreaksHere}
-use Rattle.sp_grammar.proofs.TokenOrder.{HoldsOfEach, each_at}
+use Rattle.sp_tree.proofs.TokenOrder.{HoldsOfEach, each_at}
 use Rattle.sp_format.specs.declared.context.Context.{Context}
 use Rattle.sp_format.specs.Items.{Item, item, item_from, canonical_spelling, front, HasItems, no_item, blank, comment}
 use Rattle.sp_format.specs.Items.{token}

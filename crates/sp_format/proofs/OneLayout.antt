@@ -1,7 +1,7 @@
 -- A text has at most one canonical text or one rule for which it has none, and never both.
 use Rattle.std.proofs.Common.{◌≡◌, inl, inr, ℕ, List, length, sym, ◌∙◌, ap, arith}
 use Rattle.sp_base.specs.declared.halt.Refusal.{Refusal}
-use Rattle.sp_grammar.proofs.OneList.{one_verdict, not_both}
+use Rattle.sp_tree.proofs.OneList.{one_verdict, not_both}
 use Rattle.sp_format.specs.Layout.{canonical_text}
 use Rattle.sp_format.specs.Formats.{HasLayout, HasNoLayout, IsCanonical, IsLong}
 use Rattle.sp_format.proofs.ItemLists.{one_items, one_text}

@@ -19,16 +19,16 @@ use Rattle.sp_tree.specs.Viable.{Any, Spells}
 use Rattle.sp_tree.specs.Scans as s
 use Rattle.sp_tree.specs.Scans.{Scans, IsTokens, offset, token_from}
 use Rattle.sp_tree.specs.Breaches.{IsTree}
-use Rattle.sp_grammar.specs.Symbols as sym
-use Rattle.sp_grammar.specs.Symbols.{Symbol, Value, Values, part, split}
-use Rattle.sp_grammar.specs.Table as row
-use Rattle.sp_grammar.specs.Table.{ConstantRow, PartsRow, FormRow, SelectorRow, FactorRow, SimpleRow, Row, rows}
-use Rattle.sp_grammar.specs.Table.{look, gap, build, constant_value, parts_value, form_value, selector_value}
-use Rattle.sp_grammar.specs.Table.{factor_value, simple_value}
-use Rattle.sp_grammar.specs.Derives.{PartMayBegin, Derives, takes, skips, DerivesAll, none, and}
-use Rattle.sp_grammar.proofs.From.{found, from}
-use Rattle.sp_grammar.proofs.To as to
-use Rattle.sp_grammar.proofs.OneList.{Tail, here, there, lexeme_tail, one_list}
+use Rattle.sp_tree.specs.Symbols as sym
+use Rattle.sp_tree.specs.Symbols.{Symbol, Value, Values, part, split}
+use Rattle.sp_tree.specs.Table as row
+use Rattle.sp_tree.specs.Table.{ConstantRow, PartsRow, FormRow, SelectorRow, FactorRow, SimpleRow, Row, rows}
+use Rattle.sp_tree.specs.Table.{look, gap, build, constant_value, parts_value, form_value, selector_value}
+use Rattle.sp_tree.specs.Table.{factor_value, simple_value}
+use Rattle.sp_tree.specs.Derives.{PartMayBegin, Derives, takes, skips, DerivesAll, none, and}
+use Rattle.sp_tree.proofs.FromTable.{found, from}
+use Rattle.sp_tree.proofs.ToTable as to
+use Rattle.sp_tree.proofs.OneList.{Tail, here, there, lexeme_tail, one_list}
 use Rattle.sp_parse.proofs.TokenBounds.{Tail as Front, more, comment_tail}
 use Rattle.sp_format.specs.Items as i
 use Rattle.sp_format.specs.Items.{Item, HasItems, item, canonical_spelling, front}

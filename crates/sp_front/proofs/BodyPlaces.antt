@@ -16,12 +16,12 @@ use Rattle.sp_tree.specs.Grammar.{with_part_first}
 use Rattle.sp_tree.specs.Breaches.{IsTree}
 use Rattle.sp_tree.specs.Viable.{Any}
 use Rattle.sp_tree.proofs.Earlier.{Earlier, not_earlier}
-use Rattle.sp_grammar.specs.Symbols as sym
-use Rattle.sp_grammar.specs.Symbols.{Symbol, Value, Values}
-use Rattle.sp_grammar.specs.Derives.{Derives, takes, skips, DerivesAll, none, and}
-use Rattle.sp_grammar.proofs.Order.{rises}
-use Rattle.sp_grammar.proofs.TokenOrder.{Rising, rising}
-use Rattle.sp_grammar.proofs.To as to
+use Rattle.sp_tree.specs.Symbols as sym
+use Rattle.sp_tree.specs.Symbols.{Symbol, Value, Values}
+use Rattle.sp_tree.specs.Derives.{Derives, takes, skips, DerivesAll, none, and}
+use Rattle.sp_tree.proofs.RefusalOrder.{rises}
+use Rattle.sp_tree.proofs.TokenOrder.{Rising, rising}
+use Rattle.sp_tree.proofs.ToTable as to
 use Rattle.sp_types.specs.StatementNumbers.{DiffersFrom, AllDiffer}
 use Rattle.sp_types.proofs.StatementNumbers.{differs_both}
 

@@ -13,7 +13,7 @@ use Rattle.sp_tree.specs.Interferes.{Interferes}
 use Rattle.sp_tree.specs.Interference.{IsFreeOfInterference}
 use Rattle.sp_tree.specs.NameFirst.{broken_name_rules}
 use Rattle.sp_tree.specs.NamedTree.{program_named}
-use Rattle.sp_grammar.proofs.Order.{one_first}
+use Rattle.sp_tree.proofs.RefusalOrder.{one_first}
 use Rattle.sp_types.specs.CheckedTree.{program_checked}
 use Rattle.sp_facts.specs.AcceptedTree.{IsNumberedTree, tree}
 use Rattle.sp_facts.proofs.PhaseAnswers.{names_kept, types_kept}

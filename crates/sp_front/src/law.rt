@@ -16,9 +16,9 @@ ghost use Rattle.sp_front.specs.Compiles.{FirstBrokenOfPhases, IsAccepted};
 
 use sp_facts::laws::{accepted_trees_are_fine, names_number_the_tree};
 use sp_generate::one_code;
-use sp_grammar::{one_verdict, some_verdict};
 use sp_meaning::rule_keepers_are_disjoint;
 use sp_scan::first_breach;
+use sp_tree::{one_verdict, some_verdict};
 
 /// The first rule that a text breaks is one rule at one place. A text that breaks one has no checked tree, and no text
 /// has two checked trees, or two programs.

@@ -12,9 +12,8 @@ use crate::reader::read_text;
 use crate::to_code::compiled;
 use sp_base::{Halt, List, Text};
 use sp_code::Code;
-use sp_grammar::one_verdict;
 use sp_lines::{Mark, by_kind, constants, marks};
-use sp_tree::Checked;
+use sp_tree::{Checked, one_verdict};
 use std::alloc::Global;
 use std::thread::Threads;
 

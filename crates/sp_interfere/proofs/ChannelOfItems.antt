@@ -11,7 +11,7 @@ use Rattle.sp_tree.specs.PlainChecked.{Expression, Variable, Program}
 use Rattle.sp_tree.specs.CheckedOf.{sends, receives}
 use Rattle.sp_tree.specs.Sites.{Site, StopsAt, expression_sites, variable_sites}
 use Rattle.sp_tree.specs.Interferes.{IsSite}
-use Rattle.sp_grammar.proofs.Order.{one_first}
+use Rattle.sp_tree.proofs.RefusalOrder.{one_first}
 use Rattle.sp_varsets.specs.declared.sets.Sets.{Sets}
 use Rattle.sp_interfere.specs.Rules.{site_first}
 use Rattle.sp_interfere.specs.Walk.{each_first, expression_first, variable_first, statements_first}

@@ -9,7 +9,7 @@ use Rattle.std.proofs.lemmas.Option.{same_Some}
 use Rattle.sp_base.specs.declared.halt.Refusal.{Refusal}
 use Rattle.sp_tree.specs.First.{refusal_cmp, refusal_before}
 use Rattle.sp_tree.specs.PhaseResults.{FirstRefusal, earlier_refusal}
-use Rattle.sp_grammar.proofs.Order.{refusal_total}
+use Rattle.sp_tree.proofs.RefusalOrder.{refusal_total}
 
 turned : (o : Ordering) → is_lt o ≡ is_gt (ordering_reverse o)
 turned Less = refl

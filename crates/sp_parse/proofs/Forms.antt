@@ -8,11 +8,11 @@ use Rattle.sp_tree.specs.declared.token.Kind.TheVariants as kind
 use Rattle.sp_tree.specs.Words as w
 use Rattle.sp_tree.specs.PlainSyntax as tree
 use Rattle.sp_tree.specs.Breaches.{nesting}
-use Rattle.sp_grammar.specs.Symbols as sym
-use Rattle.sp_grammar.specs.Symbols.{Symbol, Values, split}
-use Rattle.sp_grammar.specs.Table as row
-use Rattle.sp_grammar.specs.Table.{FormRow, RowEntry, Row, row_entry, rows, look, kind_is, form_rows, form_value}
-use Rattle.sp_grammar.proofs.From.{kind_is-true}
+use Rattle.sp_tree.specs.Symbols as sym
+use Rattle.sp_tree.specs.Symbols.{Symbol, Values, split}
+use Rattle.sp_tree.specs.Table as row
+use Rattle.sp_tree.specs.Table.{FormRow, RowEntry, Row, row_entry, rows, look, kind_is, form_rows, form_value}
+use Rattle.sp_tree.proofs.FromTable.{kind_is-true}
 use Rattle.sp_parse.specs.declared.source.Source.{Source}
 use Rattle.sp_parse.specs.declared.source.Tokens.{Tokens}
 use Rattle.sp_parse.specs.Reads.{breaks, Pending, Looks, Skips, GoesOn, no_kind}

@@ -6,8 +6,8 @@ use Rattle.sp_base.specs.declared.halt.Halt.TheVariants as halt
 use Rattle.sp_base.specs.declared.rule.Rule.TheVariants as rule
 use Rattle.sp_tree.specs.declared.token.Token.{Token}
 use Rattle.sp_tree.specs.declared.token.Kind.{Kind}
-use Rattle.sp_grammar.specs.Symbols.{AToken}
-use Rattle.sp_grammar.specs.Table.{row_entry, rows, look, kind_is, token}
+use Rattle.sp_tree.specs.Symbols.{AToken}
+use Rattle.sp_tree.specs.Table.{row_entry, rows, look, kind_is, token}
 use Rattle.sp_parse.specs.declared.source.Source.{Source}
 use Rattle.sp_parse.specs.declared.source.Tokens.{Tokens}
 use Rattle.sp_parse.specs.Reads.{TokensFit, HasTokens, breaks, Looks, Skips, Fails, Takes, Differs}

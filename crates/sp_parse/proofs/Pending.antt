@@ -7,10 +7,10 @@ use Rattle.sp_base.specs.declared.halt.Refusal.{Refusal}
 use Rattle.sp_tree.specs.declared.token.Token.{Token}
 use Rattle.sp_tree.specs.declared.token.Kind.{Kind}
 use Rattle.sp_tree.specs.Breaches.{nesting}
-use Rattle.sp_grammar.specs.Symbols.{Symbol, Value, Values, split, part, AToken}
-use Rattle.sp_grammar.specs.Table.{Row, row_entry, rows, look, gap, build, kind_is, token}
-use Rattle.sp_grammar.specs.Machine.{allows}
-use Rattle.sp_grammar.specs.Derives.{PartMayBegin as MayBegin, Derives, skips, DerivesAll, none, and}
+use Rattle.sp_tree.specs.Symbols.{Symbol, Value, Values, split, part, AToken}
+use Rattle.sp_tree.specs.Table.{Row, row_entry, rows, look, gap, build, kind_is, token}
+use Rattle.sp_tree.specs.SymbolMachine.{allows}
+use Rattle.sp_tree.specs.Derives.{PartMayBegin as MayBegin, Derives, skips, DerivesAll, none, and}
 use Rattle.sp_parse.specs.declared.source.Source.{Source}
 use Rattle.sp_parse.specs.declared.source.Tokens.{Tokens}
 use Rattle.sp_parse.specs.Reads.{IsNestable, HasTokens, breaks, EndsBy, Ends, Pending, Looks, Skips, Fails, Takes}

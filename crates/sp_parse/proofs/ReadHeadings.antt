@@ -3,8 +3,8 @@ use Rattle.std.proofs.Common.{Bool, true, false, [], ◌∷◌, refl, ap}
 use Rattle.sp_tree.specs.declared.syntax.SynFormal.{SynFormal}
 use Rattle.sp_tree.specs.declared.syntax.SynGroup.{SynGroup}
 use Rattle.sp_tree.specs.Words as w
-use Rattle.sp_grammar.specs.Symbols.{AFormal}
-use Rattle.sp_grammar.specs.Table as row
+use Rattle.sp_tree.specs.Symbols.{AFormal}
+use Rattle.sp_tree.specs.Table as row
 use Rattle.sp_parse.specs.declared.source.Source.{Source}
 use Rattle.sp_parse.specs.declared.source.Tokens.{Tokens}
 use Rattle.sp_parse.specs.BlockProductions.{group}

@@ -8,14 +8,14 @@ use Rattle.sp_tree.specs.declared.token.Kind.TheVariants as kind
 use Rattle.sp_tree.specs.declared.operators.BinaryOp.{BinaryOp}
 use Rattle.sp_tree.specs.Words as w
 use Rattle.sp_tree.specs.Breaches.{nesting}
-use Rattle.sp_grammar.specs.Symbols.{Symbol, Value, Values, split, part, AnExpression, ARelation, ANegated, MoreFactors}
-use Rattle.sp_grammar.specs.Symbols.{MoreTerms, AValue, AConstant, ABlock}
-use Rattle.sp_grammar.specs.Table.{RowEntry, Row, row_entry, rows, look, gap, build, kind_is, FactorRow, SimpleRow}
-use Rattle.sp_grammar.specs.Table.{factor_rows, simple_rows, parts_rows, PartsRow, simple_factor, expression, negated}
-use Rattle.sp_grammar.specs.Table.{block}
-use Rattle.sp_grammar.specs.Machine.{allows}
-use Rattle.sp_grammar.specs.Derives.{PartMayBegin as MayBegin, Derives, takes, skips, DerivesAll, none, and}
-use Rattle.sp_grammar.proofs.From.{kind_is-true}
+use Rattle.sp_tree.specs.Symbols.{Symbol, Value, Values, split, part, AnExpression, ARelation, ANegated, MoreFactors}
+use Rattle.sp_tree.specs.Symbols.{MoreTerms, AValue, AConstant, ABlock}
+use Rattle.sp_tree.specs.Table.{RowEntry, Row, row_entry, rows, look, gap, build, kind_is, FactorRow, SimpleRow}
+use Rattle.sp_tree.specs.Table.{factor_rows, simple_rows, parts_rows, PartsRow, simple_factor, expression, negated}
+use Rattle.sp_tree.specs.Table.{block}
+use Rattle.sp_tree.specs.SymbolMachine.{allows}
+use Rattle.sp_tree.specs.Derives.{PartMayBegin as MayBegin, Derives, takes, skips, DerivesAll, none, and}
+use Rattle.sp_tree.proofs.FromTable.{kind_is-true}
 use Rattle.sp_parse.specs.declared.source.Source.{Source}
 use Rattle.sp_parse.specs.Reads.{IsNestable, breaks}
 use Rattle.sp_parse.specs.Operators.{IsOperator, is_some, BeginsFactor, BeginsSimple, BeginsBlock}

@@ -8,13 +8,13 @@ use Rattle.sp_tree.specs.declared.token.Kind.{Kind}
 use Rattle.sp_tree.specs.declared.token.Kind.TheVariants as kind
 use Rattle.sp_tree.specs.Places.{place_at}
 use Rattle.sp_tree.specs.Breaches.{nesting}
-use Rattle.sp_grammar.specs.Symbols.{Symbol, Value, Values, part, AToken}
-use Rattle.sp_grammar.specs.Table.{RowEntry, Row, row_entry, rows, look, gap, build, kind_is, token}
-use Rattle.sp_grammar.specs.Machine.{Why, Bad, Deep, Take, Skip, Fail, allows, skips_if, acts, act, RunEnd, StuckAt}
-use Rattle.sp_grammar.specs.Machine.{run}
-use Rattle.sp_grammar.specs.Derives.{PartMayBegin as MayBegin, Derives, takes, skips, DerivesAll, none, and}
-use Rattle.sp_grammar.proofs.Run.{at_act, act_takes, act_skips, leads_all}
-use Rattle.sp_grammar.proofs.From.{kind_is-true}
+use Rattle.sp_tree.specs.Symbols.{Symbol, Value, Values, part, AToken}
+use Rattle.sp_tree.specs.Table.{RowEntry, Row, row_entry, rows, look, gap, build, kind_is, token}
+use Rattle.sp_tree.specs.SymbolMachine.{Why, Bad, Deep, Take, Skip, Fail, allows, skips_if, acts, act, RunEnd, StuckAt}
+use Rattle.sp_tree.specs.SymbolMachine.{run}
+use Rattle.sp_tree.specs.Derives.{PartMayBegin as MayBegin, Derives, takes, skips, DerivesAll, none, and}
+use Rattle.sp_tree.proofs.MachineRuns.{at_act, act_takes, act_skips, leads_all}
+use Rattle.sp_tree.proofs.FromTable.{kind_is-true}
 use Rattle.sp_parse.specs.declared.source.Source.{Source}
 use Rattle.sp_parse.specs.Reads.{IsNestable, breaks, refused_by}
 

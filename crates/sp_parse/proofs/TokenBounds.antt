@@ -16,8 +16,8 @@ use Rattle.sp_tree.specs.Lexemes.{brace_ends, brace_byte, StarBody, star_ends, s
 use Rattle.sp_tree.specs.Lexemes.{star_comment, Lexeme, Longest, lower_case_prefix}
 use Rattle.sp_tree.specs.Lexemes as l
 use Rattle.sp_tree.specs.Scans.{Scans, nothing, blank, comment, token, offset, token_from, BreaksLexis, IsTokens}
-use Rattle.sp_grammar.proofs.TokenOrder.{lexeme_length}
-use Rattle.sp_grammar.proofs.TextParts.{scans_chain, lower_number}
+use Rattle.sp_tree.proofs.TokenOrder.{lexeme_length}
+use Rattle.sp_tree.proofs.TextParts.{scans_chain, lower_number}
 use Rattle.sp_parse.specs.Reads.{TokensFit}
 
 -- the second list is the end of the first

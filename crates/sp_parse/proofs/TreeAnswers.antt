@@ -15,13 +15,13 @@ use Rattle.sp_tree.specs.Viable.{Shallow}
 use Rattle.sp_tree.specs.Scans.{IsTokens}
 use Rattle.sp_tree.specs.First.{IsFirst}
 use Rattle.sp_tree.specs.Breaches.{nesting, BreaksGrammar}
-use Rattle.sp_grammar.specs.Symbols.{AProgram}
-use Rattle.sp_grammar.specs.Machine.{RunEnd, Done, StuckAt, run}
-use Rattle.sp_grammar.specs.Stops.{GetsStuck}
-use Rattle.sp_grammar.proofs.From.{from}
-use Rattle.sp_grammar.proofs.Wider.{wider_program}
-use Rattle.sp_grammar.proofs.Firsts.{first_broken, spells, none_broken}
-use Rattle.sp_grammar.specs.Derives.{none}
+use Rattle.sp_tree.specs.Symbols.{AProgram}
+use Rattle.sp_tree.specs.SymbolMachine.{RunEnd, Done, StuckAt, run}
+use Rattle.sp_tree.specs.Stops.{GetsStuck}
+use Rattle.sp_tree.proofs.FromTable.{from}
+use Rattle.sp_tree.proofs.Wider.{wider_program}
+use Rattle.sp_tree.proofs.Firsts.{first_broken, spells, none_broken}
+use Rattle.sp_tree.specs.Derives.{none}
 use Rattle.sp_parse.specs.declared.source.Source.{Source}
 use Rattle.sp_parse.specs.declared.source.Tokens.{Tokens}
 use Rattle.sp_parse.specs.Reads.{IsNestable, HasTokens, breaks, refused_by, EndsBy, Pending, Fails, Finishes}

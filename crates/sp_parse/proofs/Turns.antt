@@ -13,17 +13,17 @@ use Rattle.sp_tree.specs.PlainSyntax as tree
 use Rattle.sp_tree.specs.Grammar as g
 use Rattle.sp_tree.specs.Spelling.{name_of}
 use Rattle.sp_tree.specs.Breaches.{nesting}
-use Rattle.sp_grammar.specs.Symbols as sym
-use Rattle.sp_grammar.specs.Symbols.{Symbol, Value, Values, split, part}
-use Rattle.sp_grammar.specs.Table as row
-use Rattle.sp_grammar.specs.Table.{FactorRow, SimpleRow, SelectorRow, ConstantRow, PartsRow, Row, RowEntry, row_entry}
-use Rattle.sp_grammar.specs.Table.{rows, look, kind_is, build, gap, factor_rows, simple_rows, selector_rows}
-use Rattle.sp_grammar.specs.Table.{constant_rows, parts_rows, factor_value, simple_value, selector_value}
-use Rattle.sp_grammar.specs.Table.{constant_value}
-use Rattle.sp_grammar.specs.Machine.{allows}
-use Rattle.sp_grammar.specs.Derives.{PartMayBegin as MayBegin, Derives, takes, skips, DerivesAll, none, and}
-use Rattle.sp_grammar.proofs.From.{kind_is-true}
-use Rattle.sp_grammar.proofs.Looks.{look_relation, look_adding, look_multiplying}
+use Rattle.sp_tree.specs.Symbols as sym
+use Rattle.sp_tree.specs.Symbols.{Symbol, Value, Values, split, part}
+use Rattle.sp_tree.specs.Table as row
+use Rattle.sp_tree.specs.Table.{FactorRow, SimpleRow, SelectorRow, ConstantRow, PartsRow, Row, RowEntry, row_entry}
+use Rattle.sp_tree.specs.Table.{rows, look, kind_is, build, gap, factor_rows, simple_rows, selector_rows}
+use Rattle.sp_tree.specs.Table.{constant_rows, parts_rows, factor_value, simple_value, selector_value}
+use Rattle.sp_tree.specs.Table.{constant_value}
+use Rattle.sp_tree.specs.SymbolMachine.{allows}
+use Rattle.sp_tree.specs.Derives.{PartMayBegin as MayBegin, Derives, takes, skips, DerivesAll, none, and}
+use Rattle.sp_tree.proofs.FromTable.{kind_is-true}
+use Rattle.sp_tree.proofs.Looks.{look_relation, look_adding, look_multiplying}
 use Rattle.sp_parse.specs.declared.source.Source.{Source}
 use Rattle.sp_parse.specs.declared.source.Tokens.{Tokens}
 use Rattle.sp_parse.specs.Reads.{IsNestable, breaks, Pending, Looks, Skips, Differs}

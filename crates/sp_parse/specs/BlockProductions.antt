@@ -14,8 +14,8 @@ use Rattle.sp_tree.specs.declared.syntax.SynPart.{SynPart}
 use Rattle.sp_tree.specs.Words as w
 use Rattle.sp_tree.specs.PlainSyntax as tree
 use Rattle.sp_tree.specs.Grammar.{with_part_first}
-use Rattle.sp_grammar.specs.Symbols.{AToken, AName, MoreNames, AConstant, AType, MoreFields, AFormal}
-use Rattle.sp_grammar.specs.Symbols.{MoreFormals, Formals, ABlock, MoreConstants, MoreTypes, MoreVariables}
+use Rattle.sp_tree.specs.Symbols.{AToken, AName, MoreNames, AConstant, AType, MoreFields, AFormal}
+use Rattle.sp_tree.specs.Symbols.{MoreFormals, Formals, ABlock, MoreConstants, MoreTypes, MoreVariables}
 use Rattle.sp_parse.specs.Productions.{Production, production}
 use Rattle.sp_parse.specs.Trees.{and_parts}
 

@@ -10,8 +10,8 @@ use Rattle.sp_tree.specs.declared.syntax.SynExpr.{SynExpr}
 use Rattle.sp_tree.specs.declared.syntax.SynSelector.{SynSelector}
 use Rattle.sp_tree.specs.PlainSyntax as tree
 use Rattle.sp_tree.specs.SyntaxOf.{expression_of}
-use Rattle.sp_grammar.specs.Symbols.{AnExpression, MoreFactors, AFactor, ANegated, AReference, MoreIndices}
-use Rattle.sp_grammar.specs.Symbols.{MoreArguments, AWidth}
+use Rattle.sp_tree.specs.Symbols.{AnExpression, MoreFactors, AFactor, ANegated, AReference, MoreIndices}
+use Rattle.sp_tree.specs.Symbols.{MoreArguments, AWidth}
 use Rattle.sp_parse.specs.Productions.{Production, production}
 use Rattle.sp_parse.specs.Trees.{and_selectors}
 

@@ -11,8 +11,8 @@ use Rattle.sp_tree.specs.declared.operators.UnaryOp.TheVariants as unary
 use Rattle.sp_tree.specs.declared.operators.BinaryOp.{BinaryOp}
 use Rattle.sp_tree.specs.Words as w
 use Rattle.sp_tree.specs.Grammar.{IsRelational, IsAdding, IsMultiplying}
-use Rattle.sp_grammar.specs.Symbols.{Symbol, ARelation, MoreTerms, MoreFactors}
-use Rattle.sp_grammar.specs.Table.{kind_is, look, rows, factor_rows, simple_rows, selector_rows, form_rows, parts_rows}
+use Rattle.sp_tree.specs.Symbols.{Symbol, ARelation, MoreTerms, MoreFactors}
+use Rattle.sp_tree.specs.Table.{kind_is, look, rows, factor_rows, simple_rows, selector_rows, form_rows, parts_rows}
 
 -- a sign before a term
 abbrev pub IsSign : Token → Option UnaryOp → Type 0

@@ -7,7 +7,7 @@
 -- line and `_` for its tokens. A production is a record, and each one unfolds, so that proofs see the symbols and the
 -- tree that they make.
 use Rattle.std.specs.Prelude.{List, [], ◌∷◌}
-use Rattle.sp_grammar.specs.Symbols.{Symbol, Value, Values}
+use Rattle.sp_tree.specs.Symbols.{Symbol, Value, Values}
 
 pub record Production (V : Type 0) : Type 0 where
   pub symbols : List Symbol

@@ -16,11 +16,11 @@ use Rattle.sp_tree.specs.declared.token.Kind.TheVariants as kind
 use Rattle.sp_tree.specs.Places.{place_at}
 use Rattle.sp_tree.specs.Spelling.{number_of}
 use Rattle.sp_tree.specs.Breaches.{nesting}
-use Rattle.sp_grammar.specs.Symbols.{Symbol, Value, Values, AToken}
-use Rattle.sp_grammar.specs.Table.{kind_is}
-use Rattle.sp_grammar.specs.Machine.{RunEnd, Done, StuckAt, run}
-use Rattle.sp_grammar.specs.Derives.{DerivesAll}
-use Rattle.sp_grammar.specs.Stops.{refusal_of}
+use Rattle.sp_tree.specs.Symbols.{Symbol, Value, Values, AToken}
+use Rattle.sp_tree.specs.Table.{kind_is}
+use Rattle.sp_tree.specs.SymbolMachine.{RunEnd, Done, StuckAt, run}
+use Rattle.sp_tree.specs.Derives.{DerivesAll}
+use Rattle.sp_tree.specs.Stops.{refusal_of}
 use Rattle.sp_parse.specs.declared.source.Source.{Source}
 use Rattle.sp_parse.specs.declared.source.Tokens.{Tokens}
 use Rattle.sp_parse.specs.Productions.{Production}

@@ -10,8 +10,8 @@ use Rattle.sp_tree.specs.Words as w
 use Rattle.sp_tree.specs.PlainSyntax.{Statement, Statements, Arms, Does}
 use Rattle.sp_tree.specs.PlainSyntax.{If, While, Repeat, Case, For, Parallel, Forall, AndThen, On, Or}
 use Rattle.sp_tree.specs.PlainSyntax.{Beside}
-use Rattle.sp_grammar.specs.Symbols.{AToken, AName, AConstant, AStatement, AfterName, AnElse, MoreStatements}
-use Rattle.sp_grammar.specs.Symbols.{MoreBranches, MoreLabels, MoreArms, ADirection, AnExpression}
+use Rattle.sp_tree.specs.Symbols.{AToken, AName, AConstant, AStatement, AfterName, AnElse, MoreStatements}
+use Rattle.sp_tree.specs.Symbols.{MoreBranches, MoreLabels, MoreArms, ADirection, AnExpression}
 use Rattle.sp_parse.specs.Productions.{Production, production}
 
 -- sequence = statement { ";" statement }

@@ -2,7 +2,7 @@
 
 ghost use Rattle.std.specs.Prelude.{ℕ, ◌≤◌};
 ghost use Rattle.sp_tree.specs.SyntaxOf.{block_of, part_of, program_of};
-ghost use Rattle.sp_grammar.specs.Symbols.{AProgram, ABlock, Parts};
+ghost use Rattle.sp_tree.specs.Symbols.{AProgram, ABlock, Parts};
 ghost use Rattle.sp_parse.specs.Productions.{single};
 ghost use Rattle.sp_parse.specs.Reads.{HasTokens, Parses};
 ghost use Rattle.sp_parse.specs.Operators.{BeginsBlock};

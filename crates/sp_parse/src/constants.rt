@@ -1,7 +1,7 @@
 //! How constants are read.
 
 ghost use Rattle.std.specs.Prelude.{◌≡◌, None};
-ghost use Rattle.sp_grammar.specs.Symbols.{AConstant, AValue};
+ghost use Rattle.sp_tree.specs.Symbols.{AConstant, AValue};
 ghost use Rattle.sp_parse.specs.Productions.{itself, single};
 ghost use Rattle.sp_parse.specs.Reads.{HasTokens, Parses};
 

@@ -1,7 +1,7 @@
 //! How declarations of constants, types and variables are read, behind their word, and added to other declarations.
 
 ghost use Rattle.std.specs.Prelude.{ℕ};
-ghost use Rattle.sp_grammar.specs.Symbols.{Parts};
+ghost use Rattle.sp_tree.specs.Symbols.{Parts};
 ghost use Rattle.sp_parse.specs.Reads.{HasTokens, ParsesSoFar};
 ghost use Rattle.sp_parse.specs.BlockProductions as grammar;
 ghost use Rattle.sp_parse.specs.Trees.{and_parts};

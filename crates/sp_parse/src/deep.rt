@@ -4,7 +4,7 @@ ghost use Rattle.std.specs.Prelude.{◌≡◌, ℕ, ◌≤◌, cond};
 ghost use Rattle.sp_base.specs.declared.halt.Halt.TheVariants.{Refused};
 ghost use Rattle.sp_base.specs.declared.rule.Rule.TheVariants.{G1, L2};
 ghost use Rattle.sp_tree.specs.SyntaxOf.{expression_of};
-ghost use Rattle.sp_grammar.specs.Symbols.{AnExpression};
+ghost use Rattle.sp_tree.specs.Symbols.{AnExpression};
 ghost use Rattle.sp_parse.specs.Productions.{single};
 ghost use Rattle.sp_parse.specs.Reads.{HasTokens, Parses};
 ghost use Rattle.sp_parse.specs.ExpressionProductions as grammar;

@@ -2,7 +2,7 @@
 
 ghost use Rattle.std.specs.Prelude.{◌≡◌, Ok};
 ghost use Rattle.sp_tree.specs.SyntaxOf.{expression_of, arguments_of};
-ghost use Rattle.sp_grammar.specs.Symbols.{AnExpression, ASimple, MoreTerms, AFactor, Selectors, AWidth};
+ghost use Rattle.sp_tree.specs.Symbols.{AnExpression, ASimple, MoreTerms, AFactor, Selectors, AWidth};
 ghost use Rattle.sp_parse.specs.Productions.{single};
 ghost use Rattle.sp_parse.specs.Reads.{HasTokens, Keeps, Parses, ParsesSoFar};
 ghost use Rattle.sp_parse.specs.ExpressionProductions as grammar;

@@ -1,6 +1,6 @@
 //! How formal parameters, and the names in a program's heading, are read.
 
-ghost use Rattle.sp_grammar.specs.Symbols.{AFormal, Formals, AHeading};
+ghost use Rattle.sp_tree.specs.Symbols.{AFormal, Formals, AHeading};
 ghost use Rattle.sp_parse.specs.Productions.{itself, single};
 ghost use Rattle.sp_parse.specs.Reads.{HasTokens, Parses};
 ghost use Rattle.sp_parse.specs.BlockProductions as grammar;

@@ -9,7 +9,7 @@
 //! - `specs/BlockProductions.antt`, `ExpressionProductions.antt` and `StatementProductions.antt` list the productions:
 //!   their symbols and what these make.
 //! - `Parses` of `specs/Reads.antt` says that the tree is what the production makes, and that the machine of
-//!   `sp_grammar` goes on the same way or gets stuck at the same place.
+//!   `sp_tree` on symbols goes on the same way or gets stuck at the same place.
 //! - A failure is kept in `Tokens`. No token is left after it, so loops end, and what is read is no answer.
 //! - Chains, lists and selectors are loops. Only nesting is recursion, and at most 200 parts deep.
 //! - Of the proofs, `Steps` has the steps of the machine, `Pending` what is read and what is still pending, `Rows` the

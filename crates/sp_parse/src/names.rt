@@ -1,6 +1,6 @@
 //! How names and lists of names are read.
 
-ghost use Rattle.sp_grammar.specs.Symbols.{AName};
+ghost use Rattle.sp_tree.specs.Symbols.{AName};
 ghost use Rattle.sp_parse.specs.Productions.{itself, single};
 ghost use Rattle.sp_parse.specs.Reads.{HasTokens, Parses};
 ghost use Rattle.sp_parse.specs.BlockProductions as grammar;

@@ -1,7 +1,7 @@
 //! Which tokens stand between operands, and which begin a part.
 
 ghost use Rattle.std.specs.Prelude.{◌≡◌};
-ghost use Rattle.sp_grammar.specs.Table.{kind_is};
+ghost use Rattle.sp_tree.specs.Table.{kind_is};
 ghost use Rattle.sp_parse.specs.Operators.{IsSign, IsRelation, IsAddition, IsMultiplication, BeginsFactor};
 ghost use Rattle.sp_parse.specs.Operators.{BeginsSimple};
 ghost use Rattle.sp_parse.specs.Operators.{BeginsSelector, BeginsForm};

@@ -3,7 +3,7 @@
 
 ghost use Rattle.std.specs.Prelude.{◌≡◌, Ok};
 ghost use Rattle.sp_tree.specs.SyntaxOf.{statement_of, statements_of};
-ghost use Rattle.sp_grammar.specs.Symbols.{AStatement, AnElse};
+ghost use Rattle.sp_tree.specs.Symbols.{AStatement, AnElse};
 ghost use Rattle.sp_parse.specs.Productions.{itself, single};
 ghost use Rattle.sp_parse.specs.Reads.{HasTokens, Keeps, Parses};
 ghost use Rattle.sp_parse.specs.StatementProductions as grammar;

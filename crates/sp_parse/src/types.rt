@@ -1,6 +1,6 @@
 //! How types, and names of one type, are read.
 
-ghost use Rattle.sp_grammar.specs.Symbols.{AType};
+ghost use Rattle.sp_tree.specs.Symbols.{AType};
 ghost use Rattle.sp_parse.specs.Productions.{itself, single};
 ghost use Rattle.sp_parse.specs.Reads.{HasTokens, Parses};
 ghost use Rattle.sp_parse.specs.BlockProductions as grammar;

@@ -15,8 +15,8 @@ use Rattle.sp_tree.specs.Lexemes.{lower_case_prefix}
 use Rattle.sp_tree.specs.Lexemes.{Lexeme, name, word, number, text, sign, Longest}
 use Rattle.sp_tree.specs.Scans.{NoToken, goes_on_real, OpenComment, OpenText, open_text, LargeNumber, LongName}
 use Rattle.sp_tree.specs.Scans.{RefusedWord, Byte, first, second, RealNumber, StrayByte, stray, BreaksHere}
-use Rattle.sp_grammar.proofs.TokenOrder.{HoldsOfEach, each_at}
-use Rattle.sp_grammar.proofs.OneList.{not_blank, one_kind, same_rest, blank_opens, opens, differ}
+use Rattle.sp_tree.proofs.TokenOrder.{HoldsOfEach, each_at}
+use Rattle.sp_tree.proofs.OneList.{not_blank, one_kind, same_rest, blank_opens, opens, differ}
 use Rattle.sp_scan.specs.Finds.{FirstHere, IsGap, blank_gap, comment_gap}
 use Rattle.sp_scan.proofs.Tokens.{no_text_at}
 

@@ -16,11 +16,11 @@ use Rattle.sp_tree.specs.Lexemes.{brace_comment, star_comment, opens_comment, Lo
 use Rattle.sp_tree.specs.Scans.{offset, Scans, nothing, blank, comment, token, BreaksHere, BreaksAlong, LongText}
 use Rattle.sp_tree.specs.Scans.{BreaksLexis, IsTokens}
 use Rattle.sp_tree.proofs.Earlier.{Earlier}
-use Rattle.sp_grammar.proofs.TokenOrder.{lexeme_length, comment_length}
-use Rattle.sp_grammar.proofs.Order.{later, no_sooner, rises}
-use Rattle.sp_grammar.proofs.OneList.{Tail, here, there, tail_length, tail_same, lexeme_tail, one_comment, same_rest}
-use Rattle.sp_grammar.proofs.OneList.{blank_opens, opens, differ, not_blank}
-use Rattle.sp_grammar.proofs.TextParts.{scans_chain, taken_more, taken_none}
+use Rattle.sp_tree.proofs.TokenOrder.{lexeme_length, comment_length}
+use Rattle.sp_tree.proofs.RefusalOrder.{later, no_sooner, rises}
+use Rattle.sp_tree.proofs.OneList.{Tail, here, there, tail_length, tail_same, lexeme_tail, one_comment, same_rest}
+use Rattle.sp_tree.proofs.OneList.{blank_opens, opens, differ, not_blank}
+use Rattle.sp_tree.proofs.TextParts.{scans_chain, taken_more, taken_none}
 use Rattle.sp_scan.specs.Finds.{FrontItem, IsGap, blank_gap, comment_gap, FirstHere}
 use Rattle.sp_scan.proofs.Along.{line_by, column_by}
 

@@ -14,8 +14,8 @@ use Rattle.sp_tree.specs.Lexemes.{BraceBody, StarBody, Comment, brace_comment, s
 use Rattle.sp_tree.specs.Lexemes.{name}
 use Rattle.sp_tree.specs.Lexemes.{word, number, text, sign, Longest}
 use Rattle.sp_tree.specs.Scans.{NoToken}
-use Rattle.sp_grammar.proofs.OneList.{sign_plain, no_letter, no_digit, no_quote, letter_digit, letter_quote}
-use Rattle.sp_grammar.proofs.OneList.{digit_quote}
+use Rattle.sp_tree.proofs.OneList.{sign_plain, no_letter, no_digit, no_quote, letter_digit, letter_quote}
+use Rattle.sp_tree.proofs.OneList.{digit_quote}
 use Rattle.sp_scan.specs.Finds.{EndsRun, IsWordOf, HasSign, FindsSign, EndsBody}
 use Rattle.std.specs.Borrow.{Bor}
 use Rattle.sp_base.proofs.Facts.{below_or_last}

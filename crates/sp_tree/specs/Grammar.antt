@@ -2,7 +2,7 @@
 -- The grammar, a family for each of its lines and a case for each form of a line. The tokens begin with a part, and
 -- what is left is the second list. `d` says inside how many parts a part lies, and Ok is asked of each part (a block,
 -- a statement that is not empty, an expression, a factor after `not`), at that number and the tokens from its first
--- one on. The parser's contracts and the laws of `sp_grammar` cite it: a relation, so that it knows no way of
+-- one on. The parser's contracts and the laws of the grammar cite it: a relation, so that it knows no way of
 -- parsing.
 use Rattle.std.specs.Prelude.{◌≡◌, ◌≢◌, ℕ, suc, Bool, true, false, List, [], ◌∷◌, Some, None}
 use Rattle.sp_base.specs.declared.place.Place.{Place}

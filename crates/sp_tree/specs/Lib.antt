@@ -34,3 +34,9 @@ pub mod NameRules
 pub mod NameWalk
 pub mod NamedTree
 pub mod NameFirst
+pub mod Symbols
+pub mod Table
+pub mod SymbolMachine
+pub mod Derives
+pub mod Means
+pub mod Stops

@@ -1,5 +1,7 @@
 //! The tokens and the trees of a program's text as plain data, and by definitions what is a program: the rules of
 //! characters, grammar, names and interference.
+//! Besides, the laws of the grammar: one tree, one first broken rule; and for the parser a machine on symbols that decides
+//! the grammar token by token, with its lemmas.
 //!
 //! Calls:
 //! - Types of a text: `Token`, `Kind`, with the numbers of words and signs in `word` and `sign`; `Syntax` and its
@@ -19,6 +21,14 @@
 //!   the walk where memory was refused. `specs/Carried.antt` is the form of what a walk promises.
 //! - `lower`: the lower case of a letter, any other byte itself.
 //! - `MAX_TEXT`, `MAX_NAME`, `MAX_NESTING`: how many bytes a text and a name may have, how deep parts may lie.
+//!
+//! Laws:
+//! - `one_list`: a text has at most one list of tokens.
+//! - `one_tree`: a list of tokens spells at most one program.
+//! - `one_first_bad`: at most one token is the first with which the tokens are no prefix of a program.
+//! - `one_verdict`: a text has at most one tree and at most one first broken rule of characters and grammar, and
+//!   never both.
+//! - `some_verdict`: a text that has tokens has a tree, or a rule that is the first it breaks.
 //!
 //! To know:
 //! - Each tree is said twice: in memory (`src/`), and as a plain one in types of specifications
@@ -49,6 +59,13 @@
 //!   with the checked tree.
 //! - The index of a `forall` is taken out of what stands in the element statement, not out of what calls carry: a
 //!   call never carries it, since its block is the one around.
+//! - `specs/Symbols.antt` cuts the lines of `specs/Grammar.antt` into symbols, and `specs/Means.antt` says what each
+//!   symbol is there.
+//! - `specs/Table.antt` has a row for each token that a symbol takes; `specs/Derives.antt` is what a symbol takes by
+//!   these rows, `specs/SymbolMachine.antt` takes one token at a time by them, and `specs/Stops.antt` is the rule that is
+//!   broken where the machine gets stuck.
+//! - `proofs/FromTable.antt` and `ToTable.antt` lead from `Derives` to the grammar and back, `MachineRuns.antt` to the
+//!   machine, `Firsts.antt` from where it gets stuck to the first broken rule.
 //!
 //! Lemmas for others, in `proofs`:
 //! - `Earlier`: places of a text, one before another.
@@ -68,16 +85,31 @@
 //! - `Unbroken`: that a tree breaks no rule of interference, by a test over claims of what its blocks reach.
 //! - `Tables`: tables of types, each result by those before it (`table`): which result stands where, and how many
 //!   there are.
+//! - `MachineRuns`: the machine follows what each symbol derives by the table.
+//! - `FromTable`: what the table derives is in the grammar.
+//! - `Looks`: the row of the table that a token selects.
+//! - `TextParts`: tokens of a text, part behind part, and digits, which have no case.
+//! - `ToTable`: what is in the grammar is derived by the table, where what is behind it does not go on with it.
+//! - `Completes`: what the machine takes is in the grammar, and each stack can be completed.
+//! - `Wider`: what holds of all parts may be weakened, and a prefix of what is viable is viable.
+//! - `RefusalOrder`: the order of refusals, and that the first broken rule is one.
+//! - `TokenOrder`: the tokens of a text stand in it one behind the other.
+//! - `Firsts`: the rule where the machine gets stuck is the first that the tokens break; and tokens that are taken
+//!   whole break none.
+//! - `OneList`: a text has at most one list of tokens.
 //!
 //! To change:
 //! - A form of statement or expression: `src/syntax.rt`, `specs/PlainSyntax.antt`, `SyntaxOf`, `Grammar`, and the
 //!   same for `src/checked.rt`, `PlainChecked`, `CheckedOf`, `Plain`, `Bare`.
 //! - A word or sign: `specs/Lexemes.antt`, `specs/Words.antt`, `src/word.rt`, `src/sign.rt`.
 //! - A rule of names: `specs/NameRules.antt`.
+//! - A line of the grammar: its rows and `build` in `specs/Table.antt`, a clause in `specs/Means.antt`,
+//!   `proofs/FromTable.antt`, `proofs/ToTable.antt`, `proofs/Completes.antt`.
 #![tactic(auto)]
 
 mod breach_order;
 mod checked;
+mod grammar_laws;
 mod letter;
 mod meaning;
 mod named;
@@ -93,6 +125,7 @@ pub use breach_order::{FirstRefusal, PassResult, before, breaks, breaks_if, earl
 pub use checked::{
     Actual, Arm, Block, Checked, Expr, ExprForm, Form, KindOf, Role, Selector, Stmt, Var, Variable,
 };
+pub use grammar_laws::{one_first_bad, one_list, one_tree, one_verdict, some_verdict};
 pub use letter::lower;
 pub use meaning::{Counts, Meaning, Passing, Sort, StandardProcedure};
 pub use named::{

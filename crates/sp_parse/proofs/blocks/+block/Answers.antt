@@ -2,9 +2,9 @@ use Rattle.std.proofs.Common.{drop, ◌≡◌, [], ◌∷◌, ◌∙◌, ap, ref
 use Rattle.sp_tree.specs.Words as w
 use Rattle.sp_tree.specs.Grammar.{with_part_first}
 use Rattle.sp_tree.specs.SyntaxOf.{part_of}
-use Rattle.sp_grammar.specs.Symbols.{Parts}
-use Rattle.sp_grammar.specs.Table as row
-use Rattle.sp_grammar.specs.Table.{row_entry, rows, look, kind_is}
+use Rattle.sp_tree.specs.Symbols.{Parts}
+use Rattle.sp_tree.specs.Table as row
+use Rattle.sp_tree.specs.Table.{row_entry, rows, look, kind_is}
 use Rattle.sp_parse.specs.BlockProductions.{procedure, function}
 use Rattle.sp_parse.specs.StatementProductions.{compound}
 use Rattle.sp_parse.specs.Trees.{and_parts}

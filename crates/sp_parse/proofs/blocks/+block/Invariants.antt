@@ -1,5 +1,5 @@
 use Rattle.std.proofs.Common.{◌+◌, ◌*◌, ◌-◌, [], ◌∷◌, length}
-use Rattle.sp_grammar.specs.Symbols.{Parts}
+use Rattle.sp_tree.specs.Symbols.{Parts}
 use Rattle.sp_parse.specs.Reads.{Pending}
 use Rattle.sp_parse.specs.Trees.{and_parts}
 use Rattle.sp_parse.proofs.blocks.+block.Given as goal

@@ -1,5 +1,5 @@
 use Rattle.std.proofs.Common.{[], refl}
-use Rattle.sp_grammar.specs.Table as row
+use Rattle.sp_tree.specs.Table as row
 use Rattle.sp_parse.proofs.Pending.{begin, read, pass, enter}
 use Rattle.sp_parse.proofs.blocks.program.Goals as goal
 

@@ -3,8 +3,8 @@ use Rattle.sp_tree.specs.declared.token.Kind.TheVariants as kind
 use Rattle.sp_tree.specs.Words as w
 use Rattle.sp_tree.specs.declared.syntax.SynConst.{SynConst}
 use Rattle.sp_tree.specs.declared.syntax.SynValue.TheVariants as value
-use Rattle.sp_grammar.specs.Symbols.{AConstant}
-use Rattle.sp_grammar.specs.Table as row
+use Rattle.sp_tree.specs.Symbols.{AConstant}
+use Rattle.sp_tree.specs.Table as row
 use Rattle.sp_parse.proofs.Pending.{begin, say, keep, read, row_at, fail_at}
 use Rattle.sp_parse.proofs.Steps.{step_fails}
 use Rattle.sp_parse.proofs.Rows.{kind_at, other_at, no_constant}

@@ -1,8 +1,8 @@
 use Rattle.std.proofs.Common.{[], ap, refl}
 use Rattle.sp_tree.specs.declared.token.Kind.TheVariants as kind
 use Rattle.sp_tree.specs.declared.syntax.SynValue.TheVariants as value
-use Rattle.sp_grammar.specs.Symbols.{AValue}
-use Rattle.sp_grammar.specs.Table as row
+use Rattle.sp_tree.specs.Symbols.{AValue}
+use Rattle.sp_tree.specs.Table as row
 use Rattle.sp_parse.proofs.Pending.{begin, say, keep, row_at, fail_at}
 use Rattle.sp_parse.proofs.Steps.{step_fails}
 use Rattle.sp_parse.proofs.Rows.{no_value}

@@ -2,8 +2,8 @@ use Rattle.std.proofs.Common.{[], ◌∙◌, ap, refl, rules, cond, Some, map}
 use Rattle.sp_tree.specs.declared.token.Kind.TheVariants as kind
 use Rattle.sp_tree.specs.PlainSyntax as tree
 use Rattle.sp_tree.specs.Grammar.{with_part_first}
-use Rattle.sp_grammar.specs.Table as row
-use Rattle.sp_grammar.specs.Table.{RowEntry, PartsRow, row_entry, look, parts_rows}
+use Rattle.sp_tree.specs.Table as row
+use Rattle.sp_tree.specs.Table.{RowEntry, PartsRow, row_entry, look, parts_rows}
 use Rattle.sp_parse.specs.Trees.{and_parts}
 use Rattle.sp_parse.proofs.Lists.{part_behind}
 use Rattle.sp_parse.proofs.Pending.{begin, read, keep, pass}

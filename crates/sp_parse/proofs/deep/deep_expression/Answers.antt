@@ -1,7 +1,7 @@
 use Rattle.std.proofs.Common.{refl}
 use Rattle.sp_parse.proofs.Pending.{begin, fail_at}
 use Rattle.sp_parse.proofs.Steps.{above}
-use Rattle.sp_grammar.specs.Symbols.{AnExpression}
+use Rattle.sp_tree.specs.Symbols.{AnExpression}
 use Rattle.sp_tree.specs.Breaches.{nesting}
 use Rattle.sp_parse.proofs.Rows.{deep_at, expression_rows}
 use Rattle.sp_parse.proofs.deep.deep_expression.Goals as goal

@@ -3,9 +3,9 @@ use Rattle.std.proofs.Common.{sym as back_of}
 use Rattle.sp_tree.specs.declared.token.Kind.TheVariants as kind
 use Rattle.sp_tree.specs.Words as w
 use Rattle.sp_tree.specs.PlainSyntax as tree
-use Rattle.sp_grammar.specs.Symbols as sym
-use Rattle.sp_grammar.specs.Table as row
-use Rattle.sp_grammar.specs.Table.{row_entry, rows, kind_is}
+use Rattle.sp_tree.specs.Symbols as sym
+use Rattle.sp_tree.specs.Table as row
+use Rattle.sp_tree.specs.Table.{row_entry, rows, kind_is}
 use Rattle.sp_tree.specs.SyntaxOf.{expression_of, argument_of, selector_of}
 use Rattle.sp_parse.specs.ExpressionProductions.{arguments}
 use Rattle.sp_parse.specs.Trees.{and_selectors, and_arguments}

@@ -1,7 +1,7 @@
 use Rattle.std.proofs.Common.{◌+◌, ◌*◌, ◌-◌, [], ◌∷◌, length}
 use Rattle.sp_tree.specs.PlainSyntax.{Pass, AndArgument}
 use Rattle.sp_tree.specs.SyntaxOf.{expression_of}
-use Rattle.sp_grammar.specs.Symbols.{ASimple, MoreTerms, MoreFactors, Selectors}
+use Rattle.sp_tree.specs.Symbols.{ASimple, MoreTerms, MoreFactors, Selectors}
 use Rattle.sp_parse.specs.Reads.{Pending}
 use Rattle.sp_parse.specs.ExpressionProductions.{term, indices, arguments}
 use Rattle.sp_parse.specs.Trees.{and_selectors, and_arguments}

@@ -1,5 +1,5 @@
 use Rattle.std.proofs.Common.{[], refl}
-use Rattle.sp_grammar.specs.Table as row
+use Rattle.sp_tree.specs.Table as row
 use Rattle.sp_parse.proofs.Pending.{begin, say, go_on, pass_row, leave_at, passed, not_passed}
 use Rattle.sp_parse.proofs.Turns.{none_if}
 use Rattle.sp_parse.proofs.headings.heading.Goals as goal

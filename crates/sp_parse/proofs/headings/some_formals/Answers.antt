@@ -1,8 +1,8 @@
 use Rattle.std.proofs.Common.{[], ◌∷◌, ◌++◌, ◌∙◌, ap, append_assoc, refl, rules, Some, None, cond, sym as back_of}
 use Rattle.std.proofs.lemmas.List.{append-nil}
 use Rattle.sp_tree.specs.Words as w
-use Rattle.sp_grammar.specs.Table as row
-use Rattle.sp_grammar.specs.Table.{row_entry, kind_is}
+use Rattle.sp_tree.specs.Table as row
+use Rattle.sp_tree.specs.Table.{row_entry, kind_is}
 use Rattle.sp_parse.proofs.Pending.{begin, say, read, keep, close, pass_row, went_on, closed}
 use Rattle.sp_parse.proofs.headings.some_formals.Goals as goal
 

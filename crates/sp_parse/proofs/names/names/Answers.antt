@@ -1,6 +1,6 @@
 use Rattle.std.proofs.Common.{[], ◌∷◌, ◌++◌, ap, ◌∙◌, sym as back_of, append_assoc, rules, refl}
 use Rattle.std.proofs.lemmas.List.{append-nil}
-use Rattle.sp_grammar.specs.Table as row
+use Rattle.sp_tree.specs.Table as row
 use Rattle.sp_parse.proofs.Pending.{begin, say, read, keep, pass_row, leave_at, passed, not_passed}
 use Rattle.sp_parse.proofs.Turns.{none_if}
 use Rattle.sp_parse.proofs.names.names.Goals as goal

@@ -2,9 +2,9 @@ use Rattle.std.proofs.Common.{[], ◌∷◌, ◌∙◌, ap, refl, arith, add-one
 use Rattle.sp_tree.specs.declared.token.Kind.TheVariants as kind
 use Rattle.sp_tree.specs.Words as w
 use Rattle.sp_tree.specs.PlainSyntax as tree
-use Rattle.sp_grammar.specs.Symbols as sym
-use Rattle.sp_grammar.specs.Table as row
-use Rattle.sp_grammar.specs.Table.{row_entry, kind_is}
+use Rattle.sp_tree.specs.Symbols as sym
+use Rattle.sp_tree.specs.Table as row
+use Rattle.sp_tree.specs.Table.{row_entry, kind_is}
 use Rattle.sp_tree.specs.SyntaxOf.{expression_of, statement_of, statements_of, arm_of, branch_of}
 use Rattle.sp_parse.specs.StatementProductions.{sequence, compound, arms, labels}
 use Rattle.sp_parse.specs.Trees.{and_statements, and_arms, and_branches}

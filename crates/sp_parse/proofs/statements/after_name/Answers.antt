@@ -1,7 +1,7 @@
 use Rattle.std.proofs.Common.{[], ◌∙◌, ap, refl}
 use Rattle.sp_tree.specs.Words as w
 use Rattle.sp_tree.specs.PlainSyntax as tree
-use Rattle.sp_grammar.specs.Table as row
+use Rattle.sp_tree.specs.Table as row
 use Rattle.sp_tree.specs.SyntaxOf.{expression_of, arguments_of}
 use Rattle.sp_parse.specs.ExpressionProductions.{arguments}
 use Rattle.sp_parse.specs.Trees.{selectors_of}

@@ -2,9 +2,9 @@ use Rattle.std.proofs.Common.{[], ◌∷◌, ◌++◌, ◌∙◌, ap, append_ass
 use Rattle.std.proofs.lemmas.List.{append-nil}
 use Rattle.sp_tree.specs.Words as w
 use Rattle.sp_tree.specs.declared.token.Kind.TheVariants as kind
-use Rattle.sp_grammar.specs.Symbols.{MoreFields}
-use Rattle.sp_grammar.specs.Table as row
-use Rattle.sp_grammar.specs.Table.{row_entry, kind_is}
+use Rattle.sp_tree.specs.Symbols.{MoreFields}
+use Rattle.sp_tree.specs.Table as row
+use Rattle.sp_tree.specs.Table.{row_entry, kind_is}
 use Rattle.sp_parse.specs.BlockProductions.{group}
 use Rattle.sp_parse.proofs.Pending.{begin, say, read_as, keep, close, pass_row, passed, not_passed, went_on, closed}
 use Rattle.sp_parse.proofs.Turns.{name_turn, none_if}

@@ -1,7 +1,7 @@
 use Rattle.std.proofs.Common.{[], ◌∷◌, ap}
 use Rattle.sp_tree.specs.Words as w
 use Rattle.sp_tree.specs.declared.syntax.SynGroup.{SynGroup}
-use Rattle.sp_grammar.specs.Symbols.{AName, MoreNames, AToken}
+use Rattle.sp_tree.specs.Symbols.{AName, MoreNames, AToken}
 use Rattle.sp_parse.proofs.Pending.{begin, read, read_as, pass}
 use Rattle.sp_parse.proofs.types.group.Goals as goal
 

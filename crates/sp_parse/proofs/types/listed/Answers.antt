@@ -1,6 +1,6 @@
 use Rattle.std.proofs.Common.{[], ◌∷◌}
 use Rattle.sp_tree.specs.Words as w
-use Rattle.sp_grammar.specs.Symbols.{AName, MoreNames, AToken}
+use Rattle.sp_tree.specs.Symbols.{AName, MoreNames, AToken}
 use Rattle.sp_parse.proofs.Pending.{begin, read_as, pass}
 use Rattle.sp_parse.proofs.types.listed.Goals as goal
 

@@ -2,9 +2,9 @@ use Rattle.std.proofs.Common.{[], ap, refl}
 use Rattle.sp_tree.specs.declared.token.Kind.TheVariants as kind
 use Rattle.sp_tree.specs.Words as w
 use Rattle.sp_tree.specs.declared.syntax.SynKind.TheVariants as kinds
-use Rattle.sp_grammar.specs.Symbols.{AType}
-use Rattle.sp_grammar.specs.Table as row
-use Rattle.sp_grammar.specs.Table.{rows}
+use Rattle.sp_tree.specs.Symbols.{AType}
+use Rattle.sp_tree.specs.Table as row
+use Rattle.sp_tree.specs.Table.{rows}
 use Rattle.sp_parse.specs.BlockProductions.{listed_names, fields}
 use Rattle.sp_parse.proofs.Pending.{begin, keep, read_as, go_on, row_at, fail_at}
 use Rattle.sp_parse.proofs.Steps.{step_fails}

@@ -1,5 +1,5 @@
 use Rattle.std.proofs.Common.{arith}
-use Rattle.sp_grammar.proofs.TokenOrder.{lexeme_length}
+use Rattle.sp_tree.proofs.TokenOrder.{lexeme_length}
 use Rattle.sp_scan.proofs.Breaches.{long_name, refused_word, fine_name}
 use Rattle.sp_scan.proofs.rules.name_breach.Goals as goal
 

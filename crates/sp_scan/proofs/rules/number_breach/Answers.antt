@@ -1,7 +1,7 @@
 use Rattle.std.proofs.Common.{arith, ◌<◌, ◌≤◌, sym, subst, refl}
 use Rattle.sp_tree.specs.Spelling.{digits_value}
-use Rattle.sp_grammar.proofs.TokenOrder.{lexeme_length}
-use Rattle.sp_grammar.proofs.TextParts.{lower_number}
+use Rattle.sp_tree.proofs.TokenOrder.{lexeme_length}
+use Rattle.sp_tree.proofs.TextParts.{lower_number}
 use Rattle.sp_scan.proofs.Tokens.{within}
 use Rattle.sp_scan.proofs.Breaches.{large_number, real_number, fine_number}
 use Rattle.sp_scan.proofs.rules.number_breach.Goals as goal

@@ -1,5 +1,5 @@
 use Rattle.std.proofs.Common.{arith, refl}
-use Rattle.sp_grammar.proofs.TokenOrder.{lexeme_length}
+use Rattle.sp_tree.proofs.TokenOrder.{lexeme_length}
 use Rattle.sp_scan.proofs.TokenPrefixes.{scan_start, scan_shorter, scan_line, scan_column, scan_gap, scan_token}
 use Rattle.sp_scan.proofs.TokenPrefixes.{scan_done}
 use Rattle.sp_scan.proofs.TokenPrefixes.{too_long, scan_breaks, gap_shorter, as_gap, as_token}

@@ -1,5 +1,5 @@
 use Rattle.std.proofs.Common.{arith, length, ap}
-use Rattle.sp_grammar.proofs.TokenOrder.{run_length}
+use Rattle.sp_tree.proofs.TokenOrder.{run_length}
 use Rattle.sp_scan.proofs.Tokens.{longest_name}
 use Rattle.sp_scan.proofs.token.name.Goals as goal
 
