@@ -19,3 +19,10 @@ pub mod CodeOfTree
 pub mod Shares
 pub mod Budgets
 pub mod NeverStops
+pub mod Agreement
+pub mod Channels
+pub mod NamesChannels
+pub mod WorkerHistory
+pub mod EntryCounts
+pub mod Faults
+pub mod OutputHolder

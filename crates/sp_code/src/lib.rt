@@ -1,5 +1,6 @@
 //! Code for the stack machine as data, and its listing; by definitions what code does, and where the code of a tree
 //! stands.
+//! Its laws say too what holds along every legal history of the kernel and along every journal of a run.
 //!
 //! Calls:
 //! - `Instr`: an instruction. `Layout`, `Formal`: the frame of a block, and how it takes a parameter. `ForkTable`,
@@ -23,6 +24,15 @@
 //!   the table of lengths.
 //! - `laws::code_stands`: where each block keeps the rules of names, types and variables (`IsSoundBlock`), its
 //!   code stands in that of the program; and a call finds the layout that the block has in the tree.
+//! - `history_laws::histories_lead_to_systems`: a legal history leads to exactly one system, that along the journal of its
+//!   notes; its control and that system tell the same of every process, and the control counts those that are out.
+//! - `history_laws::histories_keep_what_is_out`: a process that is out with a worker stays so, in the same state, while that
+//!   worker leaves no note. Where none is ready, out or given up, none runs; once the run is over no event follows.
+//! - `history_laws::journals_name_what_is_there`: every process has the number at which it stands, and speaks of channels that
+//!   are there, also at an offer. With limits of 32 bits a journal is nameable; it has at most one fault.
+//! - `history_laws::histories_keep_turns`: after a legal history the parent of a process that is out waits for children. Where
+//!   one worker hands in with each ask what it holds, the journal is first in, first out.
+//! - `history_laws::one_process_holds_the_output`: after a legal history of safe code exactly one process holds the output.
 //!
 //! To know:
 //! - What code does: `specs/Machine.antt` (one instruction, over any memory), `Turns.antt`, `Memory.antt` (frames and
@@ -50,6 +60,10 @@
 //! - The ticks after which a process pauses are a parameter of the definitions; `run_of` sets it to `TURN_TICKS`.
 //! - Variables of a fork's table that stand in no visible frame have no spot and are handed to nobody. Generated code
 //!   has none. The index of a `forall` is held in its element statement besides.
+//! - `specs/Agreement.antt` says what control and system tell alike.
+//! - Of the proofs on histories and journals, `Orders` to `Outs`, `Families` and `InTurn` are about histories, `OperationLaws` about
+//!   instructions, `KnownChannels`, `NameableRuns` and `OneFault` about journals, `Outputs` to `Holders` about the
+//!   output, in the order of `proofs/Lib.antt`.
 //!
 //! Lemmas for others, in `proofs`:
 //! - `Members`: members of lists of numbers: where they stand, and what is above them.
@@ -66,15 +80,39 @@
 //! - `Plans`: what the handings of a fork are: which spots move and which are shared, and that none comes twice
 //!   where the children's variables differ.
 //! - `Pieces`: the pieces of a new frame: each variable has undefined cells of its own, and no other spot changes.
+//! - `Queues`: lists of numbers: each, different, among.
+//! - `Orders`: each event and each take keeps the control orderly.
+//! - `EventFrames`: what an event leaves of a control as it was: whether a fault stands, and what is pending.
+//! - `ControlAgreement`: the control and the system go on alike: an event of the one is the event of the other.
+//! - `OutProcesses`: a note of one worker leaves a process that is out with another as it is.
+//! - `Legal`: a legal history determines the control and the system; what is out with a worker stays so until that
+//!   worker's next note.
+//! - `Outs`: the count of the processes that are out, and that nobody runs where none is out and none is ready.
+//! - `OperationLaws`: what each operation of a memory keeps, each instruction keeps, and so each turn.
+//! - `KnownChannels`: along a journal every process has its number and speaks of channels that are there.
+//! - `Families`: a child that has not ended is awaited by its parent.
+//! - `InTurn`: the journal of one worker that hands in what it holds is first in, first out.
+//! - `NameableRuns`: the journal of a run is nameable: its limits keep all numbers below 2 ^ 32.
+//! - `OneFault`: a journal has one fault at most, and after it only Laid.
+//! - `Phases`: which phases are that of a process that has ended.
+//! - `Along`: along a history the births are those that its entries give.
+//! - `Outputs`: what each instruction keeps of the output: who holds it goes on holding it, and nobody else comes
+//!   to it.
+//! - `ForkOutputs`: a fork leaves the output with its holder, or hands it to one child.
+//! - `Holders`: along a history of safe code one process holds the output, and no other.
 //!
 //! To change:
 //! - An instruction: `src/instr.rt`, `src/words.rt`, `specs/Listing`, `Machine`, `Ranks`, and a clause in
 //!   `proofs/Falls`.
 //! - A form of statement: `specs/Places`, `Lengths`, `Emitted`, `CodeOfTree`, and a clause in `proofs/Counts` and
 //!   `CodePositions`.
+//! - An event: `proofs/Orders`, `ControlAgreement`, `OutProcesses`, `Families`, `KnownChannels`, `NameableRuns`,
+//!   `Holders`.
+//! - What an instruction keeps: `proofs/OperationLaws`.
 #![tactic(auto)]
 
 mod code;
+pub mod history_laws;
 mod instr;
 pub mod laws;
 mod lines;

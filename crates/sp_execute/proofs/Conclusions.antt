@@ -21,10 +21,10 @@ use Rattle.sp_meaning.specs.Ends as meant
 use Rattle.sp_code.specs.PlainStore.{plain}
 use Rattle.sp_code.specs.System.{System, Condition, Absent, Working, Waits, Joins, Laid, Gone, Over, IsSystem, store_in}
 use Rattle.sp_code.specs.System.{opening_system}
-use Rattle.sp_history.specs.Agreement.{Finished, phase_in}
-use Rattle.sp_history.specs.OutputHolder.{IsOutputOf}
-use Rattle.sp_history.proofs.Phases.{no_waiter_ended}
-use Rattle.sp_history.proofs.Along.{births_along}
+use Rattle.sp_code.specs.Agreement.{Finished, phase_in}
+use Rattle.sp_code.specs.OutputHolder.{IsOutputOf}
+use Rattle.sp_code.proofs.Phases.{no_waiter_ended}
+use Rattle.sp_code.proofs.Along.{births_along}
 use Rattle.sp_kernel.specs.Faults.{fault_in, fault_by}
 use Rattle.sp_kernel.specs.declared.closed.Closed.{Closed}
 use Rattle.sp_link.specs.Endings.{HasFaultEntry}

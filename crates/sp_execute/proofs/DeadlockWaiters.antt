@@ -13,7 +13,7 @@ use Rattle.sp_meaning.specs.Ends.{Waiting, waiter_of}
 use Rattle.sp_code.specs.Control.{Control, Doing, Unborn, Sending, Receiving, control_at_start}
 use Rattle.sp_code.specs.Machine.{Stop, Forks, Opens, Sends, Receives, Ends, Pauses}
 use Rattle.sp_code.specs.System.{System, Condition, Absent, Working, Waits, Joins, Laid, Gone, Over}
-use Rattle.sp_history.specs.Agreement.{phase_in}
+use Rattle.sp_code.specs.Agreement.{phase_in}
 use Rattle.sp_link.specs.Endings.{waiting_at, WaitsAs, IsStuck, IsWaiting, with_waiting, waiting_from}
 use Rattle.sp_link.proofs.SortedWaiters.{all_waiting}
 use Rattle.sp_link.proofs.Histories.{Sends_at, Receives_at, Waits_with}

@@ -23,7 +23,7 @@ use Rattle.sp_code.specs.Memory.{Memory}
 use Rattle.sp_code.specs.PlainStore.{plain}
 use Rattle.sp_code.specs.Sound.{run_of}
 use Rattle.sp_code.specs.System.{System, Condition, Working, Waits, IsSystem}
-use Rattle.sp_history.specs.Agreement.{Running, phase_in}
+use Rattle.sp_code.specs.Agreement.{Running, phase_in}
 use Rattle.sp_link.specs.Premises.{IsReady, run_by}
 use Rattle.sp_link.proofs.Endings.{program_no_fault, program_deadlock}
 use Rattle.sp_link.proofs.Programs.{program_runs, program_over}

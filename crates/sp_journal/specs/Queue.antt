@@ -1,6 +1,6 @@
 -- All of this belongs to what the program promises (docs/promise.txt).
 -- Journals in which the process of every entry is the one that had been ready longest before it. The laws of
--- `sp_history` and the contracts of the runner promise such a journal of a run by one worker.
+-- `sp_code` and the contracts of the runner promise such a journal of a run by one worker.
 use Rattle.std.specs.Prelude.{◌≡◌, ℕ, suc, zero, ◌-◌, cond, ◌==◌, List, [], ◌∷◌, ◌++◌, Option, Some, None}
 use Rattle.sp_journal.specs.declared.entry.Event.{Event}
 use Rattle.sp_journal.specs.declared.entry.Event.TheVariants as event

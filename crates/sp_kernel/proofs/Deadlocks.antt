@@ -12,9 +12,9 @@ use Rattle.sp_kernel.specs.Kernels.{control_of, system_of, code_run_of}
 use Rattle.sp_kernel.specs.Closes.{RanFrom}
 use Rattle.sp_kernel.specs.KernelLaws.{from_start, control_is, after_log}
 use Rattle.sp_kernel.proofs.RunEnds.{AllHere, all_here}
-use Rattle.sp_history.specs.Agreement.{HasOuts, phase_in, Running}
-use Rattle.sp_history.proofs.ControlAgreement.{agrees_start, orderly_start}
-use Rattle.sp_history.proofs.Outs.{outs_start, outs_all, nobody_runs}
+use Rattle.sp_code.specs.Agreement.{HasOuts, phase_in, Running}
+use Rattle.sp_code.proofs.ControlAgreement.{agrees_start, orderly_start}
+use Rattle.sp_code.proofs.Outs.{outs_start, outs_all, nobody_runs}
 
 none_ready : (a f e o : Bool) (r : List ℕ) → (if a then IsMemory else
     (if f then IsFault else (if e then IsDone else (if is_ready r || o then Going else IsDeadlock)))) ≡ IsDeadlock

@@ -34,7 +34,7 @@ use Rattle.sp_kernel.specs.Kernels.{code_run_of, WaitsAs, IsOwn, NumberIn}
 use Rattle.sp_kernel.specs.Kernels.{parent_in, parent_of, IsKernel, kernel_after_give, IsAfterGive}
 use Rattle.sp_kernel.specs.Ends.{left_in, one_fewer, ends_child, IsJoiner, JoinedSlot, TookBack}
 use Rattle.sp_kernel.specs.Fits.{FitsHanded}
-use Rattle.sp_history.proofs.Queues.{number_or, at_other}
+use Rattle.sp_code.proofs.Queues.{number_or, at_other}
 use Rattle.sp_kernel.proofs.Tables.{table_set}
 use Rattle.sp_kernel.proofs.KernelEvents.{event_no_fault, after_no_fault, whole_after, there, no_waiter, next_doing}
 use Rattle.sp_kernel.proofs.KernelEvents.{next_condition}

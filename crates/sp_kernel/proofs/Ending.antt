@@ -12,10 +12,10 @@ use Rattle.sp_journal.specs.Births.{NameableFrom}
 use Rattle.sp_journal.proofs.BirthLaws.{processes_grow}
 use Rattle.sp_code.specs.Control.{entries_of}
 use Rattle.sp_code.specs.System.{System}
-use Rattle.sp_history.specs.OutputHolder.{IsOutputOf}
-use Rattle.sp_history.proofs.KnownChannels.{system_spoken}
-use Rattle.sp_history.proofs.NameableRuns.{system_nameable}
-use Rattle.sp_history.proofs.Holders.{one_holder}
+use Rattle.sp_code.specs.OutputHolder.{IsOutputOf}
+use Rattle.sp_code.proofs.KnownChannels.{system_spoken}
+use Rattle.sp_code.proofs.NameableRuns.{system_nameable}
+use Rattle.sp_code.proofs.Holders.{one_holder}
 use Rattle.sp_room.specs.History.{LeadsTo}
 use Rattle.sp_kernel.specs.declared.kernel.Kernel.{Kernel}
 use Rattle.sp_kernel.specs.Kernels.{system_of, code_run_of}

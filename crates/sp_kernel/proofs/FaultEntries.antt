@@ -7,7 +7,7 @@ use Rattle.sp_journal.specs.declared.entry.Note.{Note}
 use Rattle.sp_code.specs.Control.{Control, Ended, after_note, after_notes, after_give, takes, comes_back, does}
 use Rattle.sp_code.specs.Control.{entry_of}
 use Rattle.sp_code.specs.Control.{entries_of}
-use Rattle.sp_history.proofs.EventFrames.{offers_faulted, reports_faulted}
+use Rattle.sp_code.proofs.EventFrames.{offers_faulted, reports_faulted}
 use Rattle.sp_room.specs.History.{LeadsTo}
 use Rattle.sp_kernel.specs.declared.kernel.Kernel.{Kernel}
 use Rattle.sp_kernel.specs.Asks.{IsOpening, KernelSteps}

@@ -41,8 +41,8 @@ use Rattle.sp_kernel.specs.Kernels.{HasParents, parent_in, parent_of, IsKernel, 
 use Rattle.sp_kernel.specs.ListEnds.{repeat}
 use Rattle.sp_kernel.specs.Forks.{HasForked}
 use Rattle.sp_kernel.specs.Fits.{FitsHanded}
-use Rattle.sp_history.proofs.Queues.{number_or}
-use Rattle.sp_history.proofs.Orders.{next_yes, next_not, next_past}
+use Rattle.sp_code.proofs.Queues.{number_or}
+use Rattle.sp_code.proofs.Orders.{next_yes, next_not, next_past}
 use Rattle.sp_kernel.proofs.Tables.{table_set}
 use Rattle.sp_kernel.proofs.KernelEvents.{event_no_fault, after_no_fault, whole_after, there, no_waiter, next_births}
 use Rattle.sp_kernel.proofs.KernelEvents.{parents_after}
@@ -258,7 +258,7 @@ module _ (x : Kernel) (k : IsKernel x) (p w : ℕ) (here : (control_of x).doing 
           (cond (p == q) (Joins n (on_store
           (λ m. plain.handed m (Rattle.sp_code.specs.System.plan_of plain (code_run_of x) c t v n)) c))
           ((system_of x).condition q))
-      go true e = let w = Rattle.sp_history.proofs.Orders.next_is b n q e in
+      go true e = let w = Rattle.sp_code.proofs.Orders.next_is b n q e in
           let processes : l ≡ b.processes = k.processes in
           child_runs q (omega (arith, w.0, processes)) (omega (arith, w.1, processes))
       go false e = refl
@@ -288,7 +288,7 @@ module _ (x : Kernel) (k : IsKernel x) (p w : ℕ) (here : (control_of x).doing 
       go : (a : Bool) → is_next b n q ≡ a → (p ≡ q) ⊎ ((p ≢ q) × (p == q ≡ false))
           → NumberIn input (cond a (Some (child q)) (cond (p == q) (Some s) (slice_get x.slots q))) q
       go true e o =
-          let w = Rattle.sp_history.proofs.Orders.next_is b n q e in
+          let w = Rattle.sp_code.proofs.Orders.next_is b n q e in
           let processes : l ≡ b.processes = k.processes in
           let its = (f.born.1 (q - l) h.proc (omega (arith, w.0, w.1, processes))).1 in
           let place : l + (q - l) ≡ q = omega (arith, w.0, processes) in

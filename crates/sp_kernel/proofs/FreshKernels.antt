@@ -10,9 +10,9 @@ use Rattle.sp_code.specs.Control.{Ready, Unborn, control_at_start}
 use Rattle.sp_code.specs.System.{Working, opening_system}
 use Rattle.sp_machine.specs.Procs.{start_of}
 use Rattle.sp_machine.specs.declared.state.State.{State as Proc}
-use Rattle.sp_history.specs.Agreement.{IsOrderly, AgreesWithSystem}
-use Rattle.sp_history.proofs.ControlAgreement.{agrees_start, orderly_start}
-use Rattle.sp_history.proofs.Queues.{number_or}
+use Rattle.sp_code.specs.Agreement.{IsOrderly, AgreesWithSystem}
+use Rattle.sp_code.proofs.ControlAgreement.{agrees_start, orderly_start}
+use Rattle.sp_code.proofs.Queues.{number_or}
 use Rattle.sp_kernel.specs.declared.slot.Slot.{Slot}
 use Rattle.sp_kernel.specs.declared.slot.Slot.TheVariants as slot
 use Rattle.sp_kernel.specs.declared.slot.State.TheVariants as st

@@ -33,11 +33,11 @@ use Rattle.sp_kernel.specs.Procs.{config_of, turn_by, turn_of, EntersAs}
 use Rattle.sp_kernel.specs.Kernels.{doing_in, condition_in, control_of, system_of}
 use Rattle.sp_kernel.specs.Kernels.{code_run_of, WaitsAs, IsOwn, NumberIn}
 use Rattle.sp_kernel.specs.Kernels.{HasParents, IsKernel, kernel_after_give, IsAfterGive}
-use Rattle.sp_history.specs.Agreement.{IsOrderly, AgreesWithSystem}
-use Rattle.sp_history.proofs.Queues.{number_or}
+use Rattle.sp_code.specs.Agreement.{IsOrderly, AgreesWithSystem}
+use Rattle.sp_code.proofs.Queues.{number_or}
 use Rattle.sp_kernel.proofs.Tables.{table_set}
-use Rattle.sp_history.proofs.Orders.{orderly_back}
-use Rattle.sp_history.proofs.ControlAgreement.{agrees_after}
+use Rattle.sp_code.proofs.Orders.{orderly_back}
+use Rattle.sp_code.proofs.ControlAgreement.{agrees_after}
 
 -- ---- what an event comes to, by its case
 

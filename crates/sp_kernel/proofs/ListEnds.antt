@@ -5,7 +5,7 @@ use Rattle.std.specs.Prelude.{MatchOption}
 use mathlib.Core.List.{append-nil}
 use Rattle.sp_journal.specs.Queue.{numbers}
 use Rattle.sp_journal.proofs.Facts.{numbers_last}
-use Rattle.sp_history.proofs.Queues.{numbers_length}
+use Rattle.sp_code.proofs.Queues.{numbers_length}
 use Rattle.sp_kernel.specs.ListEnds.{without_last, repeat}
 
 pub last_gone : {A : Type 0} (xs : List A) (y : A) → without_last (xs ++ y ∷ []) ≡ xs

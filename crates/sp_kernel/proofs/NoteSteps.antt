@@ -30,9 +30,9 @@ use Rattle.sp_kernel.specs.Kernels.{control_of, system_of, code_run_of, doing_in
 use Rattle.sp_kernel.specs.Kernels.{Takes, IsAfterGive, Abandons}
 use Rattle.sp_kernel.specs.Fits.{FitsHanded}
 use Rattle.sp_kernel.specs.Asks.{LeavesNote, GotMatchesNote, FitsAsk}
-use Rattle.sp_history.specs.Agreement.{IsOrderly, AgreesWithSystem}
+use Rattle.sp_code.specs.Agreement.{IsOrderly, AgreesWithSystem}
 use Rattle.std.proofs.lemmas.List.{length-set}
-use Rattle.sp_history.proofs.Legal.{orderly_gives_up, agrees_gives_up}
+use Rattle.sp_code.proofs.Legal.{orderly_gives_up, agrees_gives_up}
 use Rattle.sp_kernel.proofs.Tables.{table_set, set_as_it_was}
 use Rattle.sp_kernel.proofs.TakeEvents.{over_none}
 use Rattle.sp_kernel.proofs.KernelEvents.{there, same_offers, same_numbers}

@@ -13,7 +13,7 @@ use Rattle.sp_kernel.specs.declared.slot.Slot.{Slot}
 use Rattle.sp_kernel.specs.declared.slot.Slot.TheVariants as slot
 use Rattle.sp_kernel.specs.declared.slot.State.TheVariants as st
 use Rattle.sp_kernel.specs.Kernels.{control_of, code_run_of, WaitsAs, IsOwn, NumberIn, IsKernel}
-use Rattle.sp_history.proofs.Queues.{number_or}
+use Rattle.sp_code.proofs.Queues.{number_or}
 use Rattle.sp_kernel.proofs.Tables.{table_set}
 use Rattle.sp_kernel.proofs.KernelEvents.{there, no_waiter}
 

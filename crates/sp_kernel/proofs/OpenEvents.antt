@@ -24,8 +24,8 @@ use Rattle.sp_code.specs.Turns.{Stopped, IsTurn}
 use Rattle.sp_code.specs.Sound.{CanPut}
 use Rattle.sp_code.specs.Control.{Out, comes_back}
 use Rattle.sp_code.specs.System.{System, Working, system_after_turn, event_of, process_at_entry, on_store, fault_of}
-use Rattle.sp_history.specs.Channels.{CellHas, CellsHave, EntriesHave, ConfigHas}
-use Rattle.sp_history.proofs.OperationLaws.{HasKeeping, turn_does}
+use Rattle.sp_code.specs.Channels.{CellHas, CellsHave, EntriesHave, ConfigHas}
+use Rattle.sp_code.proofs.OperationLaws.{HasKeeping, turn_does}
 use Rattle.sp_kernel.specs.declared.slot.Slot.TheVariants as slot
 use Rattle.sp_kernel.specs.declared.slot.State.TheVariants as st
 use Rattle.sp_machine.specs.declared.state.State.{State as Proc}
@@ -61,7 +61,7 @@ any_cells : (cs : List Cell) → CellsHave Any cs
 any_cells [] = tt
 any_cells (c ∷ cs) = (any_cell c, any_cells cs)
 
-any_entry : (e : m.Entry) → Rattle.sp_history.specs.Channels.EntryHas Any e
+any_entry : (e : m.Entry) → Rattle.sp_code.specs.Channels.EntryHas Any e
 any_entry (m.Cells cs) = any_cells cs
 any_entry _ = tt
 

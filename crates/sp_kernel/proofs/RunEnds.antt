@@ -19,10 +19,10 @@ use Rattle.sp_kernel.specs.declared.kernel.Kernel.{Kernel}
 use Rattle.sp_kernel.specs.Kernels.{control_of, system_of, code_run_of}
 use Rattle.sp_kernel.specs.Asks.{IsOpening}
 use Rattle.sp_kernel.specs.Closes.{RanTo}
-use Rattle.sp_history.proofs.ControlAgreement.{agrees_start, orderly_start}
-use Rattle.sp_history.proofs.Queues.{number_or, at_same, at_other, among_none}
-use Rattle.sp_history.specs.Agreement.{HasOuts}
-use Rattle.sp_history.proofs.Outs.{outs_start, outs_all}
+use Rattle.sp_code.proofs.ControlAgreement.{agrees_start, orderly_start}
+use Rattle.sp_code.proofs.Queues.{number_or, at_same, at_other, among_none}
+use Rattle.sp_code.specs.Agreement.{HasOuts}
+use Rattle.sp_code.proofs.Outs.{outs_start, outs_all}
 use Rattle.sp_kernel.specs.KernelLaws.{from_start, control_is}
 use Rattle.sp_kernel.proofs.NoteSteps.{back_abandons}
 

@@ -6,7 +6,7 @@ use Rattle.std.proofs.lemmas.Option.{slice_get-get_or}
 use Rattle.std.specs.Prelude.{slice_index_or}
 use Rattle.sp_base.proofs.Facts.{get_beside_set, get_where_set, equals_itself}
 use Rattle.sp_journal.specs.Maps.{at_key}
-use Rattle.sp_history.proofs.Queues.{number_or}
+use Rattle.sp_code.proofs.Queues.{number_or}
 
 pub set_twice : {X : Type 0} (xs : List X) (i : ℕ) (x y : X) → slice_set (slice_set xs i x) i y ≡ slice_set xs i y
 set_twice [] i x y = refl

@@ -20,9 +20,9 @@ use Rattle.sp_kernel.specs.Procs.{config_of}
 use Rattle.sp_kernel.specs.Kernels.{doing_in, condition_in, control_of, system_of}
 use Rattle.sp_kernel.specs.Kernels.{code_run_of, WaitsAs, NumberIn, IsOwn}
 use Rattle.sp_kernel.specs.Kernels.{IsKernel, Takes, is_over}
-use Rattle.sp_history.specs.Agreement.{EachNumber, IsGot}
-use Rattle.sp_history.proofs.Queues.{number_or}
-use Rattle.sp_history.proofs.ControlAgreement.{agrees_takes, orderly_takes}
+use Rattle.sp_code.specs.Agreement.{EachNumber, IsGot}
+use Rattle.sp_code.proofs.Queues.{number_or}
+use Rattle.sp_code.proofs.ControlAgreement.{agrees_takes, orderly_takes}
 use Rattle.sp_kernel.proofs.Tables.{table_set, set_as_it_was}
 
 front_none : (k : Control) (st : Standing) (r : List ℕ) → front_of r ≡ None → front_while st r ≡ None
@@ -125,10 +125,10 @@ module _ (x : Kernel) (k : IsKernel x) (w q : ℕ) (goes : is_over (control_of x
     code_run = (refl, refl, refl);
     journal = refl;
     whole = record {
-      orderly = subst (λ c. Rattle.sp_history.specs.Agreement.IsOrderly c) (sym control)
+      orderly = subst (λ c. Rattle.sp_code.specs.Agreement.IsOrderly c) (sym control)
           (orderly_takes (control_of x) k.orderly w (Some q) is_got);
-      agrees = subst (λ c. Rattle.sp_history.specs.Agreement.AgreesWithSystem c (system_of taken)) (sym control)
-          (subst (λ t. Rattle.sp_history.specs.Agreement.AgreesWithSystem (takes w (Some q) (control_of x)) t)
+      agrees = subst (λ c. Rattle.sp_code.specs.Agreement.AgreesWithSystem c (system_of taken)) (sym control)
+          (subst (λ t. Rattle.sp_code.specs.Agreement.AgreesWithSystem (takes w (Some q) (control_of x)) t)
           (sym system)
           (agrees_takes (control_of x) (system_of x) k.agrees w (Some q) is_got));
       processes = length-set x.slots q s ∙ k.processes;

@@ -25,7 +25,7 @@ use Rattle.sp_kernel.specs.Procs.{config_of, turn_of}
 use Rattle.sp_kernel.specs.Kernels.{control_of, system_of, code_run_of, IsKernel}
 use Rattle.sp_machine.specs.Procs.{KeepsFork}
 use Rattle.sp_kernel.specs.Fits.{FitsHanded, IsWhole}
-use Rattle.sp_history.specs.Agreement.{NoteLeads, Reaches}
+use Rattle.sp_code.specs.Agreement.{NoteLeads, Reaches}
 
 -- the root alone is ready, and the journal is empty
 pub record IsOpening (x : Kernel) : Type 0 where

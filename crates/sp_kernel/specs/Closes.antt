@@ -16,8 +16,8 @@ use Rattle.sp_journal.specs.Names.{proc_name, chan_name}
 use Rattle.sp_code.specs.PlainStore.{plain}
 use Rattle.sp_code.specs.Control.{Out, Gone, standing, entries_of, Running, IsDone, IsDeadlock, IsFault, IsMemory}
 use Rattle.sp_code.specs.System.{store_in}
-use Rattle.sp_history.specs.Agreement.{IsOver}
-use Rattle.sp_history.specs.NamesChannels.{NamesChannels}
+use Rattle.sp_code.specs.Agreement.{IsOver}
+use Rattle.sp_code.specs.NamesChannels.{NamesChannels}
 use Rattle.sp_room.specs.History.{LeadsTo}
 use Rattle.sp_kernel.specs.declared.slot.Slot.{Slot}
 use Rattle.sp_kernel.specs.declared.slot.Slot.TheVariants as slot

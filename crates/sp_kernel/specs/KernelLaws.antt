@@ -31,13 +31,13 @@ use Rattle.sp_kernel.specs.Asks.{LeavesNote}
 use Rattle.sp_kernel.specs.Asks.{is_abandon, refusal}
 use Rattle.sp_code.specs.Sound.{IsSafeSystem}
 use Rattle.sp_journal.specs.declared.entry.Birth.{Birth}
-use Rattle.sp_history.specs.Channels.{StopHas}
-use Rattle.sp_history.specs.NamesChannels.{NamesChannels}
-use Rattle.sp_history.proofs.KnownChannels.{system_spoken, turn_spoken}
-use Rattle.sp_history.proofs.Families.{parent_joins, children_all, children_start}
-use Rattle.sp_history.specs.Agreement.{Reaches, NoneBy}
-use Rattle.sp_history.proofs.ControlAgreement.{agrees_start, orderly_start}
-use Rattle.sp_history.proofs.Legal.{reaches_keeps, reaches_leads, reaches_same, reaches_front, stays}
+use Rattle.sp_code.specs.Channels.{StopHas}
+use Rattle.sp_code.specs.NamesChannels.{NamesChannels}
+use Rattle.sp_code.proofs.KnownChannels.{system_spoken, turn_spoken}
+use Rattle.sp_code.proofs.Families.{parent_joins, children_all, children_start}
+use Rattle.sp_code.specs.Agreement.{Reaches, NoneBy}
+use Rattle.sp_code.proofs.ControlAgreement.{agrees_start, orderly_start}
+use Rattle.sp_code.proofs.Legal.{reaches_keeps, reaches_leads, reaches_same, reaches_front, stays}
 
 -- without a note nothing changed
 pub none_same : (x : Kernel) (w : ℕ) (a : Ask) (y : Kernel) (g : Got) → KernelSteps x w a y g None → y ≡ x

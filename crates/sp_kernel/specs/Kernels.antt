@@ -32,7 +32,7 @@ use Rattle.sp_machine.specs.declared.state.State.{State as Proc}
 use Rattle.sp_kernel.specs.declared.handed.Handed.{Handed}
 use Rattle.sp_kernel.specs.declared.kernel.Kernel.{Kernel}
 use Rattle.sp_kernel.specs.Procs.{config_of, target_of, turn_of}
-use Rattle.sp_history.specs.Agreement.{IsOrderly, AgreesWithSystem}
+use Rattle.sp_code.specs.Agreement.{IsOrderly, AgreesWithSystem}
 
 -- what the control tells of a slot
 abbrev pub doing_in : Option Slot → Doing

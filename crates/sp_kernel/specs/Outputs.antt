@@ -1,6 +1,6 @@
 -- None of this belongs to what the program promises: it is for contracts between crates.
 -- The output of a process that the kernel has: the contracts of the end look for it slot by slot. That there is one
--- such process is a law of `sp_history`.
+-- such process is a law of `sp_code`.
 use Rattle.std.specs.Prelude.{ℕ, List, [], ◌∷◌, Option, Some, None}
 use Rattle.sp_cell.specs.Map.{output_of, output_spot}
 use Rattle.std.specs.FinMap as map

@@ -13,7 +13,7 @@ use Rattle.sp_code.specs.Machine.{Stop, Forks, Opens, Sends, Receives, Ends, Pau
 use Rattle.sp_code.specs.Memory.{Memory}
 use Rattle.sp_code.specs.Turns.{Stopped}
 use Rattle.sp_code.specs.System.{System, event_of, event_or, fault_of, first_fault, clash_of, clash_by, pending_stop}
-use Rattle.sp_history.proofs.OneFault.{stop_not_fault}
+use Rattle.sp_code.proofs.OneFault.{stop_not_fault}
 use Rattle.sp_link.specs.Endings.{MeetsItsWay}
 
 fault_is : (o : Option Fault) (stop : Stop) (e : Config (Memory Plain)) (f : Fault)

@@ -54,7 +54,7 @@ use Rattle.sp_code.specs.System.{System, system_after_turn, event_of, event_or, 
 use Rattle.sp_code.specs.System.{plan_of, child_or}
 use Rattle.sp_code.specs.System.{table_or}
 use Rattle.sp_code.specs.System as sys
-use Rattle.sp_history.proofs.Orders.{next_not}
+use Rattle.sp_code.proofs.Orders.{next_not}
 use Rattle.sp_codegen.proofs.FramePairs.{sources_length}
 use Rattle.sp_codegen.specs.TurnAgrees.{due_after}
 use Rattle.sp_link.proofs.AfterEntry.{stand_again, again}

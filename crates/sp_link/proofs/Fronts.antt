@@ -9,7 +9,7 @@ use Rattle.sp_journal.specs.declared.entry.Entry.{Entry}
 use Rattle.sp_journal.specs.declared.entry.Opening.{Opening}
 use Rattle.sp_journal.specs.Births.{Births, channel, is_next, births_after_event, births_from, NameableFrom}
 use Rattle.sp_journal.proofs.BirthLaws.{Lawful, lawful_after}
-use Rattle.sp_history.proofs.Orders.{next_not}
+use Rattle.sp_code.proofs.Orders.{next_not}
 use Rattle.sp_link.proofs.Journal.{AllBegan}
 use Rattle.sp_link.proofs.Relation.{RunContext, Began}
 

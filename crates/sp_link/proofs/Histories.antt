@@ -38,15 +38,15 @@ use Rattle.sp_code.specs.PlainStore.{plain}
 use Rattle.sp_code.specs.System.{System, Condition, Absent, Working, Waits, Joins, Laid as IsLaid, Gone as HasGone}
 use Rattle.sp_code.specs.System.{Over, IsSystem, OutputIs, store_in, opening_system}
 use Rattle.sp_codegen.specs.TurnAgrees.{code_run}
-use Rattle.sp_history.specs.Agreement.{ToSend, ToReceive, Finished, phase, phase_in, IsOrderly, AgreesWithSystem}
-use Rattle.sp_history.specs.Agreement.{HasOuts}
-use Rattle.sp_history.specs.Agreement.{Reaches}
-use Rattle.sp_history.proofs.ControlAgreement.{orderly_start, agrees_start}
-use Rattle.sp_history.proofs.Holders.{one_holder}
-use Rattle.sp_history.proofs.Legal.{reaches_leads, reaches_keeps}
-use Rattle.sp_history.proofs.Outs.{outs_start, outs_all, nobody_runs}
-use Rattle.sp_history.proofs.Phases.{ended_phase, live_phase, no_waiter_ended}
-use Rattle.sp_history.proofs.Along.{births_along}
+use Rattle.sp_code.specs.Agreement.{ToSend, ToReceive, Finished, phase, phase_in, IsOrderly, AgreesWithSystem}
+use Rattle.sp_code.specs.Agreement.{HasOuts}
+use Rattle.sp_code.specs.Agreement.{Reaches}
+use Rattle.sp_code.proofs.ControlAgreement.{orderly_start, agrees_start}
+use Rattle.sp_code.proofs.Holders.{one_holder}
+use Rattle.sp_code.proofs.Legal.{reaches_leads, reaches_keeps}
+use Rattle.sp_code.proofs.Outs.{outs_start, outs_all, nobody_runs}
+use Rattle.sp_code.proofs.Phases.{ended_phase, live_phase, no_waiter_ended}
+use Rattle.sp_code.proofs.Along.{births_along}
 use Rattle.sp_link.specs.Endings.{waiting_at, WaitsAs, IsWaiting, AreAllWaiting, ControlEndsAt}
 use Rattle.sp_link.specs.Premises.{IsReady}
 use Rattle.sp_link.proofs.Endings.{program_root, program_stuck, program_fault}

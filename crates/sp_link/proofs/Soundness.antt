@@ -19,7 +19,7 @@ use Rattle.sp_code.specs.Ranks.{IsRanked}
 use Rattle.sp_code.proofs.Blocks.{distinct_blocks}
 use Rattle.sp_code.proofs.Falls.{ranked_along}
 use Rattle.sp_codegen.specs.TurnAgrees.{code_run}
-use Rattle.sp_history.proofs.NameableRuns.{system_nameable}
+use Rattle.sp_code.proofs.NameableRuns.{system_nameable}
 use Rattle.sp_link.specs.Premises.{IsReady}
 use Rattle.sp_link.proofs.Formals.{have_formals}
 use Rattle.sp_link.proofs.Programs.{ground}

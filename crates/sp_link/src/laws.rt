@@ -26,7 +26,7 @@ ghost use Rattle.sp_code.specs.Sound.{IsSound};
 ghost use Rattle.sp_code.specs.System.{System, Working, Over, IsSystem, IsLegal, OutputIs, event_of, store_in};
 ghost use Rattle.sp_code.specs.System.{opening_system};
 ghost use Rattle.sp_code.specs.Turns.{Stopped, IsSafe};
-ghost use Rattle.sp_history.specs.Agreement.{Reaches};
+ghost use Rattle.sp_code.specs.Agreement.{Reaches};
 ghost use Rattle.sp_link.specs.Endings.{HasFaultEntry, WaitsAs, IsStuck, ControlEndsAt, MeetsItsWay};
 ghost use Rattle.sp_link.specs.Premises.{IsReady, AreAlong, run_by};
 

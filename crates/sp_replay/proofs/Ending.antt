@@ -8,11 +8,11 @@ use Rattle.sp_code.specs.PlainStore.{plain}
 use Rattle.sp_code.specs.Control.{Doing, Unborn, Ready, Out, Sending, Receiving, Joining, Laid, Ended, Gone, standing}
 use Rattle.sp_code.specs.Control.{Running as Going, IsDone, IsDeadlock, IsFault, IsMemory, is_ready, has_ended}
 use Rattle.sp_code.specs.System.{store_in}
-use Rattle.sp_history.specs.Agreement.{EachNumber, IsOut, phase, phase_in, Running, HasOuts}
-use Rattle.sp_history.specs.OutputHolder.{IsOutputOf}
-use Rattle.sp_history.proofs.Holders.{one_holder}
-use Rattle.sp_history.proofs.Outs.{nobody_runs}
-use Rattle.sp_history.proofs.Phases.{live_phase}
+use Rattle.sp_code.specs.Agreement.{EachNumber, IsOut, phase, phase_in, Running, HasOuts}
+use Rattle.sp_code.specs.OutputHolder.{IsOutputOf}
+use Rattle.sp_code.proofs.Holders.{one_holder}
+use Rattle.sp_code.proofs.Outs.{nobody_runs}
+use Rattle.sp_code.proofs.Phases.{live_phase}
 use Rattle.sp_machine.specs.declared.state.State.{State as Proc}
 use Rattle.sp_kernel.specs.declared.kernel.Kernel.{Kernel}
 use Rattle.sp_kernel.specs.Kernels.{control_of, system_of, code_run_of}

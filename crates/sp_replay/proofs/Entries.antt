@@ -9,7 +9,7 @@ use Rattle.sp_code.specs.PlainStore.{plain}
 use Rattle.sp_code.specs.Control.{Doing, Ready, Out, Gone}
 use Rattle.sp_code.specs.System.{System, EntryLeads, EntriesLead, IsSystem, opening_system}
 use Rattle.sp_code.proofs.Systems.{event_same, leads_same}
-use Rattle.sp_history.specs.Agreement.{Among, phase, phase_in, Running}
+use Rattle.sp_code.specs.Agreement.{Among, phase, phase_in, Running}
 use Rattle.sp_machine.specs.declared.state.State.{State as Proc}
 use Rattle.sp_kernel.specs.declared.kernel.Kernel.{Kernel}
 use Rattle.sp_kernel.specs.Kernels.{control_of, system_of, code_run_of}

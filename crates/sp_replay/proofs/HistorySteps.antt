@@ -18,12 +18,12 @@ use Rattle.sp_code.specs.Control.{Control, Ready, Unborn, control_at_start, entr
 use Rattle.sp_code.specs.Control.{front, front_while, standing, Standing, Running as Going, IsDone, IsDeadlock, IsFault}
 use Rattle.sp_code.specs.Control.{IsMemory, is_ready, has_ended}
 use Rattle.sp_code.specs.System.{System, EntryLeads, IsSystem, opening_system, event_of}
-use Rattle.sp_history.specs.Agreement.{HasOuts, IsGot}
-use Rattle.sp_history.specs.WorkerHistory.{HasChildren}
-use Rattle.sp_history.proofs.ControlAgreement.{agrees_start, orderly_start}
-use Rattle.sp_history.proofs.Families.{children_start, children_all}
-use Rattle.sp_history.proofs.Legal.{got_of}
-use Rattle.sp_history.proofs.Outs.{outs_start, outs_all}
+use Rattle.sp_code.specs.Agreement.{HasOuts, IsGot}
+use Rattle.sp_code.specs.WorkerHistory.{HasChildren}
+use Rattle.sp_code.proofs.ControlAgreement.{agrees_start, orderly_start}
+use Rattle.sp_code.proofs.Families.{children_start, children_all}
+use Rattle.sp_code.proofs.Legal.{got_of}
+use Rattle.sp_code.proofs.Outs.{outs_start, outs_all}
 use Rattle.sp_machine.specs.declared.state.State.{State as Proc}
 use Rattle.sp_machine.specs.Procs.{CanTurn, IsRankedFrom}
 use Rattle.sp_room.proofs.Histories.{runs_on, starts_self}

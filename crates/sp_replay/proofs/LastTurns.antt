@@ -9,7 +9,7 @@ use Rattle.sp_cell.specs.Map.{Plain}
 use Rattle.sp_journal.specs.declared.entry.Entry.{Entry}
 use Rattle.sp_journal.specs.Maps.{at_key}
 use Rattle.sp_code.specs.System.{Condition, Absent, Working, Gone}
-use Rattle.sp_history.specs.Agreement.{phase_in, Running}
+use Rattle.sp_code.specs.Agreement.{phase_in, Running}
 use Rattle.sp_kernel.proofs.Tables.{table_set}
 use Rattle.sp_kernel.specs.Views.{IsUnseen}
 use Rattle.sp_lines.specs.declared.entry_place.Told.{Told}

@@ -5,11 +5,11 @@ use Rattle.sp_base.proofs.Facts.{equals_itself}
 use Rattle.sp_journal.proofs.BirthLaws.{Lawful, Born}
 use Rattle.sp_code.specs.Control.{Control, Doing, Unborn, Ready, Out, Sending, Receiving, Joining, Laid, Ended, Gone}
 use Rattle.sp_code.specs.Control.{has_ended}
-use Rattle.sp_history.specs.Agreement.{EachNumber, Differ, Among, IsOrderly, HasOuts, IsOut}
-use Rattle.sp_history.specs.WorkerHistory.{left_of, IsLive, HasChildren}
-use Rattle.sp_history.proofs.Queues.{each_of, number_or}
-use Rattle.sp_history.proofs.Orders.{out_there}
-use Rattle.sp_history.proofs.Outs.{without, without_differ}
+use Rattle.sp_code.specs.Agreement.{EachNumber, Differ, Among, IsOrderly, HasOuts, IsOut}
+use Rattle.sp_code.specs.WorkerHistory.{left_of, IsLive, HasChildren}
+use Rattle.sp_code.proofs.Queues.{each_of, number_or}
+use Rattle.sp_code.proofs.Orders.{out_there}
+use Rattle.sp_code.proofs.Outs.{without, without_differ}
 
 -- ---- the root
 
@@ -31,7 +31,7 @@ live_there d l e = subst IsLive e l
 
 module _ (k : Control) (h : IsOrderly k) (c : HasChildren k) (lawful : Lawful k.births) where
   below : (q : ℕ) → IsLive (k.doing q) → q < k.births.processes
-  below q l = Rattle.sp_history.proofs.Orders.there_of h q (k.doing q) refl (live_there (k.doing q) l)
+  below q l = Rattle.sp_code.proofs.Orders.there_of h q (k.doing q) refl (live_there (k.doing q) l)
 
   up_to : (n q : ℕ) → q ≤ n → IsLive (k.doing q) → IsLive (k.doing 0)
   up_to zero q le l = let e : q ≡ 0 = omega (arith, le) in subst (λ r. IsLive (k.doing r)) e l

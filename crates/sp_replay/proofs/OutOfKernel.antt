@@ -4,7 +4,7 @@ use Rattle.sp_journal.specs.declared.entry.Way.TheVariants as way
 use Rattle.sp_journal.specs.declared.entry.Event.{Event}
 use Rattle.sp_journal.specs.declared.entry.Event.TheVariants as event
 use Rattle.sp_code.specs.Control.{Control, Sending, Receiving, Ended, does, comes_back}
-use Rattle.sp_history.proofs.EventFrames.{offers_faulted, reports_faulted}
+use Rattle.sp_code.proofs.EventFrames.{offers_faulted, reports_faulted}
 use Rattle.sp_kernel.proofs.RunEnds.{IsByNoEvent}
 use Rattle.sp_replay.specs.FollowInvariant.{IsOutOfKernel}
 

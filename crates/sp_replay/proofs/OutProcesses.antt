@@ -12,9 +12,9 @@ use Rattle.sp_code.specs.Control.{Control, Out, queue_tail, comes_back}
 use Rattle.sp_code.specs.System.{System, event_of, event_or, fault_of}
 use Rattle.sp_machine.specs.declared.state.State.{State as Proc}
 use Rattle.sp_machine.specs.Procs.{config_of}
-use Rattle.sp_history.proofs.Queues.{number_or, at_same, at_other}
-use Rattle.sp_history.proofs.Orders.{out_there}
-use Rattle.sp_history.proofs.OutProcesses.{after_same, back_out}
+use Rattle.sp_code.proofs.Queues.{number_or, at_same, at_other}
+use Rattle.sp_code.proofs.Orders.{out_there}
+use Rattle.sp_code.proofs.OutProcesses.{after_same, back_out}
 use Rattle.sp_kernel.specs.declared.handed.Handed.{Handed}
 use Rattle.sp_kernel.specs.declared.kernel.Kernel.{Kernel}
 use Rattle.sp_kernel.specs.Procs.{turn_of}

@@ -18,7 +18,7 @@ use Rattle.sp_code.specs.Sound.{run_of}
 use Rattle.sp_code.specs.System.{System, Working, Absent, Laid, EntryLeads, opening_system, event_of}
 use Rattle.sp_code.specs.System.{system_after_turn}
 use Rattle.sp_code.specs.Turns.{Turn, Faulted, IsTurn, Runs, BeginsOrFaults}
-use Rattle.sp_history.specs.OutputHolder.{IsOutputOf}
+use Rattle.sp_code.specs.OutputHolder.{IsOutputOf}
 use Rattle.sp_machine.specs.FirstFrames.{first_fits}
 use Rattle.sp_kernel.specs.FirstFaults.{first_fault, first_fault_end}
 use Rattle.sp_runner.proofs.TooLarge.{faulted_system, leads_there, faulted_output, opening_output}

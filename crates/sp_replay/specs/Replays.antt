@@ -8,8 +8,8 @@ use Rattle.sp_journal.specs.declared.outcome.End.{End}
 use Rattle.sp_code.specs.Memory.{CodeRun}
 use Rattle.sp_code.specs.PlainStore.{plain}
 use Rattle.sp_code.specs.System.{System, IsSystem}
-use Rattle.sp_history.specs.Agreement.{phase_in, Running, Finished}
-use Rattle.sp_history.specs.OutputHolder.{IsOutputOf}
+use Rattle.sp_code.specs.Agreement.{phase_in, Running, Finished}
+use Rattle.sp_code.specs.OutputHolder.{IsOutputOf}
 use Rattle.sp_runner.specs.Ends.{EndsAt}
 use Rattle.sp_replay.specs.declared.replayer.Replayed.{Replayed}
 use Rattle.sp_replay.specs.declared.replayer.ReplayError.{ReplayError}

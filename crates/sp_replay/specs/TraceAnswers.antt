@@ -7,7 +7,7 @@ use Rattle.sp_journal.specs.declared.entry.Entry.{Entry}
 use Rattle.sp_code.specs.Memory.{CodeRun}
 use Rattle.sp_code.specs.PlainStore.{plain}
 use Rattle.sp_code.specs.System.{System, Condition, Absent, Gone, IsSystem}
-use Rattle.sp_history.specs.OutputHolder.{IsOutputOf}
+use Rattle.sp_code.specs.OutputHolder.{IsOutputOf}
 use Rattle.sp_lines.specs.EntryPlaces.{DescribesEntries}
 use Rattle.sp_kernel.specs.Kernels.{system_of}
 use Rattle.sp_replay.specs.declared.replayer.Replayed.{Replayed}

@@ -2,7 +2,7 @@
 
 ghost use Rattle.std.specs.Prelude.{◌≡◌, ◌≢◌, ℕ, [], MatchBool, MatchOption, IfOk, OnOk};
 ghost use Rattle.sp_code.specs.Sound.{IsSound};
-ghost use Rattle.sp_history.specs.OutputHolder.{IsOutputOf};
+ghost use Rattle.sp_code.specs.OutputHolder.{IsOutputOf};
 ghost use Rattle.sp_kernel.specs.Asks.{IsOpening};
 ghost use Rattle.sp_kernel.specs.Kernels.{code_run_of, system_of};
 ghost use Rattle.sp_kernel.specs.Views.{IsSeen};

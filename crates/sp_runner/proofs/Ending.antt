@@ -8,10 +8,10 @@ use Rattle.sp_code.specs.PlainStore.{plain}
 use Rattle.sp_code.specs.Control.{Control, control_at_start, control, after_note, after_notes, after_give, takes}
 use Rattle.sp_code.specs.Control.{entries_of}
 use Rattle.sp_code.specs.System.{System, opening_system}
-use Rattle.sp_history.specs.Agreement.{IsOrderly, AgreesWithSystem, Reaches, HasOuts, IsOver}
-use Rattle.sp_history.proofs.ControlAgreement.{agrees_start, orderly_start}
-use Rattle.sp_history.proofs.Legal.{keeps, reaches_keeps, reaches_front, noted_more}
-use Rattle.sp_history.proofs.Outs.{outs_start, outs_by, outs_all, over_by}
+use Rattle.sp_code.specs.Agreement.{IsOrderly, AgreesWithSystem, Reaches, HasOuts, IsOver}
+use Rattle.sp_code.proofs.ControlAgreement.{agrees_start, orderly_start}
+use Rattle.sp_code.proofs.Legal.{keeps, reaches_keeps, reaches_front, noted_more}
+use Rattle.sp_code.proofs.Outs.{outs_start, outs_by, outs_all, over_by}
 use Rattle.sp_machine.specs.declared.state.State.{State as Proc}
 use Rattle.sp_room.specs.History.{LeadsTo, StartsWith}
 use Rattle.sp_room.specs.RoomRule.{Called, Declined}

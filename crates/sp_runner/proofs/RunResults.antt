@@ -16,12 +16,12 @@ use Rattle.sp_code.specs.PlainStore.{plain}
 use Rattle.sp_code.specs.Control.{control_at_start, entries_of, standing, Running as Going, IsDone as Done}
 use Rattle.sp_code.specs.Control.{IsDeadlock as Deadlock, IsFault as Fault, IsMemory as Memory, has_ended}
 use Rattle.sp_code.specs.System.{IsSystem, opening_system}
-use Rattle.sp_history.specs.Agreement.{phase_in, Running}
-use Rattle.sp_history.specs.OutputHolder.{IsOutputOf}
-use Rattle.sp_history.specs.WorkerHistory.{OneByOne}
-use Rattle.sp_history.proofs.InTurn.{first_in_first_out}
-use Rattle.sp_history.proofs.Legal.{reaches_legal}
-use Rattle.sp_history.proofs.Phases.{ended_phase, live_phase}
+use Rattle.sp_code.specs.Agreement.{phase_in, Running}
+use Rattle.sp_code.specs.OutputHolder.{IsOutputOf}
+use Rattle.sp_code.specs.WorkerHistory.{OneByOne}
+use Rattle.sp_code.proofs.InTurn.{first_in_first_out}
+use Rattle.sp_code.proofs.Legal.{reaches_legal}
+use Rattle.sp_code.proofs.Phases.{ended_phase, live_phase}
 use Rattle.sp_room.specs.History.{either_list}
 use Rattle.sp_kernel.specs.declared.closed.Closed.{Closed}
 use Rattle.sp_kernel.specs.declared.kernel.Kernel.{Kernel}

@@ -23,10 +23,10 @@ use Rattle.sp_code.specs.Sound.{run_of}
 use Rattle.sp_code.specs.System.{System, Working, Absent, Laid, IsSystem, IsLegal, EntryLeads, opening_system, store_in}
 use Rattle.sp_code.specs.System.{system_after_turn}
 use Rattle.sp_code.specs.Turns.{Turn, Faulted, Runs, BeginsOrFaults}
-use Rattle.sp_history.specs.OutputHolder.{IsOutputOf}
+use Rattle.sp_code.specs.OutputHolder.{IsOutputOf}
 use Rattle.sp_room.specs.History.{either_list}
-use Rattle.sp_history.specs.WorkerHistory.{OneByOne}
-use Rattle.sp_history.proofs.Holders.{pieces_later}
+use Rattle.sp_code.specs.WorkerHistory.{OneByOne}
+use Rattle.sp_code.proofs.Holders.{pieces_later}
 use Rattle.sp_machine.specs.FirstFrames.{first_fits}
 use Rattle.sp_kernel.specs.declared.closed.Closed.{Closed}
 use Rattle.sp_kernel.specs.FirstFaults.{first_fault, first_fault_end}

@@ -14,8 +14,8 @@ use Rattle.sp_code.specs.Turns.{IsTurn, IsSafe}
 use Rattle.sp_code.specs.Sound.{run_of}
 use Rattle.sp_code.specs.Control.{Control, Out, control_at_start, control, after_note, after_give, takes, entries_of}
 use Rattle.sp_code.specs.System.{System, Working, opening_system, IsSystem}
-use Rattle.sp_history.specs.Agreement.{Reaches}
-use Rattle.sp_history.proofs.Queues.{at_same}
+use Rattle.sp_code.specs.Agreement.{Reaches}
+use Rattle.sp_code.proofs.Queues.{at_same}
 use Rattle.sp_machine.specs.declared.state.State.{State as Proc}
 use Rattle.sp_machine.specs.declared.state.Stop.{Stop}
 use Rattle.sp_machine.specs.declared.state.Stop.TheVariants as stop

@@ -4,7 +4,7 @@ use Rattle.std.proofs.Common.{subst}
 use Rattle.std.specs.Option.{option_map}
 use mathlib.Core.List.{append-nil}
 use Rattle.sp_journal.specs.declared.entry.Note.{Note}
-use Rattle.sp_history.specs.WorkerHistory.{OneByOne}
+use Rattle.sp_code.specs.WorkerHistory.{OneByOne}
 use Rattle.sp_room.specs.History.{note_list}
 use Rattle.sp_room.specs.RoomRule.{Called, Declined}
 use Rattle.sp_room.specs.declared.view.View.{View}

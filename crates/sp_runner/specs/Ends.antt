@@ -18,8 +18,8 @@ use Rattle.sp_code.specs.Machine.{Stop, Sends, Receives}
 use Rattle.sp_code.specs.Memory.{CodeRun}
 use Rattle.sp_code.specs.PlainStore.{plain}
 use Rattle.sp_code.specs.System.{System, Condition, Waits, IsSystem}
-use Rattle.sp_history.specs.Agreement.{phase_in, Running, Finished}
-use Rattle.sp_history.specs.OutputHolder.{IsOutputOf}
+use Rattle.sp_code.specs.Agreement.{phase_in, Running, Finished}
+use Rattle.sp_code.specs.OutputHolder.{IsOutputOf}
 use Rattle.sp_kernel.specs.Faults.{fault_in}
 
 -- ---- who waits

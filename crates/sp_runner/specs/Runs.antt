@@ -8,7 +8,7 @@ use Rattle.sp_code.specs.Control.{entries_of}
 use Rattle.sp_code.specs.Memory.{CodeRun}
 use Rattle.sp_code.specs.PlainStore.{plain}
 use Rattle.sp_code.specs.System.{IsLegal}
-use Rattle.sp_history.specs.WorkerHistory.{OneByOne}
+use Rattle.sp_code.specs.WorkerHistory.{OneByOne}
 use Rattle.sp_room.specs.History.{notes_by}
 use Rattle.sp_kernel.specs.declared.closed.Closed.{Closed}
 use Rattle.sp_runner.specs.Ends.{EndsWith}

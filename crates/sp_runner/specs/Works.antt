@@ -7,8 +7,8 @@ use Rattle.sp_base.specs.declared.limits.Limits.{Limits}
 use Rattle.sp_journal.specs.declared.entry.Note.{Note}
 use Rattle.sp_code.specs.declared.code.Parts.{Parts}
 use Rattle.sp_code.specs.Control.{control}
-use Rattle.sp_history.specs.Agreement.{IsOver}
-use Rattle.sp_history.specs.WorkerHistory.{OneByOne}
+use Rattle.sp_code.specs.Agreement.{IsOver}
+use Rattle.sp_code.specs.WorkerHistory.{OneByOne}
 use Rattle.sp_machine.specs.declared.state.State.{State as Proc}
 use Rattle.sp_kernel.specs.declared.handed.Handed.{Handed}
 use Rattle.sp_kernel.specs.declared.kernel.Kernel.{Kernel}

@@ -1,7 +1,7 @@
 //! What one worker does: it serves the room with what it holds, and runs one turn of what it gets.
 
 ghost use Rattle.std.specs.Prelude.{◌≡◌, ◌<◌, []};
-ghost use Rattle.sp_history.specs.WorkerHistory.{OneByOne};
+ghost use Rattle.sp_code.specs.WorkerHistory.{OneByOne};
 ghost use Rattle.sp_room.specs.Seats.{IsSeatOf, SamePlace, claims_of_seat, opening_of, number_of, seen_by, own_of};
 ghost use Rattle.sp_runner.specs.Works.{IsRunOf, AreOwnNotes, LeftAfter, refused_process};
 

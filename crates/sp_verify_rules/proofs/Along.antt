@@ -19,7 +19,7 @@ use Rattle.sp_code.specs.Memory.{CodeRun, Home, Memory, put_cells}
 use Rattle.sp_code.specs.PlainStore.{plain}
 use Rattle.sp_code.specs.System.{Condition, Absent, Working, Waits, Joins, Laid, Gone, Over, frames_of, store_of}
 use Rattle.sp_code.specs.System.{on_store, after_message, parent_after_join}
-use Rattle.sp_history.proofs.Queues.{number_or, at_same, at_other}
+use Rattle.sp_code.proofs.Queues.{number_or, at_same, at_other}
 use Rattle.sp_verify_rules.specs.ProcessLife.{Base, HasActivations, StopInvariant}
 use Rattle.sp_verify_rules.specs.Systems.{without_first, awaited_children, IsLive, moved_to, JoinInvariant}
 use Rattle.sp_verify_rules.specs.Systems.{LivesIn, Inv}

@@ -28,7 +28,7 @@ use Rattle.sp_verify_rules.proofs.Holdings.{head}
 use Rattle.sp_verify_rules.proofs.StoreLaws.{KeepsLengths, all_keeps}
 use Rattle.sp_verify_rules.proofs.ForkSteps.{has_held}
 use Rattle.sp_code.proofs.Plans.{out_of}
-use Rattle.sp_history.proofs.ForkOutputs.{distinct_apart}
+use Rattle.sp_code.proofs.ForkOutputs.{distinct_apart}
 
 module _ (g : CodeRun) {Area : Type 0} (H : Area → List Home) (E : Area → ℕ → Type 0) (T : List Area
     → Config (Memory Plain) → Type 0) (Room Cells : ℕ → ℕ → Type 0) where

@@ -5,7 +5,7 @@ use Rattle.sp_cell.specs.Map.{Plain}
 use Rattle.sp_journal.specs.Maps.{at_key}
 use Rattle.sp_journal.specs.declared.entry.Birth.{Birth}
 use Rattle.sp_code.specs.System.{Condition}
-use Rattle.sp_history.proofs.Queues.{number_or, at_same, at_other}
+use Rattle.sp_code.proofs.Queues.{number_or, at_same, at_other}
 use Rattle.sp_verify_rules.specs.Apart.{AreApart}
 
 -- only what each condition is matters

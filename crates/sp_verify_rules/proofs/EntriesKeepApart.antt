@@ -33,7 +33,7 @@ use Rattle.sp_code.specs.System.{apply_send, apply_receive, system_after_turn, o
 use Rattle.sp_code.specs.System.{EntryLeads, EntriesLead, IsSystem, plan_of, child_process, child_or, table_or}
 use Rattle.sp_code.specs.Tables.{child_at}
 use Rattle.sp_code.specs.Turns.{Turn, Stopped, Faulted, IsTurn}
-use Rattle.sp_history.proofs.Queues.{number_or, at_same, at_other}
+use Rattle.sp_code.proofs.Queues.{number_or, at_same, at_other}
 use Rattle.sp_verify_rules.specs.Areas.{Area, homes}
 use Rattle.sp_verify_rules.specs.Effects.{Does, May}
 use Rattle.sp_verify_rules.specs.Forks.{KeepsEffects}

@@ -41,7 +41,7 @@ use Rattle.sp_verify_rules.proofs.Lists.{place_some}
 use Rattle.sp_code.proofs.Pieces.{pieces_at}
 use Rattle.sp_verify_rules.proofs.FrameScopes.{found_layout, programs, chained}
 use Rattle.sp_verify_rules.proofs.StoreLaws.{input_not_output}
-use Rattle.sp_history.proofs.Holders.{pieces_later}
+use Rattle.sp_code.proofs.Holders.{pieces_later}
 
 -- ---- the map
 

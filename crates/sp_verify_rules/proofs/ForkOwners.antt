@@ -32,8 +32,8 @@ use Rattle.sp_code.specs.System.{Condition, Absent, Working, Joins, on_store, in
 use Rattle.sp_code.specs.System.{with_index_frame, child_or, table_or, frames_of}
 use Rattle.sp_code.specs.Tables.{child_at}
 use Rattle.sp_code.proofs.Plans.{moved_in, child_handing}
-use Rattle.sp_history.proofs.Orders.{next_is, next_not, next_yes}
-use Rattle.sp_history.proofs.Queues.{number_or, at_same, at_other}
+use Rattle.sp_code.proofs.Orders.{next_is, next_not, next_yes}
+use Rattle.sp_code.proofs.Queues.{number_or, at_same, at_other}
 use Rattle.sp_verify_rules.specs.Systems.{IsLive}
 use Rattle.sp_verify_rules.specs.Writable.{IsWritable}
 use Rattle.sp_verify_rules.specs.Apart.{config_in, map_of, spots_moved, meaning, KnowsSpot, IsMade, IsChildOf}

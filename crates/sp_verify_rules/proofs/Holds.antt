@@ -48,7 +48,7 @@ use Rattle.sp_verify_rules.proofs.Holdings.{head, holding_set, holding_pop}
 use Rattle.sp_verify_rules.proofs.StoreLaws.{keeps_input, keeps_output}
 use Rattle.sp_verify_rules.proofs.Messages.{lives_with, lives_opened, lives_received, t}
 use Rattle.sp_verify_rules.proofs.Pushes.{KeepsCalls, holding_push}
-use Rattle.sp_history.proofs.Outputs.{output_known}
+use Rattle.sp_code.proofs.Outputs.{output_known}
 
 module _ (g : CodeRun) (E : Area → ℕ → Type 0) (T : List Area → Config (Memory Plain)
     → Type 0) (b : Base g (homes g.code) E T) where

@@ -18,8 +18,8 @@ use Rattle.sp_code.specs.System.{Condition, Absent, Working, Joins, frames_of, o
 use Rattle.sp_code.specs.System.{plan_of}
 use Rattle.sp_verify_rules.specs.ProcessLife.{Base, HasActivations, ForkInvariant, table_of}
 use Rattle.sp_verify_rules.specs.Systems.{awaited_children, IsLive, JoinInvariant, LivesIn, Inv}
-use Rattle.sp_history.proofs.Orders.{next_is, next_not, next_past, next_yes}
-use Rattle.sp_history.proofs.Queues.{number_or, at_same, at_other, numbers_length}
+use Rattle.sp_code.proofs.Orders.{next_is, next_not, next_past, next_yes}
+use Rattle.sp_code.proofs.Queues.{number_or, at_same, at_other, numbers_length}
 use Rattle.sp_verify_rules.proofs.Along.{fine_alike}
 use Rattle.sp_verify_rules.proofs.ForkChildren.{child_base, child_lives, joins_well}
 

@@ -11,7 +11,7 @@ use Rattle.sp_code.specs.declared.code.Layout.{Layout}
 use Rattle.sp_code.specs.Memory.{Frame}
 use Rattle.sp_code.specs.System.{plan_from}
 use Rattle.sp_code.proofs.Plans.{moved_back, child_handing}
-use Rattle.sp_history.proofs.ForkOutputs.{distinct_apart}
+use Rattle.sp_code.proofs.ForkOutputs.{distinct_apart}
 
 module _ (ls : List Layout) (fs : List Frame) (t : ForkTable) (value : ℤ) where
   once_from : (i n j k : ℕ) (s : Spot) → j < k → k < n → IsDistinct

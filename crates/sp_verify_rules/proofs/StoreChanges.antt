@@ -13,7 +13,7 @@ use Rattle.sp_code.specs.Machine.{Config}
 use Rattle.sp_code.specs.Memory.{Memory}
 use Rattle.sp_code.specs.Sound.{identity}
 use Rattle.sp_code.specs.System.{Condition, frames_of, store_of}
-use Rattle.sp_history.proofs.Queues.{number_or, at_same, at_other}
+use Rattle.sp_code.proofs.Queues.{number_or, at_same, at_other}
 use Rattle.sp_verify_rules.specs.Systems.{IsLive}
 use Rattle.sp_verify_rules.specs.Apart.{config_in, map_of, spots_moved, meaning, KnowsSpot, IsMade, IsChildOf}
 use Rattle.sp_verify_rules.specs.Apart.{IsHandedOn}

@@ -1,7 +1,7 @@
 use Rattle.sp_code.specs.Control.{control_at_start}
 use Rattle.sp_code.specs.PlainStore.{plain}
 use Rattle.sp_code.specs.System.{opening_system}
-use Rattle.sp_history.proofs.Legal.{legal_reaches}
+use Rattle.sp_code.proofs.Legal.{legal_reaches}
 use Rattle.sp_link.specs.Premises.{run_by}
 use Rattle.sp_link.proofs.Histories.{history_means, history_output, history_held, history_ends}
 use Rattle.sp_link.proofs.laws.histories_end_as_the_program_does.Goals as goal

@@ -8,7 +8,7 @@ use Rattle.std.proofs.Common.{◌≡◌, ◌∙◌, sym, ap, subst, Some, None, 
 use Rattle.std.proofs.lemmas.Option.{slice_get_read, slice_get_within, get_or_from_slice_get}
 use Rattle.sp_room.specs.Seats.{IsSeatAt, SamePlace, seen_by, own_of}
 use Rattle.sp_room.proofs.Places.{stays_of, stays_at}
-use Rattle.sp_history.specs.WorkerHistory.{OneByOne}
+use Rattle.sp_code.specs.WorkerHistory.{OneByOne}
 use Rattle.sp_runner.proofs.FreshSeats.{new_seat}
 use Rattle.sp_runner.specs.Works.{IsRunOf, LeftAfter}
 use Rattle.sp_kernel.specs.Asks.{KernelSteps}

@@ -3,7 +3,7 @@ use Rattle.sp_code.specs.declared.code.Parts.{Parts}
 use Rattle.sp_code.specs.Control.{entries_of}
 use Rattle.sp_code.specs.Memory.{CodeRun}
 use Rattle.sp_code.specs.Sound.{run_of}
-use Rattle.sp_history.specs.OutputHolder.{IsOutputOf}
+use Rattle.sp_code.specs.OutputHolder.{IsOutputOf}
 use Rattle.sp_room.specs.Ends.{object_of, notes_of}
 use Rattle.sp_kernel.specs.declared.kernel.Kernel.{Kernel}
 use Rattle.sp_kernel.specs.Closes.{EndIs}

@@ -1,5 +1,5 @@
 use Rattle.std.proofs.Common.{◌∙◌, sym, subst}
-use Rattle.sp_history.specs.OutputHolder.{IsOutputOf}
+use Rattle.sp_code.specs.OutputHolder.{IsOutputOf}
 use Rattle.sp_kernel.specs.Kernels.{system_of}
 use Rattle.sp_replay.specs.HeldProcesses.{held_at}
 use Rattle.sp_replay.proofs.HistorySteps.{is_named, is_system}
