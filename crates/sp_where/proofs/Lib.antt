@@ -4,3 +4,10 @@ mod Forms
 mod SpotTests
 mod StateLines
 mod EntryWalk
+mod ValueTexts
+mod Layouts
+mod Frames
+mod Rights
+mod ProcessPairs
+mod FrameTexts
+mod Rows

@@ -6,3 +6,5 @@ pub mod StateVariables
 pub mod StateCalls
 pub mod States
 pub mod KnownOf
+pub mod Lines
+pub mod Truth

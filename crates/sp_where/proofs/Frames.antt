@@ -47,10 +47,10 @@ use Rattle.sp_meaning.specs.Values.{Value, get_at}
 use Rattle.sp_where.specs.StateVariables.{Known, content_line, first_variable, value_line, variable_line}
 use Rattle.sp_where.specs.StateVariables.{named_line}
 use Rattle.sp_where.specs.Values.{cell_channel_text, value_text}
-use Rattle.sp_faithful.proofs.Layouts.{ByReference, HowFound, InFrame, variable_at}
-use Rattle.sp_faithful.proofs.ValueTexts.{component_text}
-use Rattle.sp_faithful.specs.Lines.{Says, line_away, line_with, shown_text}
-use Rattle.sp_faithful.specs.Truth.{FrameStands, FramesAgree, VariableStands, known_of, place_by, run_of}
+use Rattle.sp_where.proofs.Layouts.{ByReference, HowFound, InFrame, variable_at}
+use Rattle.sp_where.proofs.ValueTexts.{component_text}
+use Rattle.sp_where.specs.Lines.{Says, line_away, line_with, shown_text}
+use Rattle.sp_where.specs.Truth.{FrameStands, FramesAgree, VariableStands, known_of, place_by, run_of}
 
 -- ---- small facts
 

@@ -1,5 +1,5 @@
-use Rattle.sp_faithful.proofs.FrameTexts.{process_text}
-use Rattle.sp_faithful.proofs.laws.frames_stand.Goals as goal
+use Rattle.sp_where.proofs.FrameTexts.{process_text}
+use Rattle.sp_where.proofs.laws.frames_stand.Goals as goal
 
 pub returns : goal.returns
 returns f = λ w g q c s n z h f o there beside b l home found read.

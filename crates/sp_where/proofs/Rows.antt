@@ -4,7 +4,7 @@ use Rattle.std.specs.Prelude.{codes, pos}
 use Rattle.sp_tree.specs.declared.checked.KindOf.{KindOf}
 use Rattle.sp_tree.specs.declared.checked.KindOf.TheVariants as kind
 use Rattle.sp_meaning.specs.Values.{End, Ordinal, Parts, Then, Undefined, Value}
-use Rattle.sp_faithful.specs.Lines.{shown_text}
+use Rattle.sp_where.specs.Lines.{shown_text}
 
 -- a char, a record of two of them, an array of two records, and an enumeration with the constants `red` and `blue`
 abbrev kinds : List KindOf

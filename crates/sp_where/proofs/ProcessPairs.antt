@@ -46,11 +46,11 @@ use Rattle.sp_meaning.specs.Runs.{StateOf, start}
 use Rattle.sp_meaning.specs.Turn as source
 use Rattle.sp_meaning.specs.Steps.{all_ended, own_part_in}
 use Rattle.sp_where.specs.Values.{cell_channel_text}
-use Rattle.sp_faithful.proofs.Frames.{AreHeld, frames_agree}
-use Rattle.sp_faithful.proofs.Rights.{left_read}
-use Rattle.sp_faithful.specs.Truth.{FaultStands, FaultsStand, GoesTo, HasMemory, IsWaitedFor}
-use Rattle.sp_faithful.specs.Truth.{MayRead, ProcessStands, Situation, known_of}
-use Rattle.sp_faithful.specs.Truth.{process_in, run_of}
+use Rattle.sp_where.proofs.Frames.{AreHeld, frames_agree}
+use Rattle.sp_where.proofs.Rights.{left_read}
+use Rattle.sp_where.specs.Truth.{FaultStands, FaultsStand, GoesTo, HasMemory, IsWaitedFor}
+use Rattle.sp_where.specs.Truth.{MayRead, ProcessStands, Situation, known_of}
+use Rattle.sp_where.specs.Truth.{process_in, run_of}
 
 -- ---- the process in a condition of the meaning
 

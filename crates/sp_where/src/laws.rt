@@ -24,8 +24,8 @@ ghost use Rattle.sp_meaning.specs.Model.{Name};
 ghost use Rattle.sp_meaning.specs.Run.{Store};
 ghost use Rattle.sp_meaning.specs.Runs.{StateOf};
 ghost use Rattle.sp_where.specs.StateVariables.{Known, own_variables};
-ghost use Rattle.sp_faithful.specs.Truth.{AreRead, FaultsStand, HasMemory, MayRead, ProcessStands, Situation};
-ghost use Rattle.sp_faithful.specs.Truth.{known_of, lines_of, run_of};
+ghost use Rattle.sp_where.specs.Truth.{AreRead, FaultsStand, HasMemory, MayRead, ProcessStands, Situation};
+ghost use Rattle.sp_where.specs.Truth.{known_of, lines_of, run_of};
 
 /// Along a journal, each process of the machine that runs, waits or joins has a process of the same name in the
 /// meaning, with the same frames; and the line of each variable that this one has for its own, has still to use, or

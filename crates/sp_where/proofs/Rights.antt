@@ -5,7 +5,7 @@ use Rattle.sp_tree.specs.Sets.{IsUsed}
 use Rattle.sp_tree.specs.Uses.{In_loop, In_stmt, Seen, Target, Use}
 use Rattle.sp_meaning.specs.LocalWork.{Again, Break, Do, First, Frame, Item, Leave, Loc, Test}
 use Rattle.sp_meaning.specs.Rights.{ItemsAreSound, Sound, frames_below}
-use Rattle.sp_faithful.specs.Truth.{IsLeftToUse, UsesThere}
+use Rattle.sp_where.specs.Truth.{IsLeftToUse, UsesThere}
 
 module _ (p : Program) (W R : Loc → Type 0) (reads : (l : Loc) → W l → R l) where
   used_there : (fs : List Frame) (Here : Use → Type 0) → Sound p W R fs Here → (l : Loc) → UsesThere p fs Here l → R l

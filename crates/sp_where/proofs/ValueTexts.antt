@@ -24,7 +24,7 @@ use Rattle.sp_codegen.specs.Shapes.{Flat, PieceAt}
 use Rattle.sp_where.specs.Values.{Piece, Fixed, CellOf, cell_channel_text, cell_text, comma}
 use Rattle.sp_where.specs.Values.{cut, field_in, filled, form_by}
 use Rattle.sp_where.specs.Values.{form_in, names_of, ordinal_text, parts_from, value_text}
-use Rattle.sp_faithful.specs.Lines.{elements_text, fields_text, no_text, scalar_text, shown_text, text_by, text_in}
+use Rattle.sp_where.specs.Lines.{elements_text, fields_text, no_text, scalar_text, shown_text, text_by, text_in}
 
 -- the result for type k is by those before it
 table_at : {A : Type 0} (by : List A → KindOf → A) (ks : List KindOf) (k : ℕ) (t : KindOf) → slice_get ks k ≡ Some t

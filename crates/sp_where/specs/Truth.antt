@@ -39,7 +39,7 @@ use Rattle.sp_meaning.specs.Run.{Store, run}
 use Rattle.sp_meaning.specs.Turn.{turn}
 use Rattle.sp_meaning.specs.Values.{get_at}
 use Rattle.sp_where.specs.StateVariables.{Known, address_by, first_variable, variable_line}
-use Rattle.sp_faithful.specs.Lines.{Says, line_with}
+use Rattle.sp_where.specs.Lines.{Says, line_with}
 
 -- the run of the program of a tree
 abbrev pub run_of : Program → (input : List ℕ) → Limits → RunInput

@@ -13,8 +13,8 @@ use Rattle.sp_meaning.specs.Model.{Name}
 use Rattle.sp_meaning.specs.Run.{Store}
 use Rattle.sp_where.specs.StateVariables.{Known, address_by, first_variable, own_by_layout, own_lines, own_variables}
 use Rattle.sp_where.specs.StateVariables.{variable_line}
-use Rattle.sp_faithful.specs.Truth.{AreRead, FrameStands, MayRead, ProcessStands, Situation, VariableStands, line_at}
-use Rattle.sp_faithful.specs.Truth.{line_of, lines_of}
+use Rattle.sp_where.specs.Truth.{AreRead, FrameStands, MayRead, ProcessStands, Situation, VariableStands, line_at}
+use Rattle.sp_where.specs.Truth.{line_of, lines_of}
 
 module _ (w : Known) (g : RunInput) (may : Loc → Type 0) (s : Store) (k : Plain) (o : Frame) (f : m.Frame)
     (fs : List Formal) where

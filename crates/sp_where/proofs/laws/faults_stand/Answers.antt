@@ -1,5 +1,5 @@
-use Rattle.sp_faithful.proofs.ProcessPairs.{faults_are_true}
-use Rattle.sp_faithful.proofs.laws.faults_stand.Goals as goal
+use Rattle.sp_where.proofs.ProcessPairs.{faults_are_true}
+use Rattle.sp_where.proofs.laws.faults_stand.Goals as goal
 
 pub returns : goal.returns
 returns f = λ tree input limits moves shares pause es t n s a constants marks i d e fits.
