@@ -1,6 +1,6 @@
 -- None of this belongs to what the program promises: it is for contracts between crates.
 -- The code of a tree stands: which instruction stands at which place, and what the rules of names, types and variables
--- give there. The simulation of generated code starts from it, statement by statement, and sp_facts gives the facts.
+-- give there. The simulation of generated code starts from it, statement by statement, and sp_front gives the facts.
 use Rattle.std.specs.Prelude.{◌≡◌, ℕ, ◌+◌, ℤ, pos, List, [], ◌∷◌, Option, Some, None, Bool, true, false}
 use Rattle.std.specs.Prelude.{if◌then◌else◌, slice_get, drop}
 use Rattle.sp_tree.specs.declared.checked.KindOf.{KindOf}

@@ -15,8 +15,8 @@ use Rattle.sp_tree.specs.Sets.{ImplicitTarget}
 use Rattle.sp_tree.proofs.NoBreach.{block_at}
 use Rattle.sp_code.specs.Shares.{SetsAre}
 use Rattle.sp_code.specs.Sound.{AreLimits}
-use Rattle.sp_facts.specs.AcceptedTree.{KeepsInterference, IsAccepted}
-use Rattle.sp_facts.proofs.AcceptedFacts.{accepted_fine, accepted_free, accepted_formed, accepted_small}
+use Rattle.sp_front.specs.AcceptedTree.{KeepsInterference, IsAccepted}
+use Rattle.sp_front.proofs.AcceptedFacts.{accepted_fine, accepted_free, accepted_formed, accepted_small}
 use Rattle.sp_link.specs.Premises.{IsReady}
 
 variable_at : (vs : List Placed) (x : ℕ) (v : Variable) → slice_get (map variable_of vs) x ≡ Some v → (i : Placed)

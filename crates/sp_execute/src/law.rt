@@ -8,7 +8,7 @@ ghost use Rattle.sp_tree.specs.PlainChecked.{Program as Checked};
 ghost use Rattle.sp_code.specs.Shares.{SetsAre};
 ghost use Rattle.sp_code.specs.declared.code.Parts.{Parts};
 ghost use Rattle.sp_code.specs.Sound.{AreLimits, run_of};
-ghost use Rattle.sp_facts.specs.AcceptedTree.{IsAccepted};
+ghost use Rattle.sp_front.specs.AcceptedTree.{IsAccepted};
 ghost use Rattle.sp_base.specs.declared.name.ChanName.{ChanName as AChanName};
 ghost use Rattle.sp_journal.specs.declared.entry.Entry.{Entry};
 ghost use Rattle.sp_journal.specs.declared.entry.Way.{Way as AWay};

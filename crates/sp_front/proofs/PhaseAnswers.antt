@@ -15,8 +15,8 @@ use Rattle.sp_tree.specs.NameFirst.{broken_name_rules}
 use Rattle.sp_tree.specs.NamedTree.{program_named}
 use Rattle.sp_tree.proofs.RefusalOrder.{one_first}
 use Rattle.sp_types.specs.CheckedTree.{program_checked}
-use Rattle.sp_facts.specs.AcceptedTree.{IsNumberedTree, tree}
-use Rattle.sp_facts.proofs.PhaseAnswers.{names_kept, types_kept}
+use Rattle.sp_front.specs.AcceptedTree.{IsNumberedTree, tree}
+use Rattle.sp_front.proofs.TreeAnswers.{names_kept, types_kept}
 use Rattle.sp_meaning.specs.LocalWork.{RunInput}
 use Rattle.sp_meaning.specs.Runs.{IsDisjointRun}
 use Rattle.sp_varsets.specs.AreSets.{HaveEarlierParents, HaveOwnNumbers}

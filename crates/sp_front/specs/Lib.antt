@@ -1,3 +1,17 @@
+pub mod ForEach
+pub mod MatchingTables
+pub mod ScopeFacts
+pub mod Visible
+pub mod PartsInTables
+pub mod Earlier
+pub mod IndexNumbers
+pub mod TypedBlocks
+pub mod AcceptedTree
+pub mod ConstantsDeclared
+pub mod ForkWalk
+pub mod RealBlocks
+pub mod TableTypes
+pub mod NonEmptyRecords
 pub mod Checks
 pub mod Codes
 pub mod Compiles

@@ -14,7 +14,7 @@ ghost use Rattle.sp_front.specs.Codes.{HasListing};
 ghost use Rattle.sp_front.specs.Checks.{FirstBrokenUpToTypes, IsChecked, IsProgramOf, AcceptedUpToTypes};
 ghost use Rattle.sp_front.specs.Compiles.{FirstBrokenOfPhases, IsAccepted};
 
-use sp_facts::laws::{accepted_trees_are_fine, names_number_the_tree};
+use crate::tree_laws::{accepted_trees_are_fine, names_number_the_tree};
 use sp_generate::one_code;
 use sp_meaning::rule_keepers_are_disjoint;
 use sp_scan::first_breach;

@@ -1,5 +1,7 @@
 //! The phases together: from the bytes of a text to its tree, its checked tree, its sets and its code, or the first
 //! rule that it breaks.
+//! By laws, what the phases of names and types give of a tree: of a text without a broken rule a formed tree, free of
+//! interference, with blocks fine for the code.
 //!
 //! Calls:
 //! - `read_text`: exactly the tree of a text, or the first rule of its characters and its grammar that it breaks.
@@ -37,6 +39,19 @@
 //!   accepted text write what a parallel one reads or writes.
 //! - `one_listing`: the code of a text has one listing.
 //! - `constants_go_with_the_types`: an enumeration among the types of a text has as many constants as names.
+//! - `names_number_the_tree`: where no rule of names is broken, parents come before, and the parameters and the result
+//!   of a block are its variables of these roles, in order (`IsNumberedTree`).
+//! - `names_are_visible`: then each name in each block is of a declaration that is visible there.
+//! - `types_are_formed`: where no rule of types is broken either, arrays and records are of earlier types, and an array
+//!   has an element.
+//! - `trees_are_free_of_interference`: a tree that breaks no rule of names and none of interference is free of
+//!   interference.
+//! - `functions_are_silent`: where no rule of interference is broken, a call of a function leads to no statement that a
+//!   function may not have.
+//! - `blocks_are_fine`: where no rule of names and types is broken, a tree that is free of interference and whose
+//!   functions are silent has fine blocks.
+//! - `accepted_trees_are_fine`: the tree of an accepted text is formed, has small types and is free of interference,
+//!   and each block of it is fine, whatever sets its forks are given.
 //!
 //! To know:
 //! - `src/reader.rt` has characters and grammar, `src/phases.rt` goes on up to types, `src/analysis.rt` to sets and
@@ -48,13 +63,18 @@
 //!   operators is long. For `analyse`, `accepts`, `compiled` and `marked` there is a call that brings the stack for
 //!   it, by `apart` of `src/apart.rt` and an `impl OfText` beside it; who calls the others has to.
 //! - `IsProgramOf` of `specs/Checks.antt` is the program of a text.
+//! - `specs/ScopeFacts.antt` says what names give, `MatchingTables` what tables know, `NonEmptyRecords` and `ForkWalk`
+//!   what the grammar gives; `ForkWalk` leaves open what is asked of each forall and parallel statement.
+//! - `proofs/AcceptedFacts` joins the facts of names and types for a text; `SmallTypes` has the cells of types.
 //!
 //! Lemmas for others, in `proofs`:
+//! - `AcceptedFacts`: a text that breaks no rule has a formed tree that is free of interference, with fine blocks.
 //! - `OneAnswer`: the phases together give one answer.
 //!
 //! To change:
 //! - A further phase: `src/analysis.rt`, its outcome in `specs/Compiles.antt`, its line in `proofs/PhaseAnswers.antt`;
 //!   one after the code: `src/to_code.rt` with `CompiledText`, and `IsCompiled` of `specs/Codes.antt`.
+//! - A rule: one clause in the induction over its form, in the laws of trees.
 #![tactic(auto)]
 
 mod acceptance;
@@ -65,6 +85,7 @@ mod marks;
 mod phases;
 mod reader;
 mod to_code;
+pub mod tree_laws;
 
 pub use acceptance::{accepts, accepts_apart};
 pub use analysis::{Accepted, analyse, analyse_apart, compile};

@@ -11,7 +11,7 @@ use Rattle.sp_execute.specs.declared.execution.Ran.{Ran}
 use Rattle.sp_execute.specs.Follows.{FollowsTo as FollowsProgram}
 use Rattle.sp_execute.specs.Runs.{Executes, IsCodeOf as IsReadyCode, run_input}
 use Rattle.sp_execute.specs.Witnesses.{IsReadyRun, ShowsRace}
-use Rattle.sp_facts.specs.AcceptedTree.{IsAccepted}
+use Rattle.sp_front.specs.AcceptedTree.{IsAccepted}
 use Rattle.sp_journal.specs.declared.entry.Journal.{Journal}
 use Rattle.sp_link.specs.Premises.{IsReady}
 use Rattle.sp_meaning.specs.LocalWork.{RunInput}

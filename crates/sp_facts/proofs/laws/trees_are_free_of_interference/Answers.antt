@@ -1,5 +1,0 @@
-use Rattle.sp_facts.proofs.Unbroken.{program_free}
-use Rattle.sp_facts.proofs.laws.trees_are_free_of_interference.Goals as goal
-
-pub returns : goal.returns
-returns c = λ s calm kept. program_free s calm kept
