@@ -1,6 +1,5 @@
 //! Code for the stack machine as data, and its listing; by definitions what code does, and where the code of a tree
-//! stands.
-//! Its laws say too what holds along every legal history of the kernel and along every journal of a run.
+//! stands. Laws say too what holds along every legal history of the kernel and along every journal of a run.
 //!
 //! Calls:
 //! - `Instr`: an instruction. `Layout`, `Formal`: the frame of a block, and how it takes a parameter. `ForkTable`,
@@ -24,15 +23,17 @@
 //!   the table of lengths.
 //! - `laws::code_stands`: where each block keeps the rules of names, types and variables (`IsSoundBlock`), its
 //!   code stands in that of the program; and a call finds the layout that the block has in the tree.
-//! - `history_laws::histories_lead_to_systems`: a legal history leads to exactly one system, that along the journal of its
-//!   notes; its control and that system tell the same of every process, and the control counts those that are out.
-//! - `history_laws::histories_keep_what_is_out`: a process that is out with a worker stays so, in the same state, while that
-//!   worker leaves no note. Where none is ready, out or given up, none runs; once the run is over no event follows.
-//! - `history_laws::journals_name_what_is_there`: every process has the number at which it stands, and speaks of channels that
-//!   are there, also at an offer. With limits of 32 bits a journal is nameable; it has at most one fault.
-//! - `history_laws::histories_keep_turns`: after a legal history the parent of a process that is out waits for children. Where
-//!   one worker hands in with each ask what it holds, the journal is first in, first out.
-//! - `history_laws::one_process_holds_the_output`: after a legal history of safe code exactly one process holds the output.
+//! - `history_laws::histories_lead_to_systems`: a legal history leads to exactly one system, that along the journal of
+//!   its notes; its control and that system tell the same of every process, and the control counts those that are out.
+//! - `history_laws::histories_keep_what_is_out`: a process that is out with a worker stays so, in the same state, while
+//!   that worker leaves no note. Where none is ready, out or given up, none runs; once the run is over no event
+//!   follows.
+//! - `history_laws::journals_name_what_is_there`: every process has the number at which it stands, and speaks of
+//!   channels that are there, also at an offer. With limits of 32 bits a journal is nameable; it has at most one fault.
+//! - `history_laws::histories_keep_turns`: after a legal history the parent of a process that is out waits for
+//!   children. Where one worker hands in with each ask what it holds, the journal is first in, first out.
+//! - `history_laws::one_process_holds_the_output`: after a legal history of safe code exactly one process holds the
+//!   output.
 //!
 //! To know:
 //! - What code does: `specs/Machine.antt` (one instruction, over any memory), `Turns.antt`, `Memory.antt` (frames and
@@ -61,9 +62,9 @@
 //! - Variables of a fork's table that stand in no visible frame have no spot and are handed to nobody. Generated code
 //!   has none. The index of a `forall` is held in its element statement besides.
 //! - `specs/Agreement.antt` says what control and system tell alike.
-//! - Of the proofs on histories and journals, `Orders` to `Outs`, `Families` and `InTurn` are about histories, `OperationLaws` about
-//!   instructions, `KnownChannels`, `NameableRuns` and `OneFault` about journals, `Outputs` to `Holders` about the
-//!   output, in the order of `proofs/Lib.antt`.
+//! - Of the proofs on histories and journals, `Orders` to `Outs`, `Families` and `InTurn` are about histories,
+//!   `OperationLaws` about instructions, `KnownChannels`, `NameableRuns` and `OneFault` about journals, `Outputs` to
+//!   `Holders` about the output, in the order of `proofs/Lib.antt`.
 //!
 //! Lemmas for others, in `proofs`:
 //! - `Members`: members of lists of numbers: where they stand, and what is above them.

@@ -1,6 +1,6 @@
 //! A program from its code to its verdict: the run of its code is concluded to be one of the program, judged, and both
-//! are given. Code that has no source is run too, to its end alone.
-//! By laws, a run's journal by names has one by numbers, and so has the witness of its race.
+//! are given. Code that has no source is run too, to its end alone. By laws, a run's journal by names has one by
+//! numbers, and so has the witness of its race.
 //!
 //! Calls:
 //! - `run_program`: a run of a ready program's code by 1 to 64 workers, with its exact verdict: for each program with

@@ -16,9 +16,9 @@ use Rattle.sp_base.specs.declared.halt.Refusal.{Refusal}
 use Rattle.sp_tree.specs.Breaches.{nesting, BreaksGrammar, IsFirstBroken}
 use Rattle.sp_tree.specs.Symbols.{Symbol, AProgram, AHeading, Value, part}
 use Rattle.sp_tree.specs.Table.{RowEntry, Row, rows, look, gap}
-use Rattle.sp_tree.specs.SymbolMachine.{skips_if, allows, acts, act, NextStack, On, No, next_of_act, next_behind, end_from}
+use Rattle.sp_tree.specs.SymbolMachine.{skips_if, allows, acts, act, NextStack, On, No, next_of_act, next_behind}
 use Rattle.sp_tree.specs.SymbolMachine.{RunEnd, Done, StuckAt}
-use Rattle.sp_tree.specs.SymbolMachine.{run}
+use Rattle.sp_tree.specs.SymbolMachine.{end_from, run}
 use Rattle.sp_tree.specs.Stops.{refusal_of}
 use Rattle.sp_tree.proofs.Completes.{TokensOfAll, none, and, back}
 use Rattle.sp_tree.proofs.Firsts.{first_broken, spells, none_broken}

@@ -1,7 +1,6 @@
 //! The phases together: from the bytes of a text to its tree, its checked tree, its sets and its code, or the first
-//! rule that it breaks.
-//! By laws, what the phases of names and types give of a tree: of a text without a broken rule a formed tree, free of
-//! interference, with blocks fine for the code.
+//! rule that it breaks. By laws, what the phases of names and types give of a tree: of a text without a broken rule a
+//! formed tree, free of interference, with blocks fine for the code.
 //!
 //! Calls:
 //! - `read_text`: exactly the tree of a text, or the first rule of its characters and its grammar that it breaks.

@@ -1,5 +1,5 @@
-//! The code of a checked tree, instruction by instruction, with what its forks hand over.
-//! Besides, how many instructions that is, before any of it is made.
+//! The code of a checked tree, instruction by instruction, with what its forks hand over. Besides, how many
+//! instructions that is, before any of it is made.
 //!
 //! Calls:
 //! - `generate`: of a tree with its sets, its code (`IsCodeOf`), or want of memory, where the code has at most
@@ -27,8 +27,8 @@
 //!   them.
 //! - `proofs/Forms` has a lemma for each form, `CaseTests` the jumps of a `case`. `Inside`, `SetTests` and
 //!   `StatementCode` lead from the numbers of statements to the sets of any statement; `OneCode` is the law.
-//! - `length` is one pass over the tree in memory, and takes no memory. The sums are told up to the greatest `u32`, which
-//!   stands for every greater length: so no sum wraps (`src/length_sum.rt`, `specs/CappedLength.antt`).
+//! - `length` is one pass over the tree in memory, and takes no memory. The sums are told up to the greatest `u32`,
+//!   which stands for every greater length: so no sum wraps (`src/length_sum.rt`, `specs/CappedLength.antt`).
 //!
 //! Lemmas for others, in `proofs`:
 //! - `Limits`: a length as it is told is beyond the limit of code exactly where the length is.

@@ -1,6 +1,5 @@
-//! Where each instruction of the code of a checked tree stands in the text.
-//! Besides, what shows a run in the words of its text: the names of the constants of enumerations, and the instruction at
-//! which a process that runs is shown.
+//! Where each instruction of the code of a checked tree stands in the text. Besides, what shows a run in the words of
+//! its text: the names of the constants of enumerations, and the instruction at which a process that runs is shown.
 //!
 //! Calls:
 //! - `marks`: of a tree, a mark for each instruction of its code, in order: the place of the statement to which the

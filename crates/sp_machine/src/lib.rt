@@ -1,6 +1,6 @@
 //! One process of the stack machine: its turns, and what a fork, a join and an answer do to it. The process runs any
-//! code that is sound.
-//! It has the arithmetic of the language on ordinals too, and values as the input and the output have them.
+//! code that is sound. The crate has the arithmetic of the language on ordinals too, and values as the input and the
+//! output have them.
 //!
 //! Calls:
 //! - `first_fits`: whether the frame of the program has no more cells than the limit. It is asked before `Proc::root`.

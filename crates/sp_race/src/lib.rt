@@ -1,5 +1,5 @@
-//! The judge: whether the result of a run depends on the schedule, by its journal and its end alone; and the law that it
-//! rests on: where one run of a program is ordered, every schedule ends as it does.
+//! The judge: whether the result of a run depends on the schedule, by its journal and its end alone; and the law that
+//! it rests on: where one run of a program is ordered, every schedule ends as it does.
 //!
 //! Calls:
 //! - `verdict_of`: `Unjudged` exactly where the end is a fault, else `Ordered` exactly where the order condition
@@ -30,8 +30,8 @@
 //!   the run.
 //! - `specs/Notes.antt` is what is noted beside a run; no step reads it.
 //! - `proofs/Exchanges.antt` and `Rendezvous.antt` exchange two steps, `Diamond.antt` counts the steps of any system
-//!   with such exchanges, `NoteLaws.antt` ties the notes to the journal's pasts, and `OrderedSchedules.antt` joins them along a
-//!   journal.
+//!   with such exchanges, `NoteLaws.antt` ties the notes to the journal's pasts, and `OrderedSchedules.antt` joins them
+//!   along a journal.
 //! - Fork, open, send, receive and end are counted; a fault, a laid process and a pause are not
 //!   (`specs/Prefixes.antt`). `proofs/PrefixLaws.antt` keeps `knows_prefixes` from entry to entry.
 //! - The tables (`src/judge_tables.rt`) have a clock and a count of counted entries for each process, a line for each

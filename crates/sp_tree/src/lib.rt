@@ -1,7 +1,6 @@
 //! The tokens and the trees of a program's text as plain data, and by definitions what is a program: the rules of
-//! characters, grammar, names and interference.
-//! Besides, the laws of the grammar: one tree, one first broken rule; and for the parser a machine on symbols that decides
-//! the grammar token by token, with its lemmas.
+//! characters, grammar, names and interference. Besides, the laws of the grammar: one tree, one first broken rule; and
+//! for the parser a machine on symbols that decides the grammar token by token, with its lemmas.
 //!
 //! Calls:
 //! - Types of a text: `Token`, `Kind`, with the numbers of words and signs in `word` and `sign`; `Syntax` and its
@@ -62,8 +61,8 @@
 //! - `specs/Symbols.antt` cuts the lines of `specs/Grammar.antt` into symbols, and `specs/Means.antt` says what each
 //!   symbol is there.
 //! - `specs/Table.antt` has a row for each token that a symbol takes; `specs/Derives.antt` is what a symbol takes by
-//!   these rows, `specs/SymbolMachine.antt` takes one token at a time by them, and `specs/Stops.antt` is the rule that is
-//!   broken where the machine gets stuck.
+//!   these rows, `specs/SymbolMachine.antt` takes one token at a time by them, and `specs/Stops.antt` is the rule that
+//!   is broken where the machine gets stuck.
 //! - `proofs/FromTable.antt` and `ToTable.antt` lead from `Derives` to the grammar and back, `MachineRuns.antt` to the
 //!   machine, `Firsts.antt` from where it gets stuck to the first broken rule.
 //!

@@ -19,7 +19,8 @@ use Rattle.sp_varsets.specs.Parts.{number_of, IsPart, IsInForm, IsInOther, IsInS
 use Rattle.sp_varsets.specs.declared.sets.Sets.{Sets}
 use Rattle.sp_varsets.specs.declared.var_set.VarSet.{VarSet}
 use Rattle.sp_varsets.specs.declared.sets_line.SetsLine.{SetsLine}
-use Rattle.sp_varsets.specs.LineForks.{process_lines, statement_lines, form_lines, other_lines, statements_lines, arms_lines}
+use Rattle.sp_varsets.specs.LineForks.{process_lines, statement_lines, form_lines, other_lines}
+use Rattle.sp_varsets.specs.LineForks.{statements_lines, arms_lines}
 use Rattle.sp_varsets.specs.LineForks.{blocks_lines, tree_lines}
 use Rattle.sp_varsets.specs.TextOrders.{IsInOrder, line_cmp, variable_cmp}
 use Rattle.sp_varsets.specs.SetsText.{IsBoth, IsLineAt, IsOfBlock, IsSetsText, IsVariables, Joined, head_by, members}

@@ -1,5 +1,4 @@
-//! The variables that statements and blocks use.
-//! Besides, the text of the sets of a tree.
+//! The variables that statements and blocks use. Besides, the text of the sets of a tree.
 //!
 //! Calls:
 //! - `sets_of`: the sets of a tree whose statements have numbers of their own and whose blocks stand after those
@@ -30,15 +29,16 @@
 //!   both. `pool.rt` keeps equal sets once.
 //! - `proofs/CallPaths` leads to paths.
 //! - `VarSet::words` says how far a set goes, so that a few unions, each over its window of variables, see it whole.
-//! - The text has first a line `implicit NAME targets VARS expressions VARS` for each procedure and function, in order of heading.
+//! - The text has first a line `implicit NAME targets VARS expressions VARS` for each procedure and function, in order
+//!   of heading.
 //! - Then, in order of place, a line `parallel LINE:COLUMN K targets VARS expressions VARS` for each process statement
 //!   of a parallel statement, counted from 0, and a line `forall LINE:COLUMN targets VARS expressions VARS` for the
 //!   element statement of each forall. The place is that of the word `parallel` or `forall`.
 //! - VARS is each variable's name after a space of its own, the input and the output first, then by place of
 //!   declaration.
-//! - `specs/SetsText.antt` says which text, `LineForks.antt` what has a line, `TextOrders.antt` in which order lines and
-//!   names stand. `src/line_walk.rt` gathers the lines and sorts them, `variable_names.rt` puts the names of a set in
-//!   order, `print.rt` joins both.
+//! - `specs/SetsText.antt` says which text, `LineForks.antt` what has a line, `TextOrders.antt` in which order lines
+//!   and names stand. `src/line_walk.rt` gathers the lines and sorts them, `variable_names.rt` puts the names of a set
+//!   in order, `print.rt` joins both.
 //! - Lines go by place, those of one parallel statement by its process statements; where all that were the same the
 //!   number of the statement would decide. So the order is total whatever the tree, and one text follows without a
 //!   fact on places.

@@ -1,14 +1,13 @@
 //! The rules V1 to V9 of code that no generator made, as relations, and the law that code which breaks none of them is
-//! sound.
-//! Besides, the law that in its runs the stores of all processes are held apart: along every journal each variable is own
-//! in one store at most, or shared alike.
+//! sound. Besides, the law that in its runs the stores of all processes are held apart: along every journal each
+//! variable is own in one store at most, or shared alike.
 //!
 //! Laws:
 //! - `verified_code_is_sound` (`laws`): code of proper sizes that breaks no rule is sound (`IsSound` of `sp_code`), and
 //!   no process is in a call of a block with a result where it comes to an instruction that stops
 //!   (`AnswersWithoutStop`).
-//! - `verified_code_is_held` (`ownership_laws`): in the system of code of proper sizes that breaks no rule, along every journal,
-//!   the stores of all processes, side by side, are a partition (`StoreOwners` of `sp_code`).
+//! - `verified_code_is_held` (`ownership_laws`): in the system of code of proper sizes that breaks no rule, along every
+//!   journal, the stores of all processes, side by side, are a partition (`StoreOwners` of `sp_code`).
 //!
 //! To know:
 //! - `specs/Areas.antt` divides code into areas: the code of each block and of each child of a fork. The rules are said
@@ -33,8 +32,8 @@
 //!   agree. `specs/OwnChange.antt` says what a turn may change in the store of its process.
 //! - That a process writes only where it may is known from `specs/Writable.antt`. A piece that is shared no
 //!   more may still stand as shared in its owner's store; `proofs/Sole.antt` shows that no other store holds it.
-//! - Of the proofs on stores, `TurnStores` is one instruction and `TurnChanges` one turn, `StoreChanges`, `ForkOwners` and
-//!   `JoinOwners` are the events, `EntriesKeepApart` the system along a journal.
+//! - Of the proofs on stores, `TurnStores` is one instruction and `TurnChanges` one turn, `StoreChanges`, `ForkOwners`
+//!   and `JoinOwners` are the events, `EntriesKeepApart` the system along a journal.
 //!
 //! Lemmas for others, in `proofs`:
 //! - `Lists`: lists of numbers (and what `Members` of `sp_tree` has of them), frames and their ends.

@@ -1,5 +1,5 @@
-//! The texts of `trace` and `where`: a journal, and the state after it, with places of the text and values.
-//! By laws, what `where` shows of variables is what the meaning has of them.
+//! The texts of `trace` and `where`: a journal, and the state after it, with places of the text and values. By laws,
+//! what `where` shows of variables is what the meaning has of them.
 //!
 //! Calls:
 //! - `trace_text`: exactly the text of `trace`, from what is told of each entry; or want of memory. `put_line`: the
@@ -25,8 +25,8 @@
 //! - A type rests on types before it alone, so the walk over a value's type and cells ends.
 //! - `specs/Lines.antt` is how a value of the meaning is written, part by part, by its type; `specs/Truth.antt` says
 //!   beside which frame of the meaning a frame of the machine stands.
-//! - The laws leave open: processes that were laid by another's fault, indexes of `forall` statements, and variables of an
-//!   ancestor that the process has no use for any more.
+//! - The laws leave open: processes that were laid by another's fault, indexes of `forall` statements, and variables of
+//!   an ancestor that the process has no use for any more.
 //!
 //! To change:
 //! - How a value is written: `form_by` and `cell_text` of `specs/Values.antt`, `src/values.rt` and `src/cells.rt`.

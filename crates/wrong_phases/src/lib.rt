@@ -21,16 +21,18 @@ ghost use Rattle.sp_interfere.specs.Rules.{rules_first};
 ghost use Rattle.sp_interfere.specs.Verdict.{IsVerdict};
 ghost use Rattle.sp_code.specs.Places.{tree_length};
 ghost use Rattle.sp_generate.specs.CappedLength.{capped_length};
+ghost use Rattle.sp_lines.specs.Constants.{by_kind};
+ghost use Rattle.sp_lines.specs.JumpTargets.{landing};
 ghost use Rattle.sp_lines.specs.Marks.{marks};
 ghost use Rattle.sp_generate.specs.GeneratorAnswers.{Answered};
 ghost use Rattle.sp_front.specs.Codes.{Codes};
 
-use sp_base::{Halt, List, Memory, Refusal};
+use sp_base::{Halt, List, Memory, Refusal, Text};
 use sp_code::Code;
 use sp_front::CompiledText;
 use sp_generate::GenError;
 use sp_lines::Mark;
-use sp_tree::{Checked, Named, Syntax, Token};
+use sp_tree::{Checked, KindOf, Named, Syntax, Token};
 use sp_varsets::Sets;
 use std::alloc::Global;
 
@@ -102,6 +104,26 @@ pub fn marks_of(alloc: Global, checked: &Checked) -> Result<List<Mark>, Memory>
 {
     let marks = sp_lines::marks(alloc, checked);
     marks
+}
+
+/// `sp_lines::by_kind`.
+pub fn names_by_kind(
+    alloc: Global,
+    kinds: &[KindOf],
+    constants: List<List<Text>>,
+) -> Result<List<List<Text>>, Memory>
+    ensures { IfOk result (λ table. table ≡ by_kind kinds.now constants) }
+{
+    let table = sp_lines::by_kind(alloc, kinds, constants);
+    table
+}
+
+/// `sp_lines::landing`.
+pub fn landing_of(code: &Code, at: u32) -> u32
+    ensures { result ≡ landing code.now.instrs at }
+{
+    let to = sp_lines::landing(code, at);
+    to
 }
 
 /// `sp_generate::generate`.
