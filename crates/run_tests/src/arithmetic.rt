@@ -2,8 +2,8 @@
 
 use sp_base::{Fault, MAXINT};
 use sp_machine::{
-    absolute_of, binary, in_range, modulus, next_of, odd, previous_of, product, quotient, square_of,
-    truth_of, unary, within,
+    absolute_of, binary, in_range, modulus, next_of, odd, previous_of, product, quotient,
+    square_of, truth_of, unary, within,
 };
 use sp_tree::{BinaryOp, UnaryOp};
 

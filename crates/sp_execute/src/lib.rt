@@ -73,7 +73,9 @@ pub use law::{
     accepted_programs_are_ready, journals_are_told_in_the_text, one_unfit_entry, races_are_shown,
 };
 pub use machine::run_code_file;
-pub use numbering_laws::{runs_can_be_numbered, witnesses_are_journals, witnesses_end_in_contention};
+pub use numbering_laws::{
+    runs_can_be_numbered, witnesses_are_journals, witnesses_end_in_contention,
+};
 pub use race_witness::witness;
 pub use replays::{follow, follow_told};
 pub use sp_replay::{FollowedRun, ReplayError, Replayed, Traced, lasts};

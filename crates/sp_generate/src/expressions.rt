@@ -15,8 +15,8 @@ ghost use Rattle.sp_generate.specs.Views.{plain_program, scopes, call_code};
 use crate::code_context::CodeContext;
 use crate::levels::Scope;
 use crate::single::{
-    address, binary_instr, call_instr, element_type, field_instr, field_type, greatest, index_instr,
-    input_instr, least, read_instr, variable_kind,
+    address, binary_instr, call_instr, element_type, field_instr, field_type, greatest,
+    index_instr, input_instr, least, read_instr, variable_kind,
 };
 use sp_base::{Boxed, List, Writer};
 use sp_code::Instr;

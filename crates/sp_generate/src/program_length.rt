@@ -5,8 +5,8 @@ ghost use Rattle.sp_tree.specs.PlainOf.{program_of};
 ghost use Rattle.sp_code.specs.Places.{tree_length};
 ghost use Rattle.sp_generate.specs.CappedLength.{capped_length};
 
-use crate::statement_lengths::stmt_length;
 use crate::length_sum::sum;
+use crate::statement_lengths::stmt_length;
 use sp_tree::Checked;
 
 /// How many instructions the code of the program has, or 4,294,967,295 where it has more. It takes no memory. It

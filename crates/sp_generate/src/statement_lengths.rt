@@ -10,7 +10,9 @@ ghost use Rattle.sp_code.specs.Lengths.{tests_length};
 ghost use Rattle.sp_generate.specs.CappedLength.{capped_length};
 ghost use Rattle.sp_generate.specs.TreeLengths.{is_many, right_side, else_length};
 
-use crate::expression_lengths::{actuals_length, form_length, value_length, var_length, width_length};
+use crate::expression_lengths::{
+    actuals_length, form_length, value_length, var_length, width_length,
+};
 use crate::length_sum::{sum, sum_count};
 use sp_base::{Boxed, List};
 use sp_tree::{Arm, Checked, Expr, ExprForm, Form, KindOf, Stmt, Var};

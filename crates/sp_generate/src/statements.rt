@@ -17,7 +17,9 @@ ghost use Rattle.sp_generate.specs.BuffersAfter.{with_branch, with_passed, with_
 ghost use Rattle.sp_generate.specs.BuffersAfter.{with_inside, child_of, children_of, index_table};
 
 use crate::choices::{fill_ends, fill_tests, put_blanks};
-use crate::code_buffer::{CodeBuffer, count, mark, mend_branch, mend_jump, patch_table, place, set};
+use crate::code_buffer::{
+    CodeBuffer, count, mark, mend_branch, mend_jump, patch_table, place, set,
+};
 use crate::expressions::{put_call, put_value};
 use crate::handings::{but_index, moved, shared};
 use crate::levels::Scope;

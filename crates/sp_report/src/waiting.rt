@@ -16,8 +16,8 @@ ghost use Rattle.sp_base.specs.Names.{name_text};
 ghost use Rattle.sp_journal.specs.Names.{proc_name};
 ghost use Rattle.sp_base.specs.Adds.{Adds};
 
-use crate::have;
 use crate::condition::Condition;
+use crate::have;
 use crate::table::Table;
 use crate::watcher::Watcher;
 use sp_base::{List, Memory, ProcName, Writer};

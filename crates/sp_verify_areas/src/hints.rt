@@ -1,7 +1,7 @@
 //! Where variables are likely to be found. It only saves time: whoever uses a hint looks whether it is right.
 
-use crate::have;
 use crate::flags::{flag_at, mark, no_flags};
+use crate::have;
 use crate::tree::{Frame, Node};
 use sp_base::{List, Memory, Writer};
 use sp_code::{Code, Layout};

@@ -1,7 +1,7 @@
 //! An order in which what others stand on comes first. It only saves time: no proof rests on it.
 
-use crate::have;
 use crate::flags::{flag_at, mark, no_flags};
+use crate::have;
 use sp_base::{List, Memory, Writer};
 
 // Goes from an item to the one that it stands on, and so on, as far as those that were not seen.

@@ -13,8 +13,8 @@ ghost use Rattle.sp_verify_areas.specs.Owners.{IsSpread, IsSpreadBy, IsTrueOf, K
 ghost use Rattle.sp_verify_areas.specs.Owners.{as_child};
 ghost use Rattle.sp_verify_areas.specs.Owners.{is_same, common_owner, of_child};
 
-use crate::have;
 use crate::blocks::Blocks;
+use crate::have;
 use crate::ways::ways_on;
 use sp_base::{List, Memory, Writer};
 use sp_code::{ChildTable, Code, Instr};

@@ -14,9 +14,9 @@ ghost use Rattle.sp_verify_areas.specs.Rounds.{HasFreePath};
 ghost use Rattle.sp_verify_areas.specs.Rounds.{Widens};
 ghost use Rattle.sp_verify_areas.specs.Rounds.{instrs_before, gaps, with_flag};
 
-use crate::have;
 use crate::components::{components, has_owner, number_at};
 use crate::flags::{flag_at, no_flags};
+use crate::have;
 use crate::owners::Owner;
 use crate::ways::free_ways;
 use sp_base::{List, Memory, Writer};

@@ -8,8 +8,8 @@ ghost use Rattle.superpascal.specs.AnswerParts.{HasEndLines, IsTellable, lines_o
 ghost use Rattle.superpascal.specs.Replays.{ending_of_replay};
 ghost use Rattle.superpascal.specs.Runs.{end_lines, ending_of, generated_output, is_journal, run_notes, witness_text};
 
-use crate::have;
 use crate::ending::Ending;
+use crate::have;
 use sp_base::{Memory, Show, Writer};
 use sp_execute::{Ran, witness};
 use sp_journal::{End, print_journal};
