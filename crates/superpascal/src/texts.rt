@@ -6,9 +6,9 @@ ghost use Rattle.superpascal.specs.Causes.{files_of};
 ghost use Rattle.superpascal.specs.Steps.{AnswersText, TellsSets};
 ghost use Rattle.superpascal.specs.Texts.{HasCodeText};
 
-use crate::have;
 use crate::answers::accepted;
 use crate::ending::{Answer, Ending};
+use crate::have;
 use crate::prepare::{load_text, prepare};
 use sp_base::{Halt, Word};
 use sp_code::listing;

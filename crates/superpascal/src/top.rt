@@ -11,10 +11,10 @@ ghost use Rattle.superpascal.specs.Causes.{Cause, files_of, stream_of};
 ghost use Rattle.superpascal.specs.Promise.{Promise};
 ghost use Rattle.superpascal.specs.Steps.{AnswersCommand, AnswersWords, ReadsCommand};
 
-use crate::have;
 use crate::answers::ended;
 use crate::ending::{Answer, Ending};
 use crate::executions::exec_file;
+use crate::have;
 use crate::host::Host;
 use crate::outcome::Outcome;
 use crate::prepare::{prepare, read_input};
