@@ -1,4 +1,4 @@
-//! Tokens, the rules of characters, and the earlier_refusal of two broken rules.
+//! Tokens, the rules of characters, and the earlier of two broken rules.
 
 use crate::rows::{is_refused, repeated};
 use sp_base::{Place, Refusal, Rule};

@@ -15,7 +15,7 @@ use Rattle.sp_code.specs.Memory.{Memory, memory}
 use Rattle.sp_code.specs.Memory as m
 use Rattle.sp_code.specs.PlainStore.{plain}
 
--- a run of the code of a run_input
+-- a run of the code on an input
 abbrev pub code_run : RunInput → Parts → ℕ → m.CodeRun
 code_run g code pause = record { code = code; input = g.input; limits = g.limits; pause = pause }
 

@@ -17,8 +17,7 @@
 //! - `Kernel::close`: of a run that a room has brought to its end the end, the journal, which is that of the notes, and
 //!   the output, which is empty where a worker gave up. At a deadlock no process runs.
 //! - `serve` of the room's trait `Kept`: each ask is one step (`KernelSteps`): without a note nothing has changed; a
-//!   note is
-//!   one step of the control and the system.
+//!   note is one step of the control and the system.
 //! - `Closed::end`, `journal`, `output`: the three parts of a run that is over. `Kernel::close` alone makes one.
 //! - `Ask`, `Got`: what a worker asks and gets. `Handed`: a process after a turn, and why the turn ended. `Standing`:
 //!   how a run stands.
@@ -32,8 +31,7 @@
 //!   `ForkEvents` and `EndEvents` lead from there to `IsAfterGive`.
 //! - `give` asks that the process is out with the worker, that it was run by one turn from the state that the system
 //!   has for it, and that all is well with its event (`FitsHanded`). A caller has this from the notes so far:
-//!   `fits_now` of
-//!   `specs/KernelLaws.antt`.
+//!   `fits_now` of `specs/KernelLaws.antt`.
 //! - `end` asks that the journal is nameable, that a fault stands exactly where the journal has its entry, and that
 //!   offers speak of channels that are there (`IsNameableKernel`). After every legal history this is so: `named` of
 //!   `proofs/Ending.antt`.

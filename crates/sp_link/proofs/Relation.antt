@@ -1,10 +1,8 @@
 -- How the system of the machine stands for the state of the meaning after the same entries. `RunContext` is what a run
--- is
--- of, `BirthRights` what its birth gives to a process for good, `Performs` what one process does on both sides,
--- condition by
--- condition, and `Linked` the whole: names, totals, pending offers, faults, and every process. Names and numbers are
--- those of the whole journal, so that nothing in the relation has to grow when a process is born; of channels only
--- those are named that are open so far.
+-- is of, `BirthRights` what its birth gives to a process for good, `Performs` what one process does on both sides,
+-- condition by condition, and `Linked` the whole: names, totals, pending offers, faults, and every process. Names and
+-- numbers are those of the whole journal, so that nothing in the relation has to grow when a process is born; of
+-- channels only those are named that are open so far.
 use Rattle.std.proofs.Common.{◌≡◌, ◌⊎◌, ℕ, zero, suc, ◌+◌, ◌<◌, ◌≤◌, ◌==◌, List, [], ◌∷◌, length, Option, Some, None}
 use Rattle.std.proofs.Common.{Bool, true, false, if◌then◌else◌, eqb-true, eq-eqb, sym, arith, refl, ap, ◌∙◌, inl}
 use Rattle.std.specs.Prelude.{◌≢◌, ℤ, IsSome, slice_get}

@@ -18,8 +18,7 @@
 //! - All laws but the first and the last ask for a ready program: `specs/Premises.antt` is what is asked of it, of its
 //!   sets and of the limits (`IsReady`); `specs/Endings.antt` says who waits and which entry is a fault.
 //! - `proofs/Relation` is how the system stands for the state of the meaning. `JournalEntries` has each entry by its
-//!   event,
-//!   `Parallels` and `Foralls` what each statement gives for a fork; `Theorem` joins them.
+//!   event, `Parallels` and `Foralls` what each statement gives for a fork; `Theorem` joins them.
 //! - `Ranks`: turns end. `Formals`: frames have room for parameters. `Splits`, `SafeSteps`: what forks, ends and
 //!   messages need. `Soundness` joins them.
 //! - `Waiters`, `FaultEntries`, `Endings`: ends. `NameOrder`, `SortedWaiters`, `Histories`: ends of a history.

@@ -21,13 +21,11 @@
 //!
 //! To know:
 //! - `specs/Model.antt` and `Steps` are the processes, whatever their language; `LocalWork`, `EffectTree`, `Eval`,
-//!   `Actions`,
-//!   `Turn` and `SuperPascal` are one process; `Runs`, `Along`, `Ends`, `Disjoint` are what is said of a run.
+//!   `Actions`, `Turn` and `SuperPascal` are one process; `Runs`, `Along`, `Ends`, `Disjoint` are what is said of a
+//!   run.
 //! - `Owning` is what each process has the right to, which `proofs/RuleKeepers.antt`, `ActionRights`, `Children` and
-//!   `RightsInvariant`
-//!   keep along a run. `proofs/SilentActions.antt`: what a step that forks, offers, ends or fails leaves as it was,
-//!   where
-//!   expressions are pure (`Pure`).
+//!   `RightsInvariant` keep along a run. `proofs/SilentActions.antt`: what a step that forks, offers, ends or fails
+//!   leaves as it was, where expressions are pure (`Pure`).
 //! - Names have the newest step first, so that a parent is the tail. Texts have the oldest first, and the order of
 //!   names is by the oldest first.
 //! - The ticks that a process had made at its last entry are those after the operands of that step, functions called

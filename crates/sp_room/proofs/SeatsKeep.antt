@@ -40,7 +40,7 @@ module _ {O A G N : Type 0} (opens : O → Type 0) (steps : O → ℕ → A → 
   abbrev turn : RoomTable O N → ℕ
   turn s = get_or s.words 0 0
 
-  -- what a seat knows stays, where the seats that were taken in stay so, and it makes_seat with as many seats
+  -- what a seat knows stays, where the seats that were taken in stay so, and it makes a seat with as many seats
   stays : (log : List N) (t : ℕ) (old new : List V) (j : ℕ) (u : V) → SeatKnows author start log t old j u
       → ((k : ℕ) (x : V) → get_elem? old k ≡ some x → x.spent ≡ true → get_elem? new k ≡ some x)
       → (u.seats_made ≢ 0 → (u.seats_made ≡ length new) × (j + 1 ≡ length new)) → claims_of new ≤ claims_of old
@@ -321,7 +321,7 @@ deals_on opens steps author start id me number seats_made claims is several clai
     (λ z. let e : seats_made ≡ 0 = ap (λ (m : SeatPart _ _). m.0.seats_made) (sym is) ∙ z in absurd (omega arith))
     (let e : me.0.claims ≡ claims = ap (λ (m : SeatPart _ _). m.0.claims) is in omega arith)
 
--- a seat that was seats_made is new
+-- a seat that was made is new
 pub born : {O N : Type 0} (x : O) (n k : ℕ) (v : View O N) → v ≡ newborn x k v.seats_made v.claims → 0 < v.claims
     → (k + 1 ≡ n → v.seats_made ≡ n) → IsNewAt n k v
 born x n k v is claim last = record {

@@ -22,20 +22,17 @@
 //! - `wait_counts.rt` counts beside the table who sleeps and who looks for something to take, and wakes by that;
 //!   `rest.rt` is what a seat does that found nothing. No clause speaks of them.
 //! - `specs/Seats.antt`, `Ends.antt` and `History.antt` are the words of the contracts, `specs/RoomRule.antt` is the
-//!   rule
-//!   of the table.
+//!   rule of the table.
 //! - Beside the own notes `close` says that what each seat has seen is a beginning of the whole history: so what a
 //!   worker was told at its last call can be carried to the end.
-//! - While seats are still to be seats_made, the one that was seats_made last keeps the claims of those that are not
-//!   there. So the condition "no last ask before" is `0 < claims_of_seat`, which `Room::new` gives and which any other
-//!   ask keeps.
+//! - While seats are still to be made, the one that was made last keeps the claims of those that are not there. So the
+//!   condition "no last ask before" is `0 < claims_of_seat`, which `Room::new` gives and which any other ask keeps.
 //! - Turns count a refused ask too. The turn is taken before memory is asked for, so a seat has given back one turn
 //!   more whatever the answer is. That a refused ask left the object and the history as they were is said as far as one
 //!   seat can know it: its own notes are the same, and what it has seen is legal.
 //! - That a turn has seen the whole history of its moment is a part of the rule (`holds` of `SeatKnows`): no clause of
-//!   a
-//!   call can name that moment. What the call says is that its history is legal, begins with all that was seen, and has
-//!   every note of the seat.
+//!   a call can name that moment. What the call says is that its history is legal, begins with all that was seen, and
+//!   has every note of the seat.
 //! - `refuse` gives back all that the ask held: that is the law `regained`, by which the ask can be told from the
 //!   answer. That a last ask takes no memory of the object cannot be said in a contract; that its note goes into the
 //!   reserve can.
@@ -59,7 +56,7 @@
 //!   than the number of the seat that has it. Word 1 counts the history. The slot has the object with its notes, and is
 //!   at home exactly where the turn is free. Each step of a seat is one of eight; after it the seat knows this:
 //!   - The first seat is made (both words are 0): it has number 0, nothing seen, no notes, no turns.
-//!   - A seat is seats_made (word 0 is read): the new seat has the next number, and else is as a first one.
+//!   - A seat is made (word 0 is read): the new seat has the next number, and else is as a first one.
 //!   - A seat is taken in, at the end (word 0 is read): the seat that stays knows the other's own notes and what it had
 //!     seen, beside its own; the other is spent.
 //!   - The turn is taken (word 0, compare and exchange): it holds the turn, and has seen the whole history.

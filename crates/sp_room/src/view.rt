@@ -12,7 +12,7 @@ pub struct View<O, N> {
     pub own: LinkedList<N>,
     /// How often it has given the turn back.
     pub turns: u64,
-    /// How many notes of the reserve are its own, or are to be seats_made out by it.
+    /// How many notes of the reserve are its own, or are to be given out by it.
     pub claims: u64,
     /// Where it holds the turn: how many notes are in reserve.
     pub reserve: u64,
@@ -20,7 +20,7 @@ pub struct View<O, N> {
     pub holding: bool,
     /// It is taken into another seat, and holds nothing for ever.
     pub spent: bool,
-    /// Of the seat that was seats_made last: how many seats there are. Of another: 0.
+    /// Of the seat that was made last: how many seats there are. Of another: 0.
     pub seats_made: u64,
     /// The first number of the seats taken in, which are all from there up to this seat.
     pub from: u64,
