@@ -100,7 +100,7 @@ pub fn name_statement(alloc: Global, scopes: &mut Scopes, walk: &mut Walk, s: Sy
     ensures after { walk.new.is_lost ≡ false → scopes.new ≡ inner_env scopes.old.around
         (statement_local scopes.old.local (statement_of s)) }
 {
-    let SynStmt { at, form } = s;
+    let (at, form) = s.parts();
     let form = name_statement_form(alloc, scopes, walk, form);
     NamedStmt { at, form }
 }

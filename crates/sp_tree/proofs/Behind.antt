@@ -2,14 +2,12 @@
 use Rattle.std.proofs.Common.{◌≡◌, ℕ, List, [], ◌∷◌, None, refl, ap, ◌∙◌}
 use Rattle.sp_tree.specs.declared.token.Token.{Token}
 use Rattle.sp_tree.specs.declared.token.Kind.{Kind}
-use Rattle.sp_tree.specs.declared.token.Kind.TheVariants as kind
 use Rattle.sp_tree.specs.declared.operators.BinaryOp.{BinaryOp}
 use Rattle.sp_tree.specs.Words as w
 use Rattle.sp_tree.specs.Grammar as g
 use Rattle.sp_tree.specs.Symbols as sym
 use Rattle.sp_tree.specs.Symbols.{Symbol}
 use Rattle.sp_tree.specs.Table.{rows, look}
-use Rattle.sp_tree.specs.Derives.{and}
 
 -- a symbol that takes none of its tokens here
 abbrev pub TakesNone : Symbol → List Token → Type 0

@@ -7,7 +7,6 @@ use Rattle.sp_tree.specs.Symbols as sym
 use Rattle.sp_tree.specs.Symbols.{Symbol}
 use Rattle.sp_tree.specs.Table as row
 use Rattle.sp_tree.specs.Table.{ConstantRow, PartsRow, SelectorRow, FactorRow, SimpleRow, row_entry, rows, look}
-use Rattle.sp_tree.specs.Derives.{and}
 
 -- the rows are found
 pub look_constant : (d : ℕ) {k : Kind} {l : List Symbol} (c : ConstantRow k l)

@@ -26,7 +26,7 @@ use Rattle.sp_tree.specs.Scopes.{next_constant, next_kind, next_variable, next_b
 use Rattle.sp_tree.specs.NameRules.{Site, Declares, Fields, Heads, Uses, UsesIn, Operand, Targets, Assigns, Loops}
 use Rattle.sp_tree.specs.NameRules.{Computes, Calls, Widens, Bare, AsConstant, AsKind, next_passing, flags_left}
 use Rattle.sp_tree.specs.NameRules.{references_of, rest_of, needs_variable, same_place}
-use Rattle.sp_tree.specs.PlainSyntax.{Expression, ExpressionAt, ExpressionForm, Number, Quoted, Read, Apply, Unary}
+use Rattle.sp_tree.specs.PlainSyntax.{Expression, ExpressionAt, ExpressionForm, Read, Apply, Unary}
 use Rattle.sp_tree.specs.PlainSyntax.{Binary}
 use Rattle.sp_tree.specs.PlainSyntax.{Variable, Entire, Selector, Index, Field, Selectors, Whole, Select, Argument}
 use Rattle.sp_tree.specs.PlainSyntax.{Pass, Width, NoWidth, WithWidth, Arguments, NoArgument, AndArgument, Statement}

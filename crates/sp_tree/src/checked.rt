@@ -4,6 +4,8 @@
 ghost use Rattle.std.specs.Prelude.{◌≡◌, ◌<◌};
 ghost use Rattle.sp_tree.specs.declared.checked.Expr.{size-Expr};
 ghost use Rattle.sp_tree.specs.declared.checked.ExprForm.{size-ExprForm};
+ghost use Rattle.sp_tree.specs.declared.checked.Form.{size-Form};
+ghost use Rattle.sp_tree.specs.declared.checked.Stmt.{size-Stmt};
 
 use crate::operators::{BinaryOp, StandardFn, UnaryOp};
 use sp_base::{Boxed, List, Place, Text};
@@ -171,11 +173,34 @@ impl Drop for Expr {
 
 /// A statement, with its number in the order of the text and the place of its first token.
 #[cycle(checked_stmt)]
-#[derive(Drop)]
 pub struct Stmt {
     pub number: u32,
     pub at: Place,
     pub form: Form,
+}
+
+impl Stmt {
+    /// The number, the place and the form. A type with a `drop` of its own is taken apart in its own methods alone.
+    pub fn parts(self) -> (u32, Place, Form)
+        ensures whole { self ≡ record { number = result.0; at = result.1; form = result.2 } }
+        ensures less { size-Form result.2 < size-Stmt self }
+    {
+        let Stmt { number, at, form } = self;
+        (number, at, form)
+    }
+}
+
+// By hand, so that it is proved once, here, and not in each crate that drops a statement.
+impl Drop for Stmt {
+    #[cycle(drop_checked_stmt)]
+    fn drop(self) {
+        let Stmt {
+            number: _,
+            at: _,
+            form,
+        } = self;
+        drop(form);
+    }
 }
 
 /// What a statement is.

@@ -3,6 +3,8 @@
 ghost use Rattle.std.specs.Prelude.{◌≡◌, ◌<◌};
 ghost use Rattle.sp_tree.specs.declared.syntax.SynExpr.{size-SynExpr};
 ghost use Rattle.sp_tree.specs.declared.syntax.SynExprForm.{size-SynExprForm};
+ghost use Rattle.sp_tree.specs.declared.syntax.SynForm.{size-SynForm};
+ghost use Rattle.sp_tree.specs.declared.syntax.SynStmt.{size-SynStmt};
 
 use crate::operators::{BinaryOp, UnaryOp};
 use sp_base::{Boxed, List, Place, Text};
@@ -121,10 +123,29 @@ pub struct SynGroup {
 
 /// A statement, with the place of its first token. An empty statement has the place of the token after it.
 #[cycle(syntax_stmt)]
-#[derive(Drop)]
 pub struct SynStmt {
     pub at: Place,
     pub form: SynForm,
+}
+
+impl SynStmt {
+    /// The place and the form. A type with a `drop` of its own is taken apart in its own methods alone.
+    pub fn parts(self) -> (Place, SynForm)
+        ensures whole { self ≡ record { at = result.0; form = result.1 } }
+        ensures less { size-SynForm result.1 < size-SynStmt self }
+    {
+        let SynStmt { at, form } = self;
+        (at, form)
+    }
+}
+
+// By hand, so that it is proved once, here, and not in each crate that drops a statement.
+impl Drop for SynStmt {
+    #[cycle(drop_syntax_stmt)]
+    fn drop(self) {
+        let SynStmt { at: _, form } = self;
+        drop(form);
+    }
 }
 
 /// What a statement is.

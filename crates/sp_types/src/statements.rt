@@ -36,7 +36,7 @@ pub fn type_statement(s: NamedStmt, alloc: Global, t: &mut Tables, walk: &mut Wa
         (checked.statement_of result ≡ checked_statement t.old (statement_of s)) }
     ensures after { walk.new.is_lost ≡ false → t.new ≡ statement_after t.old (statement_of s) }
 {
-    let NamedStmt { at, form } = s;
+    let (at, form) = s.parts();
     let number = t.next;
     walk.after(t.count(1));
     let form = type_form(form, alloc, t, walk, at);
