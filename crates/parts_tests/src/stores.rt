@@ -269,7 +269,7 @@ fn what_moves_comes_back_and_what_is_shared_is_read(rt: HostRuntime) -> Result<(
     assert!(rt; loaded(&child, at(0, 0)) == Some(Cell::Ordinal(0)));
     assert!(rt; child.has_cells(written, 1));
     child.store(written, Cell::Ordinal(9))?;
-    assert!(rt; child.is_own(target) && store.is_away(target));
+    assert!(rt; child.is_own(target) && store.has_gone(target));
     store.join(child);
     assert!(rt; loaded(&store, written) == Some(Cell::Ordinal(9)));
     drop(store);

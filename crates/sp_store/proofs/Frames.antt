@@ -1,6 +1,5 @@
 -- Frame numbers as the calls find them: the last own one is the greatest.
-use Rattle.std.proofs.Common.{◌≡◌, ℕ, ◌+◌, ◌-◌, ◌<◌, List, length, get_or, Result, Ok, Err, arith, ap, ◌∙◌, sym}
-use Rattle.std.specs.Result.{OnErr}
+use Rattle.std.proofs.Common.{◌≡◌, ℕ, ◌+◌, ◌-◌, ◌<◌, List, length, get_or, arith, ap, ◌∙◌, sym}
 use Rattle.std.proofs.lemmas.Grind.{get_or_default_zero}
 use Rattle.sp_cell.specs.Frame.{least_above, IsRising}
 use Rattle.sp_cell.proofs.FrameLaws.{above_newest}
@@ -13,7 +12,3 @@ newest_read ns x n r e b is =
     let same : get_or ns (length ns - 1) 0 ≡ x = sym (get_or_default_zero ns (length ns - 1) x (omega arith))
     ∙ ap (λ k. get_or ns k x) (sym last) ∙ sym is in
     above_newest ns r (omega arith) ∙ ap (λ k. k + 1) same
-
-pub any_err : {T E P : Type 0} (r : Result T E) → P → OnErr r P
-any_err (Ok x) p = tt
-any_err (Err e) p = p

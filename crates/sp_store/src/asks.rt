@@ -1,8 +1,8 @@
 //! What the calls of a store ask for, as questions that a caller may put where it does not know it.
 
-ghost use Rattle.std.specs.Prelude.{◌≡◌, ◌↔◌, IsTrue, Some, length};
+ghost use Rattle.std.specs.Prelude.{◌≡◌, ◌↔◌, IsTrue, length};
 ghost use Rattle.std.specs.FinMap as map;
-ghost use Rattle.sp_cell.specs.Map.{HasCells, IsOwn, IsPiece, cells_at, Away as IsAway};
+ghost use Rattle.sp_cell.specs.Map.{HasCells, IsOwn, IsPiece, cells_at};
 
 use crate::entry::Entry;
 use crate::store::Store;
@@ -13,13 +13,10 @@ impl Store {
     pub fn has_cells(&self, at: Address, cells: u32) -> bool
         ensures { IsTrue result ↔ HasCells self.now.map at cells }
     {
-        let len = match self.slots.find(at.spot) {
-            Some(Entry::Single(_)) => 1,
-            Some(Entry::Own(piece)) => piece.len(),
-            Some(Entry::Shared(piece)) => piece.len(),
-            _ => return false,
-        };
-        u64::from(at.offset) + u64::from(cells) <= u64::from(len)
+        match self.held(at.spot) {
+            Some(piece) => u64::from(at.offset) + u64::from(cells) <= piece.len() as u64,
+            None => false,
+        }
     }
 
     /// How many cells the piece at the spot has.
@@ -43,12 +40,5 @@ impl Store {
             self.slots.find(spot),
             Some(Entry::Single(_) | Entry::Own(_))
         )
-    }
-
-    /// Whether what stands at the spot has moved to a child.
-    pub fn is_away(&self, spot: Spot) -> bool
-        ensures { IsTrue result ↔ (map.get self.now.map spot ≡ Some IsAway) }
-    {
-        matches!(self.slots.find(spot), Some(Entry::Away))
     }
 }

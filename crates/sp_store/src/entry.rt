@@ -7,6 +7,7 @@ ghost use Rattle.sp_cell.specs.declared.cell.Cell.TheVariants.{Undefined};
 ghost use Rattle.sp_cell.specs.Map.{IsOwn, IsPiece, cells_of, IsOutput, bytes_of, Own, Shared, Output as Text};
 ghost use Rattle.sp_store.specs.Layout.{content};
 
+use crate::have;
 use sp_base::Memory;
 use sp_cell::{Cell, Piece};
 use std::alloc::Global;
@@ -31,7 +32,7 @@ pub(crate) fn undefined(alloc: Global, cells: u32) -> Result<Entry, Memory>
     if cells == 1 {
         return Ok(Entry::Single(Cell::Undefined));
     }
-    Ok(Entry::Own(Piece::new(alloc, cells)?))
+    Ok(Entry::Own(have!(Piece::new(alloc, cells))))
 }
 
 pub(crate) fn cells(entry: &Entry) -> &[Cell]
@@ -53,15 +54,15 @@ pub(crate) fn share(alloc: Global, entry: &Entry) -> Result<Entry, Memory>
 {
     match entry {
         Entry::Single(cell) => {
-            let mut copy = Piece::new(alloc, 1)?;
+            let mut copy = have!(Piece::new(alloc, 1));
             copy.write(0, *cell);
-            Ok(Entry::Shared(Arc::new(alloc, copy)?))
+            Ok(Entry::Shared(have!(Arc::new(alloc, copy))))
         }
         Entry::Own(piece) => {
-            let copy = piece.duplicate()?;
-            Ok(Entry::Shared(Arc::new(alloc, copy)?))
+            let copy = have!(piece.duplicate());
+            Ok(Entry::Shared(have!(Arc::new(alloc, copy))))
         }
-        Entry::Shared(piece) => Ok(Entry::Shared(Arc::try_clone(piece)?)),
+        Entry::Shared(piece) => Ok(Entry::Shared(have!(Arc::try_clone(piece)))),
         Entry::Output(_) | Entry::Away => unreachable!(),
     }
 }
@@ -75,19 +76,18 @@ pub(crate) fn make_own(entry: &mut Entry) -> Result<(), Memory>
     ensures succeeds { IsOwn (Some (content entry.old)) → IsOk result }
 {
     match entry {
-        Entry::Single(_) | Entry::Own(_) => return Ok(()),
-        _ => {}
+        Entry::Single(_) | Entry::Own(_) => Ok(()),
+        Entry::Shared(_) => unshare(entry),
+        Entry::Output(_) | Entry::Away => unreachable!(),
     }
-    unshare(entry)
 }
 
-// The same where it is none of its own yet.
+// The same of one that others share.
 #[inline(never)]
 fn unshare(entry: &mut Entry) -> Result<(), Memory>
-    requires { IsPiece (Some (content entry.old)) }
+    requires { content entry.old ≡ Shared (cells_of (Some (content entry.old))) }
     ensures ok { OnOk result (content entry.new ≡ Own (cells_of (Some (content entry.old)))) }
     ensures err { OnErr result (content entry.new ≡ content entry.old) }
-    ensures succeeds { IsOwn (Some (content entry.old)) → IsOk result }
 {
     match mem::replace(entry, Entry::Away) {
         Entry::Shared(piece) => match Arc::try_unwrap(piece) {
@@ -106,10 +106,7 @@ fn unshare(entry: &mut Entry) -> Result<(), Memory>
                 }
             },
         },
-        other => {
-            *entry = other;
-            Ok(())
-        }
+        _ => unreachable!(),
     }
 }
 
@@ -151,7 +148,7 @@ pub(crate) fn append(entry: &mut Entry, bytes: &[u8]) -> Result<(), Memory>
 {
     match entry {
         Entry::Output(text) => {
-            text.extend_from_slice(bytes)?;
+            have!(text.extend_from_slice(bytes));
             Ok(())
         }
         _ => unreachable!(),

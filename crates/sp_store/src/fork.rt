@@ -9,9 +9,9 @@ ghost use Rattle.sp_cell.specs.Spots.{PieceAtEach, In};
 ghost use Rattle.sp_cell.specs.Frame.{least_above, frames};
 ghost use Rattle.sp_store.specs.Layout.{content, IsLent, FramesBelow};
 
-use crate::entry;
 use crate::entry::Entry;
 use crate::slots::Slots;
+use crate::{entry, have};
 use sp_base::Memory;
 use sp_cell::{Handing, Spot};
 use std::alloc::Global;
@@ -55,7 +55,7 @@ fn in_order<'a>(spots: &'a [Spot], room: &'a mut Vec<Spot>) -> Result<&'a [Spot]
     if rises(spots) {
         return Ok(spots);
     }
-    room.extend_from_slice(spots)?;
+    have!(room.extend_from_slice(spots));
     room.sort_unstable();
     Ok(room.as_slice())
 }
@@ -66,7 +66,7 @@ fn keep_each(slots: &mut Slots, spots: &[Spot]) -> Result<(), Memory>
     ensures { OnOk result (slots.new ≡ with_away slots.old spots.now) }
 {
     for spot in spots {
-        slots.insert(*spot, Entry::Away)?;
+        have!(slots.insert(*spot, Entry::Away));
     }
     Ok(())
 }
@@ -77,12 +77,12 @@ pub(crate) fn keep_room(alloc: Global, slots: &mut Slots, spots: &[Spot]) -> Res
     ensures { OnOk result (slots.new ≡ with_away slots.old spots.now) }
 {
     let mut room = Vec::new(alloc);
-    let sorted = in_order(spots, &mut room)?;
+    let sorted = have!(in_order(spots, &mut room));
     keep_each(slots, sorted)
 }
 
 /// One more holder of the cells at the spot. The first one copies the piece, which the parent goes on to own.
-#[tactic(auto, using(sp_cell::proofs::Laws::insert_same))]
+#[tactic(auto, using(sp_cell::proofs::Laws::insert_same, sp_cell::proofs::Laws::get_here))]
 fn one_more(alloc: Global, from: &Slots, ready: &mut Slots, spot: Spot) -> Result<Entry, Memory>
     requires piece { IsPiece (map.get from.now spot) }
     requires lent { IsLentAt from.now ready.old spot }
@@ -92,10 +92,9 @@ fn one_more(alloc: Global, from: &Slots, ready: &mut Slots, spot: Spot) -> Resul
     match ready.find(spot) {
         Some(entry) => entry::share(alloc, entry),
         None => {
-            let first = entry::share(alloc, from.entry(spot))?;
-            let more = entry::share(alloc, &first)?;
-            ready.insert(spot, first)?;
-            Ok(more)
+            let first = have!(entry::share(alloc, from.entry(spot)));
+            have!(ready.insert(spot, first));
+            entry::share(alloc, ready.entry(spot))
         }
     }
 }
@@ -116,8 +115,8 @@ fn lend_each(
     ensures lent { OnOk result (IsLent from.now ready.new) }
 {
     for spot in spots {
-        let entry = one_more(alloc, from, ready, *spot)?;
-        to.insert(*spot, entry)?;
+        let entry = have!(one_more(alloc, from, ready, *spot));
+        have!(to.insert(*spot, entry));
     }
     Ok(())
 }
@@ -138,7 +137,7 @@ pub(crate) fn lend(
     ensures lent { OnOk result (IsLent from.now ready.new) }
 {
     let mut room = Vec::new(alloc);
-    let sorted = in_order(spots, &mut room)?;
+    let sorted = have!(in_order(spots, &mut room));
     lend_each(alloc, from, ready, to, sorted)
 }
 
@@ -150,7 +149,7 @@ pub(crate) fn shares_in_order(alloc: Global, plan: &[Handing]) -> Result<Vec<Spo
     let mut spots = Vec::new(alloc);
     for handing in plan {
         if !spots.ends_with(handing.shared.items()) {
-            spots.extend_from_slice(handing.shared.items())?;
+            have!(spots.extend_from_slice(handing.shared.items()));
         }
     }
     if rises(&spots) {

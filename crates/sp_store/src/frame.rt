@@ -3,8 +3,8 @@
 ghost use Rattle.std.specs.Prelude.{◌≡◌, ◌+◌, ◌<◌, ◌≤◌, OnOk, OnErr, length};
 ghost use Rattle.sp_cell.specs.Frame.{with_pieces, without_spots_of};
 
-use crate::entry;
 use crate::slots::Slots;
+use crate::{entry, have};
 use sp_base::Memory;
 use sp_cell::Spot;
 use std::alloc::Global;
@@ -23,9 +23,9 @@ pub(crate) fn add_pieces(
     ensures err { OnErr result (without_spots_of slots.new frame ≡ without_spots_of slots.old frame) }
 {
     for (i, size) in sizes.iter().enumerate() {
-        let piece = entry::undefined(alloc, *size)?;
+        let piece = have!(entry::undefined(alloc, *size));
         let variable = first + i as u32;
-        slots.insert(Spot { frame, variable }, piece)?;
+        have!(slots.insert(Spot { frame, variable }, piece));
     }
     Ok(())
 }

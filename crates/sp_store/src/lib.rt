@@ -19,7 +19,7 @@
 //!   and an index in a frame of its own. Where memory is refused, the store is unchanged.
 //! - `Store::join`: takes back what moved to the child when it was made. Children of `split` that are joined as they
 //!   were made give all back, the shared pieces as shared.
-//! - `Store::has_cells`, `is_own`, `is_away`, `len`: exactly whether cells are held, whether a piece is own, whether a
+//! - `Store::has_cells`, `is_own`, `has_gone`, `len`: exactly whether cells are held, whether a piece is own, whether a
 //!   spot has moved to a child, and how many cells the piece at a spot has.
 //!
 //! To know:
@@ -27,7 +27,6 @@
 //!   defines. `specs/Layout.antt` leads to it from memory.
 //! - `src/store.rt` has the calls, `src/slots.rt` the map in memory, `src/entry.rt` the work on one entry,
 //!   `src/frame.rt` that on a frame; `src/fork.rt` makes ready what a fork needs, `src/hand.rt` moves entries.
-//!   `src/send.rt` shows that a store goes to another thread.
 //! - A spot of the newest frame, of the oldest spots or, in a recursion, of the frame before the newest stands mostly
 //!   where it is guessed; another one is found in time of the logarithm of the spots. A frame is pushed and popped at
 //!   the end, in time of the frame.
@@ -37,8 +36,8 @@
 //!   another order are sorted first.
 //! - A piece that is shared already is only counted once more by a fork. After a join the parent's piece stays shared;
 //!   its first write takes it back without a copy where all other holders are gone.
-//! - Three questions (`has_cells`, `is_own`, `is_away`) are public for callers that do not know by proof what they
-//!   hold, as tests are.
+//! - Two questions (`has_cells`, `is_own`) are public for callers that do not know by proof what they hold, as tests
+//!   are.
 //!
 //! To change:
 //! - The map in memory: `src/slots.rt`.
@@ -53,7 +52,7 @@ mod entry;
 mod fork;
 mod frame;
 mod hand;
-mod send;
+mod have;
 mod slots;
 mod store;
 

@@ -15,6 +15,7 @@ ghost use Rattle.sp_store.specs.Layout.{layout, content, IsPlace, IsGap, AllKnow
 ghost use Rattle.sp_store.specs.Lends.{LendsEntry};
 
 use crate::entry::Entry;
+use crate::have;
 use sp_base::Memory;
 use sp_cell::Spot;
 use std::alloc::Global;
@@ -22,12 +23,22 @@ use std::cmp::Ordering;
 use std::marker::Model;
 
 /// Entries by their spots, in the order of the spots.
-#[derive(Drop)]
 pub(crate) struct Slots {
     spots: Vec<Spot>,
     entries: Vec<Entry>,
     // Where the newest frame likely begins: a guess, which each use tests.
     start: usize,
+}
+
+// By hand, so that it is proved once, here, and not at each end of a function that holds slots.
+impl Drop for Slots {
+    fn drop(self) {
+        let Slots {
+            spots: _,
+            entries: _,
+            start: _,
+        } = self;
+    }
 }
 
 impl Model for Slots {
@@ -104,7 +115,12 @@ fn likely_place(spots: &[Spot], start: usize, spot: Spot) -> Option<usize>
 fn older_place(spots: &[Spot], start: usize, spot: Spot) -> Option<usize>
     ensures { IfSome result (λ i. (i < length spots.now) × ((d : Spot) → slice_index_or spots.now i d ≡ spot)) }
 {
-    let place = behind_first(spots, spot);
+    let first = if spots.len() == 0 {
+        0
+    } else {
+        spots[0].variable
+    };
+    let place = (spot.variable as usize).wrapping_sub(first as usize);
     if stands_at(spots, place, spot) {
         return Some(place);
     }
@@ -116,14 +132,6 @@ fn older_place(spots: &[Spot], start: usize, spot: Spot) -> Option<usize>
         return Some(place);
     }
     None
-}
-
-// How far the spot is behind the first one, if all variables between stand there.
-fn behind_first(spots: &[Spot], spot: Spot) -> usize {
-    if spots.len() == 0 {
-        return 0;
-    }
-    (spot.variable as usize).wrapping_sub(spots[0].variable as usize)
 }
 
 #[inline(always)]
@@ -163,22 +171,10 @@ fn far_place(spots: &[Spot], entries: &[Entry], start: usize, spot: Spot) -> usi
 {
     match older_place(spots, start, spot) {
         Some(i) => i,
-        None => any_place(spots, entries, spot),
-    }
-}
-
-// The same of any spot, by search.
-#[cold]
-#[inline(never)]
-fn any_place(spots: &[Spot], entries: &[Entry], spot: Spot) -> usize
-    requires sorted { IsStrictlySortedBy spot_cmp spots.now }
-    requires lengths { length spots.now ≡ length entries.now }
-    requires known { IsSome (map.get (layout spots.now entries.now) spot) }
-    ensures { IsPlace spots.now entries.now spot result }
-{
-    match search(spots, entries, 0, spot) {
-        Ok(i) => i,
-        Err(_) => unreachable!(),
+        None => match search(spots, entries, start, spot) {
+            Ok(i) => i,
+            Err(_) => unreachable!(),
+        },
     }
 }
 
@@ -245,8 +241,8 @@ impl Slots {
                 Ok(())
             }
             Err(i) => {
-                make_room(&mut self.spots)?;
-                make_room(&mut self.entries)?;
+                have!(self.spots.reserve(1));
+                have!(self.entries.reserve(1));
                 put_in(&mut self.entries, i, entry);
                 put_in(&mut self.spots, i, spot);
                 self.start = newest_start(&self.spots);
@@ -327,20 +323,6 @@ fn start_of(spots: &[Spot], frame: u64, end: usize) -> usize
     n
 }
 
-// Takes room for one item more, unless it is there.
-#[inline(always)]
-fn make_room<T>(items: &mut Vec<T>) -> Result<(), Memory>
-    ensures items { items.new.items ≡ items.old.items }
-    ensures room { OnOk result (vec_len items.new < vec_capacity items.new) }
-    ensures same { vec_len items.new ≡ vec_len items.old }
-{
-    if items.len() < items.capacity() {
-        return Ok(());
-    }
-    items.reserve(1)?;
-    Ok(())
-}
-
 // Puts the item at the place. There is room for it.
 #[tactic(auto, using(crate::proofs::Ends::insert_last))]
 fn put_in<T: Drop>(items: &mut Vec<T>, place: usize, item: T)
@@ -368,17 +350,6 @@ fn take_out<T: Drop>(items: &mut Vec<T>, start: usize, end: usize)
     if end == items.len() {
         items.truncate(start);
     } else {
-        drain_out(items, start, end);
+        items.drain(start..end);
     }
-}
-
-// The same where others stand behind.
-#[cold]
-#[inline(never)]
-fn drain_out<T: Drop>(items: &mut Vec<T>, start: usize, end: usize)
-    requires order { start ≤ end }
-    requires bound { end ≤ vec_len items.old }
-    ensures { items.new.items ≡ take start items.old.items ++ drop end items.old.items }
-{
-    items.drain(start..end);
 }

@@ -24,7 +24,7 @@ use crate::entry::Entry;
 use crate::frame::add_pieces;
 use crate::hand::hand;
 use crate::slots::Slots;
-use crate::{entry, fork};
+use crate::{entry, fork, have};
 use sp_base::{List, Memory};
 use sp_cell::{Address, Cell, Handing, Spot};
 use std::alloc::Global;
@@ -74,21 +74,21 @@ impl Store {
         ensures { IfOk result (λ s. s ≡ record { map = root_map sizes.now; own = []; moved = [] }) }
     {
         let mut slots = Slots::new(alloc);
-        slots.insert(
+        have!(slots.insert(
             Spot {
                 frame: 0,
                 variable: 0,
             },
             Entry::Single(Cell::Ordinal(0)),
-        )?;
-        slots.insert(
+        ));
+        have!(slots.insert(
             Spot {
                 frame: 0,
                 variable: 1,
             },
             Entry::Output(Vec::new(alloc)),
-        )?;
-        add_pieces(alloc, &mut slots, 0, 2, sizes)?;
+        ));
+        have!(add_pieces(alloc, &mut slots, 0, 2, sizes));
         Ok(Store {
             slots,
             own: Vec::new(alloc),
@@ -117,18 +117,16 @@ impl Store {
         ensures err { OnErr result (self.new ≡ self.old) }
     {
         let number = self.next_frame();
-        self.own.reserve(1)?;
+        have!(self.own.reserve(1));
         match add_pieces(*self.own.allocator(), &mut self.slots, number, 0, sizes) {
             Ok(()) => {}
-            Err(e) => {
+            Err(_) => {
                 self.slots.remove_frame(number);
-                return Err(e);
+                return Err(Memory);
             }
         }
-        match self.own.push(number) {
-            Ok(()) => Ok(number),
-            Err(_) => unreachable!(),
-        }
+        self.own.push_reserved(number);
+        Ok(number)
     }
 
     /// Drops the newest own frame with its pieces.
@@ -183,7 +181,7 @@ impl Store {
         ensures succeeds { IsOwn (map.get self.old.map at.spot) → IsOk result }
     {
         let entry = self.slots.entry_mut(at.spot);
-        entry::make_own(entry)?;
+        have!(entry::make_own(entry));
         entry::write(entry, at.offset, cell);
         Ok(())
     }
@@ -219,7 +217,7 @@ impl Store {
         let piece = entry::cells(self.slots.entry(at.spot));
         let from = at.offset as usize;
         let end = from + cells as usize;
-        let taken = Vec::from_slice(*self.own.allocator(), &piece[from..end])?;
+        let taken = have!(Vec::from_slice(*self.own.allocator(), &piece[from..end]));
         Ok(List::of(taken))
     }
 
@@ -247,8 +245,8 @@ impl Store {
         ensures ok { OnOk result (self.new ≡ with_map self.old (with_copied_cells self.old.map to from cells)) }
         ensures err { OnErr result (self.new ≡ self.old) }
     {
-        let taken = self.cells(from, cells)?;
-        self.make_own(to.spot)?;
+        let taken = have!(self.cells(from, cells));
+        have!(self.make_own(to.spot));
         self.put(to, &taken);
         Ok(())
     }
@@ -262,16 +260,6 @@ impl Store {
             None | Some(Entry::Output(_) | Entry::Away) => None,
             Some(piece) => Some(entry::cells(piece)),
         }
-    }
-
-    /// Whether the piece at a spot is one of its own.
-    pub fn owns(&self, spot: Spot) -> bool
-        ensures { IsTrue result ↔ IsOwn (map.get self.now.map spot) }
-    {
-        matches!(
-            self.slots.find(spot),
-            Some(Entry::Single(_) | Entry::Own(_))
-        )
     }
 
     /// Whether the piece at a spot is away.
@@ -333,16 +321,16 @@ impl Store {
         ensures lent { OnOk result (IsLent from.now ready.new) }
     {
         let mut slots = Slots::new(alloc);
-        fork::keep_room(alloc, &mut slots, handing.moved.items())?;
-        fork::lend(alloc, from, ready, &mut slots, handing.shared.items())?;
+        have!(fork::keep_room(alloc, &mut slots, handing.moved.items()));
+        have!(fork::lend(alloc, from, ready, &mut slots, handing.shared.items()));
         if let Some((variable, value)) = handing.index {
             let moved = fork::above_all(handing.moved.items());
             let shared = fork::above_all(handing.shared.items());
             let frame = if moved < shared { shared } else { moved };
             let index = Entry::Single(Cell::Ordinal(value));
-            slots.insert(Spot { frame, variable }, index)?;
+            have!(slots.insert(Spot { frame, variable }, index));
         }
-        let moved = Vec::from_slice(alloc, handing.moved.items())?;
+        let moved = have!(Vec::from_slice(alloc, handing.moved.items()));
         Ok(Store {
             slots,
             own: Vec::new(alloc),
@@ -381,35 +369,42 @@ impl Store {
             ≡ with_shared self.old.map (shared_of plan.now) self.old.map) }
         ensures err { OnErr result (self.new ≡ self.old) }
     {
-        let children = self.split_by(plan.items())?;
+        let handings = plan.items();
+        let alloc = *self.own.allocator();
+        let mut ready = Slots::new(alloc);
+        let mut children = Vec::new(alloc);
+        have!(Store::prepare_each(alloc, &self.slots, &mut ready, &mut children, handings));
+        let shared = have!(Vec::from_slice(alloc, ready.spots()));
+        Store::fill(&mut self.slots, &mut children, handings);
+        hand(&mut ready, &mut self.slots, &shared);
         Ok(List::of(children))
     }
 
-    /// The children of `split`.
-    fn split_by(&mut self, plan: &[Handing]) -> Result<Vec<Store>, Memory>
-        requires held { AllHeld self.old.map (moved_of plan.now) }
-        requires pieces { AllPieces self.old.map (shared_of plan.now) }
+    /// The children of a plan, with room for what is to be moved, and in `ready` what they share.
+    fn prepare_each(
+        alloc: Global,
+        from: &Slots,
+        ready: &mut Slots,
+        children: &mut Vec<Store>,
+        plan: &[Handing],
+    ) -> Result<(), Memory>
+        requires empty { (ready.old ≡ map.empty) × (children.old.items ≡ []) }
+        requires pieces { AllPieces from.now (shared_of plan.now) }
         requires distinct { IsDistinct (moved_of plan.now) }
-        requires apart { (q : Spot) → In q (moved_of plan.now) → NotIn q (shared_of plan.now) }
-        requires number { HasIndex plan.now → HasNextFrame self.old }
-        ensures children { IfOk result (λ cs. cs.items ≡ children_of self.old.map plan.now) }
-        ensures parent { OnOk result (self.new ≡ with_map self.old (map_after_fork self.old.map plan.now)) }
-        ensures err { OnErr result (self.new ≡ self.old) }
+        requires known { (q : Spot) → In q (moved_of plan.now) → IsSome (map.get from.now q) }
+        requires frames { HasIndex plan.now → (q : Spot) → IsSome (map.get from.now q)
+            → q.frame < 18446744073709551615 }
+        ensures children { OnOk result (children.new.items ≡ children_so_far from.now plan.now 0) }
+        ensures ready { OnOk result (ready.new ≡ with_shared from.now (shared_of plan.now) map.empty) }
     {
-        let alloc = *self.own.allocator();
-        let mut ready = Slots::new(alloc);
-        let first = fork::shares_in_order(alloc, plan)?;
+        let first = have!(fork::shares_in_order(alloc, plan));
         // Lent once before the first child, so that `ready` gets them in their order.
         let mut spare = Slots::new(alloc);
-        fork::lend(alloc, &self.slots, &mut ready, &mut spare, &first)?;
-        let mut children = Vec::new(alloc);
+        have!(fork::lend(alloc, from, ready, &mut spare, &first));
         for handing in plan {
-            let child = Store::prepare(alloc, &self.slots, &mut ready, handing)?;
-            children.push(child)?;
+            let child = have!(Store::prepare(alloc, from, ready, handing));
+            have!(children.push(child));
         }
-        let shared = Vec::from_slice(alloc, ready.spots())?;
-        Store::fill(&mut self.slots, &mut children, plan);
-        hand(&mut ready, &mut self.slots, &shared);
-        Ok(children)
+        Ok(())
     }
 }
