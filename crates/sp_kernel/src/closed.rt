@@ -19,6 +19,7 @@ ghost use Rattle.sp_kernel.specs.Closes.{KernelEndsAs};
 ghost use Rattle.sp_kernel.specs.Closes.{IsNameableKernel, HeldHere, RanFrom, or_empty};
 
 use crate::first_fault::{first_fault, first_fault_end};
+use crate::have;
 use crate::kernel::{Kernel, Standing};
 use crate::slot::{Slot, State};
 use sp_base::{Fault, List, Memory, Text};
@@ -55,7 +56,7 @@ impl Closed {
         let mut journal = Journal {
             entries: List::new(alloc),
         };
-        journal.push(first_fault())?;
+        have!(journal.push(first_fault()));
         Ok(Closed {
             end: first_fault_end(alloc),
             journal,
@@ -119,10 +120,12 @@ fn waiter(ledger: &Ledger, number: u32, way: Way, channel: u32) -> Result<Waiter
     requires channel { channel < (births ledger.now.journal.entries).channels }
     ensures { IfOk result (λ w. w ≡ waiter_of (births ledger.now.journal.entries) number way channel) }
 {
+    let process = have!(ledger.name(number));
+    let channel = have!(ledger.channel(channel));
     Ok(Waiter {
-        process: ledger.name(number)?,
+        process,
         way,
-        channel: ledger.channel(channel)?,
+        channel,
     })
 }
 
@@ -139,19 +142,14 @@ fn put_waiter(
     ensures { OnOk result (waiters.new.items ≡ waiters.old.items
         ++ with_waiter (births ledger.now.journal.entries) number slot.now []) }
 {
-    match slot {
-        Slot::Here(_, State::Sending(channel, _, _)) => {
-            let waiter = waiter(ledger, number, Way::Send, *channel)?;
-            waiters.push(waiter)?;
-            Ok(())
-        }
-        Slot::Here(_, State::Receiving(channel, _)) => {
-            let waiter = waiter(ledger, number, Way::Receive, *channel)?;
-            waiters.push(waiter)?;
-            Ok(())
-        }
-        _ => Ok(()),
-    }
+    let (way, channel) = match slot {
+        Slot::Here(_, State::Sending(channel, _, _)) => (Way::Send, *channel),
+        Slot::Here(_, State::Receiving(channel, _)) => (Way::Receive, *channel),
+        _ => return Ok(()),
+    };
+    let waiter = have!(waiter(ledger, number, way, channel));
+    have!(waiters.push(waiter));
+    Ok(())
 }
 
 // Those that wait, by their numbers.
@@ -165,7 +163,7 @@ fn waiters_in(alloc: Global, ledger: &Ledger, slots: &[Slot]) -> Result<Vec<Wait
     let _few = ledger.processes();
     let mut waiters = Vec::new(alloc);
     for (number, slot) in slots.iter().enumerate() {
-        put_waiter(ledger, number as u32, slot, &mut waiters)?;
+        have!(put_waiter(ledger, number as u32, slot, &mut waiters));
     }
     Ok(waiters)
 }
@@ -176,7 +174,7 @@ fn sorted(waiters: Vec<Waiter>) -> Result<List<Waiter>, Memory>
     ensures sorted { IfOk result (λ ws. AreByName ws) }
 {
     let mut waiters = waiters;
-    waiters.sort_by(|a, b| a.process.order(&b.process))?;
+    have!(waiters.sort_by(|a, b| a.process.order(&b.process)));
     Ok(List::of(waiters))
 }
 
@@ -196,8 +194,8 @@ impl Kernel {
     {
         match fault_in(self.entries()) {
             Some((process, fault)) => {
-                let ledger = Ledger::of(self.slots.alloc(), &self.journal)?;
-                let process = ledger.name(process)?;
+                let ledger = have!(Ledger::of(self.slots.alloc(), &self.journal));
+                let process = have!(ledger.name(process));
                 Ok(End::Fault { process, fault })
             }
             None => unreachable!(),
@@ -211,9 +209,9 @@ impl Kernel {
         ensures { IfOk result (λ e. EndIs self.now e) }
     {
         let alloc = self.slots.alloc();
-        let ledger = Ledger::of(alloc, &self.journal)?;
-        let waiters = waiters_in(alloc, &ledger, self.slots())?;
-        let waiters = sorted(waiters)?;
+        let ledger = have!(Ledger::of(alloc, &self.journal));
+        let waiters = have!(waiters_in(alloc, &ledger, self.slots()));
+        let waiters = have!(sorted(waiters));
         Ok(End::Deadlock(waiters))
     }
 
@@ -226,14 +224,8 @@ impl Kernel {
             Standing::Running => Ok(None),
             Standing::Done => Ok(Some(End::Done)),
             Standing::Memory => Ok(Some(End::Memory)),
-            Standing::Fault => match self.fault_end() {
-                Ok(end) => Ok(Some(end)),
-                Err(e) => Err(e),
-            },
-            Standing::Deadlock => match self.deadlock_end() {
-                Ok(end) => Ok(Some(end)),
-                Err(e) => Err(e),
-            },
+            Standing::Fault => Ok(Some(have!(self.fault_end()))),
+            Standing::Deadlock => Ok(Some(have!(self.deadlock_end()))),
         }
     }
 
@@ -267,9 +259,9 @@ impl Kernel {
         ensures none { IfOk result (λ c. 0 < (object_of settled).abandons → c.output ≡ []) }
     {
         let kernel = settled.into_object();
-        match kernel.end()? {
+        match have!(kernel.end()) {
             Some(end) => {
-                let output = kernel.text(alloc)?;
+                let output = have!(kernel.text(alloc));
                 let journal = kernel.into_journal();
                 Ok(Closed {
                     end,

@@ -12,7 +12,7 @@ ghost use Rattle.sp_kernel.specs.Procs.{EntersAs};
 
 use crate::handed::Handed;
 use crate::kernel::Kernel;
-use crate::slot::{Slot, State, put, swap};
+use crate::slot::{Slot, State, put};
 use sp_base::Memory;
 use sp_journal::Event;
 use sp_machine::{Proc, Stop};
@@ -73,7 +73,7 @@ impl Kernel {
         ensures { (t : _) × JoinedSlot (slice_get self.old.slots parent) child t
             × (self.new ≡ record self.old { slots = slice_set self.old.slots parent t }) }
     {
-        match swap(&mut self.slots, parent, Slot::Ended) {
+        match self.slots.replace(parent as usize, Slot::Ended) {
             Slot::Here(mut process, state) => match state {
                 State::Joining(left) => {
                     process.join(child);

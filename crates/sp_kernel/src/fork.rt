@@ -10,6 +10,7 @@ ghost use Rattle.sp_kernel.specs.Forks.{with_room_for, exceeds, HasForked, IsFor
 ghost use Rattle.sp_kernel.specs.declared.kernel.Kernel.{Kernel};
 
 use crate::handed::Handed;
+use crate::have;
 use crate::kernel::Kernel;
 use crate::slot::{Slot, State, add_parents, add_slots, drop_last, seat};
 use sp_base::{Fault, Memory};
@@ -38,7 +39,7 @@ impl Kernel {
         ensures err { OnErr result (self.new ≡ self.old) }
     {
         let first = self.slots.len();
-        self.ready.extend(first as u32, count)?;
+        have!(self.ready.extend(first as u32, count));
         if add_slots(&mut self.slots, count).is_err() {
             self.ready.shorten(count);
             return Err(Memory);

@@ -8,7 +8,7 @@ ghost use Rattle.sp_kernel.specs.declared.slot.State.TheVariants as st;
 ghost use Rattle.sp_code.specs.Control.{has_ended, Out};
 ghost use Rattle.sp_code.specs.Sound.{IsSound, AreLimits, run_of};
 ghost use Rattle.sp_machine.specs.Procs.{config_of, start_of};
-ghost use Rattle.sp_kernel.specs.Kernels.{with_entry, kernel_after_give, kernel_after_pause, with_process_out};
+ghost use Rattle.sp_kernel.specs.Kernels.{with_entry, kernel_after_give, with_process_out};
 ghost use Rattle.sp_kernel.specs.Kernels.{kernel_after_loss, doing_in, condition_in, IsReady};
 ghost use Rattle.sp_kernel.specs.Kernels.{IsKernel, IsAfterGive, Takes, is_over, control_of, system_of};
 ghost use Rattle.sp_kernel.specs.Kernels.{code_run_of, stands_as};
@@ -20,11 +20,12 @@ ghost use Rattle.std.specs.Prelude.{MatchOption};
 ghost use Rattle.sp_kernel.specs.Fits.{FitsHanded};
 ghost use Rattle.sp_kernel.specs.Asks.{IsOpening};
 ghost use Rattle.sp_machine.specs.declared.state.Stop.TheVariants as stop;
-ghost use Rattle.sp_kernel.specs.Procs.{EntersAs, number_in};
+ghost use Rattle.sp_kernel.specs.Procs.{number_in};
 
 use crate::handed::Handed;
+use crate::have;
 use crate::ready_queue::ReadyQueue;
-use crate::slot::{Slot, State, put, swap};
+use crate::slot::{Slot, State, put};
 use sp_base::{Fault, Limits, List, Memory};
 use sp_cell::Cell;
 use sp_channel::Channels;
@@ -114,29 +115,26 @@ impl Kernel {
         ensures code_run { IfOk result (λ k. code_run_of k ≡ run_of code.value root.input.value limits) }
     {
         let first = Snapshot::of(&root);
-        let mut slots = List::new(alloc);
-        slots.push(Slot::Here(root, State::Ready))?;
-        let mut parents = List::new(alloc);
-        parents.push(None)?;
-        let mut ready = ReadyQueue::new(alloc);
-        ready.push(0)?;
-        let journal = Journal {
-            entries: List::new(alloc),
-        };
-        Ok(Kernel {
-            slots,
-            parents,
-            ready,
+        let mut kernel = Kernel {
+            slots: List::new(alloc),
+            parents: List::new(alloc),
+            ready: ReadyQueue::new(alloc),
             out: 0,
             channels: Channels::new(alloc),
-            journal,
+            journal: Journal {
+                entries: List::new(alloc),
+            },
             entries: 0,
             faulted: false,
             abandons: 0,
             code,
             limits,
             root: first,
-        })
+        };
+        kernel.slots.push(Slot::Here(root, State::Ready))?;
+        have!(kernel.parents.push(None));
+        have!(kernel.ready.push(0));
+        Ok(kernel)
     }
 
     /// A process that the kernel has, and what it does. None of one that is out, has ended, or was not started.
@@ -290,7 +288,7 @@ impl Kernel {
         ensures ok { OnOk result (self.new ≡ with_entry process event self.old) }
         ensures err { OnErr result (self.new ≡ self.old) }
     {
-        self.journal.entries.push(Entry { process, event })?;
+        have!(self.journal.entries.push(Entry { process, event }));
         Ok(())
     }
 
@@ -306,7 +304,7 @@ impl Kernel {
             { ready = self.old.ready ++ ready ∷ [] }) }
         ensures err { OnErr result (self.new ≡ self.old) }
     {
-        self.ready.push(ready)?;
+        have!(self.ready.push(ready));
         if self.note(process, event).is_err() {
             self.ready.untake();
             return Err(Memory);
@@ -321,7 +319,7 @@ impl Kernel {
             { ready = (self.old.ready ++ other ∷ []) ++ process ∷ [] }) }
         ensures err { OnErr result (self.new ≡ self.old) }
     {
-        self.ready.push(other)?;
+        have!(self.ready.push(other));
         if self.note_ready(process, process, event).is_err() {
             self.ready.untake();
             return Err(Memory);
@@ -372,24 +370,8 @@ impl Kernel {
         Ok(())
     }
 
-    // A process that is due goes to the back of the queue.
-    fn pause_now(&mut self, mut proc: Proc) -> Result<(), Proc>
-        requires there { proc.number < length self.old.slots }
-        ensures ok { OnOk result ((p : _) × EntersAs proc p × (self.new ≡ kernel_after_pause proc.number p self.old)) }
-        ensures err { OnErr result (self.new ≡ self.old) }
-        ensures returned { IfErr result (λ p. p ≡ proc) }
-    {
-        let number = proc.number();
-        if self.note_ready(number, number, Event::Pause).is_err() {
-            return Err(proc);
-        }
-        proc.enter();
-        self.place(number, Slot::Here(proc, State::Ready));
-        Ok(())
-    }
-
-    // A pause.
-    fn pause(&mut self, _worker: u32, proc: Proc) -> Result<(), Handed>
+    // A pause: the process goes to the back of the queue.
+    fn pause(&mut self, _worker: u32, mut proc: Proc) -> Result<(), Handed>
         requires whole { IsKernel self.old }
         requires no_fault { self.old.faulted ≡ false }
         requires fits { FitsHanded self.old _worker (record { proc = proc; stop = stop.Pause }) }
@@ -398,13 +380,16 @@ impl Kernel {
         ensures err { OnErr result (self.new ≡ self.old) }
         ensures returned { IfErr result (λ h. h ≡ record { proc = proc; stop = stop.Pause }) }
     {
-        match self.pause_now(proc) {
-            Ok(()) => Ok(()),
-            Err(proc) => Err(Handed {
+        let number = proc.number();
+        if self.note_ready(number, number, Event::Pause).is_err() {
+            return Err(Handed {
                 proc,
                 stop: Stop::Pause,
-            }),
+            });
         }
+        proc.enter();
+        self.place(number, Slot::Here(proc, State::Ready));
+        Ok(())
     }
 
     // Whether the root has ended.
@@ -432,7 +417,7 @@ impl Kernel {
         ensures proc { slice_get self.old.slots number ≡ Some (slot.Here result st.Ready) }
         ensures out { (p : _) × (p.value ≡ result) × (self.new ≡ with_process_out number (slot.Out worker p) self.old) }
     {
-        match swap(&mut self.slots, number, Slot::Ended) {
+        match self.slots.replace(number as usize, Slot::Ended) {
             Slot::Here(proc, State::Ready) => {
                 put(
                     &mut self.slots,
@@ -453,7 +438,7 @@ impl Kernel {
         ensures { (p : _) × (condition_in (Some (slot.Gone p)) ≡ (system_of self.old).condition number)
             × (self.new ≡ kernel_after_loss number (slot.Gone p) self.old) }
     {
-        match swap(&mut self.slots, number, Slot::Ended) {
+        match self.slots.replace(number as usize, Slot::Ended) {
             Slot::Out(_, left) => put(&mut self.slots, number, Slot::Gone(left)),
             _ => unreachable!(),
         }

@@ -62,6 +62,7 @@ mod end;
 mod first_fault;
 mod fork;
 mod handed;
+mod have;
 mod kernel;
 mod open;
 mod ready_queue;

@@ -13,7 +13,7 @@ ghost use Rattle.sp_kernel.specs.Procs.{CanTake, EntersAs};
 
 use crate::handed::Handed;
 use crate::kernel::Kernel;
-use crate::slot::{Slot, State, put, swap};
+use crate::slot::{Slot, State, put};
 use sp_base::{Fault, List};
 use sp_cell::Cell;
 use sp_channel::Way;
@@ -51,7 +51,7 @@ impl Kernel {
             × (self.new ≡ with_slot other (slot.Here q st.Ready) self.old) }
         ensures fits { CanTake _receiver.now result }
     {
-        match swap(&mut self.slots, other, Slot::Ended) {
+        match self.slots.replace(other as usize, Slot::Ended) {
             Slot::Here(sender, state) => match state {
                 State::Sending(_, _, cells) => {
                     put(&mut self.slots, other, Slot::Here(sender, State::Ready));

@@ -13,7 +13,7 @@ ghost use Rattle.sp_kernel.specs.Procs.{EntersAs};
 
 use crate::handed::Handed;
 use crate::kernel::Kernel;
-use crate::slot::{Slot, State, put, swap};
+use crate::slot::{Slot, State, put};
 use sp_base::{Fault, List};
 use sp_cell::Cell;
 use sp_channel::Way;
@@ -59,7 +59,7 @@ impl Kernel {
         ensures { (r : _) × Receives (slice_get self.old.slots other) cells r
             × (self.new ≡ with_slot other (slot.Here r st.Ready) self.old) }
     {
-        match swap(&mut self.slots, other, Slot::Ended) {
+        match self.slots.replace(other as usize, Slot::Ended) {
             Slot::Here(mut receiver, State::Receiving(_, _)) => {
                 receiver.resume(Answer::Received(cells));
                 put(&mut self.slots, other, Slot::Here(receiver, State::Ready));

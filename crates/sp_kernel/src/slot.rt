@@ -1,6 +1,6 @@
 //! What the kernel keeps of each process.
 
-ghost use Rattle.std.specs.Prelude.{◌≡◌, ◌+◌, ◌<◌, ◌≤◌, ◌++◌, length, Some, slice_get, slice_set, OnOk, OnErr};
+ghost use Rattle.std.specs.Prelude.{◌≡◌, ◌+◌, ◌<◌, ◌≤◌, ◌++◌, length, Some, slice_set, OnOk, OnErr};
 ghost use Rattle.sp_kernel.specs.ListEnds.{without_last, repeat};
 ghost use Rattle.sp_kernel.specs.Seats.{Seated};
 ghost use Rattle.sp_kernel.specs.declared.slot.Slot.TheVariants as slot;
@@ -9,7 +9,6 @@ use sp_base::{List, Memory};
 use sp_cell::Cell;
 use sp_journal::Entry;
 use sp_machine::Proc;
-use std::mem;
 use std::snapshot::Snapshot;
 
 /// What a process does that the kernel has.
@@ -36,24 +35,12 @@ pub(crate) enum Slot {
     Gone(Snapshot<Proc>),
 }
 
-/// Puts a slot in place of another, and gives that one back.
-pub(crate) fn swap(slots: &mut List<Slot>, at: u32, slot: Slot) -> Slot
-    requires { at < length slots.old }
-    ensures before { slice_get slots.old at ≡ Some result }
-    ensures after { slots.new ≡ slice_set slots.old at slot }
-{
-    match slots.get_mut(at as usize) {
-        Some(place) => mem::replace(place, slot),
-        None => unreachable!(),
-    }
-}
-
 /// Puts a slot in place of another, which is dropped.
 pub(crate) fn put(slots: &mut List<Slot>, at: u32, slot: Slot)
     requires { at < length slots.old }
     ensures { slots.new ≡ slice_set slots.old at slot }
 {
-    let _ = swap(slots, at, slot);
+    let _ = slots.replace(at as usize, slot);
 }
 
 /// The last entry goes.

@@ -8,4 +8,4 @@ use Rattle.sp_kernel.proofs.closed.sorted.Goals as goal
 pub returns-clause-sorted : goal.returns-clause-sorted
 returns-clause-sorted c = subst (λ (l : List Waiter). IsSortedByKey (λ (w : Waiter). w.process) name_cmp l)
     (sym c.of.ensures) (sorted_by name_total (λ (w : Waiter). w.process) c.sort_by.new.self.items
-    c.in_ok-sort_by.ensures.sorted (λ a r q k. search rules))
+    c.in-Ok.ensures.sorted (λ a r q k. search rules))

@@ -11,7 +11,7 @@ loop-number-preserved c =
     let q : ℕ = c.loop-number.number in
     let x = c.index-slots-number.result in
     let at : 0 + q ≡ q = omega arith in
-    c.in_ok-put_waiter.ensures ∙ ap (λ l. l ++ with_waiter b q x []) c.loop-number.invariant
+    c.in-Ok.ensures ∙ ap (λ l. l ++ with_waiter b q x []) c.loop-number.invariant
     ∙ ap (λ (i : ℕ). Rattle.sp_kernel.specs.Closes.waiters_from b 0
     (Rattle.std.proofs.Common.take q c.args.slots.now) ++ with_waiter b i x []) (sym at)
     ∙ sym (waiters_more b 0 c.args.slots.now q x

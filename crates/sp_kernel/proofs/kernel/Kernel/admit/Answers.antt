@@ -19,7 +19,7 @@ returns-then-is_err-clause-err c =
     let x : Kernel = c.args.self.now in
     let slots : c.add_slots.new.slots ≡ x.slots = search rules in
     let ready : c.shorten.new.self ≡ x.ready =
-    shorter x.ready c.extend.new.self c.shorten.new.self c.len-first.result c.args.count c.in_ok-extend.ensures.ok
+    shorter x.ready c.extend.new.self c.shorten.new.self c.len-first.result c.args.count c.in-Ok.ensures.ok
     c.shorten.ensures in
     λ i. record x { slots = slots i; ready = ready i }
 
@@ -33,7 +33,7 @@ returns-then-is_err-2-clause-err c =
     c.len-first.ensures c.truncate.ensures in
     let ready : c.shorten-then-is_err-2.new.self ≡ x.ready =
     shorter x.ready c.extend.new.self c.shorten-then-is_err-2.new.self c.len-first.result c.args.count
-    c.in_ok-extend.ensures.ok c.shorten-then-is_err-2.ensures in
+    c.in-Ok.ensures.ok c.shorten-then-is_err-2.ensures in
     λ i. record x { slots = slots i; parents = parents i; ready = ready i }
 
 pub returns-then-is_err-3-clause-err : goal.returns-then-is_err-3-clause-err
@@ -56,6 +56,6 @@ returns-then-is_err-3-clause-err c =
     (c.truncate-then-is_err-3-2.ensures ∙ ap (λ (k : Kernel). take c.len-families.result k.parents) n) in
     let ready : c.shorten-then-is_err-3.new.self ≡ x.ready =
     shorter x.ready c.extend.new.self c.shorten-then-is_err-3.new.self c.len-first.result c.args.count
-    c.in_ok-extend.ensures.ok (c.shorten-then-is_err-3.ensures
+    c.in-Ok.ensures.ok (c.shorten-then-is_err-3.ensures
     ∙ ap (λ (k : Kernel). take (length k.ready - c.args.count) k.ready) n) in
     λ i. record (n i) { slots = slots i; parents = parents i; ready = ready i }

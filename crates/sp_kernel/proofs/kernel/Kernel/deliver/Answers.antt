@@ -12,7 +12,7 @@ pub returns : goal.returns
 returns c = (
   c.resume.new.self,
   subst (λ (o : Option Slot). Receives o c.args.cells c.resume.new.self)
-      (sym c.swap.ensures.before) (subst (λ (s : Slot). Receives (Some s) c.args.cells c.resume.new.self)
+      (sym c.replace.ensures.replaced) (subst (λ (s : Slot). Receives (Some s) c.args.cells c.resume.new.self)
       (sym (c.in-Here-default-Receiving.is ∙ ap (slot.Here c.in-Here-default-Receiving.receiver)
       c.in-Here-default-Receiving.field-1-is)) (
         ap config_of c.resume.ensures,
@@ -21,7 +21,7 @@ returns c = (
       )),
   λ i. record c.args.self.now {
     slots = (c.put.ensures
-        ∙ ap (λ l. slice_set l c.args.other (slot.Here c.resume.new.self st.Ready)) c.swap.ensures.after
+        ∙ ap (λ l. slice_set l c.args.other (slot.Here c.resume.new.self st.Ready)) c.replace.ensures.list
         ∙ set_twice c.args.self.now.slots c.args.other slot.Ended (slot.Here c.resume.new.self st.Ready)) i;
   },
 )

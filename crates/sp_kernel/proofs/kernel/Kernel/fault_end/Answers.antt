@@ -10,6 +10,6 @@ name-requires-clause-there c =
     let found : fault_in c.args.self.now.journal.entries ≡ Some (c.in-Some.process, c.in-Some.fault) =
     let f : c.fault_in.result ≡ Some (c.in-Some.process, c.in-Some.fault) = search rules in
     ap fault_in (sym c.entries.ensures) ∙ sym c.fault_in.ensures ∙ f in
-    subst (λ (j : Journal). c.in-Some.process < (births j.entries).processes) (sym c.in_ok-ledger-in-Some.ensures.1)
+    subst (λ (j : Journal). c.in-Some.process < (births j.entries).processes) (sym c.in-Ok.ensures.1)
     (fault_there first_births c.args.self.now.journal.entries c.in-Some.process c.in-Some.fault
     c.requires.named.nameable found)

@@ -9,12 +9,12 @@ use Rattle.sp_kernel.proofs.kernel.Kernel.fetch.Goals as goal
 pub returns-clause-given : goal.returns-clause-given
 returns-clause-given c = (
   c.in-Here.sender,
-  subst (λ (o : Option Slot). IsSenderWith o c.in-Here.sender c.in-Sending.cells) (sym c.swap.ensures.before)
+  subst (λ (o : Option Slot). IsSenderWith o c.in-Here.sender c.in-Sending.cells) (sym c.replace.ensures.replaced)
       (subst (λ (s : Slot). IsSenderWith (Some s) c.in-Here.sender c.in-Sending.cells)
       (sym (c.in-Here.is ∙ ap (slot.Here c.in-Here.sender) c.in-Sending.is)) (refl, refl)),
   λ i. record c.args.self.now {
     slots = (c.put.ensures
-        ∙ ap (λ l. slice_set l c.args.other (slot.Here c.in-Here.sender st.Ready)) c.swap.ensures.after
+        ∙ ap (λ l. slice_set l c.args.other (slot.Here c.in-Here.sender st.Ready)) c.replace.ensures.list
         ∙ set_twice c.args.self.now.slots c.args.other slot.Ended (slot.Here c.in-Here.sender st.Ready)) i;
   },
 )

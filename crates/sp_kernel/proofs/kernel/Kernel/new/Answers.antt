@@ -8,12 +8,12 @@ use Rattle.sp_kernel.proofs.kernel.Kernel.new.Goals as goal
 pub returns : goal.returns
 returns c =
     let fresh : IsFresh _ c.args.root = record {
-      slots = c.in_ok-push.ensures.ok ∙ ap (λ l. l ++ slot.Here c.args.root st.Ready ∷ []) c.new-slots.ensures;
-      parents = c.in_ok-push-2.ensures.ok ∙ ap (λ l. l ++ None ∷ []) c.new-parents.ensures;
-      ready = c.in_ok-push-3.ensures.ok ∙ ap (λ l. l ++ 0 ∷ []) c.new-ready.ensures;
+      slots = c.in_ok-push.ensures.ok ∙ ap (λ l. l ++ slot.Here c.args.root st.Ready ∷ []) c.new.ensures;
+      parents = c.in-Ok.ensures.ok ∙ ap (λ l. l ++ None ∷ []) c.new-2.ensures;
+      ready = c.in-Ok-push.ensures.ok ∙ ap (λ l. l ++ 0 ∷ []) c.new-3.ensures;
       out = refl;
-      channels = c.new-2.ensures;
-      journal = c.new.ensures;
+      channels = c.new-4.ensures;
+      journal = c.new-5.ensures;
       entries = refl;
       faulted = refl;
       abandons = refl;

@@ -11,7 +11,7 @@ pub returns : goal.returns
 returns c = (
   slot.Here c.join.new.self c.one_fewer.result,
   subst (λ (o : Option Slot). JoinedSlot o c.args.child (slot.Here c.join.new.self c.one_fewer.result))
-      (sym c.swap.ensures.before)
+      (sym c.replace.ensures.replaced)
       (subst (λ (s : Slot). JoinedSlot (Some s) c.args.child (slot.Here c.join.new.self c.one_fewer.result))
       (sym (c.in-Here.is ∙ ap (slot.Here c.in-Here.process) c.in-Joining.is)) (
         c.join.new.self,
@@ -24,7 +24,7 @@ returns c = (
       )),
   λ i. record c.args.self.now {
     slots = (c.put.ensures
-        ∙ ap (λ l. slice_set l c.args.parent (slot.Here c.join.new.self c.one_fewer.result)) c.swap.ensures.after
+        ∙ ap (λ l. slice_set l c.args.parent (slot.Here c.join.new.self c.one_fewer.result)) c.replace.ensures.list
         ∙ set_twice c.args.self.now.slots c.args.parent slot.Ended (slot.Here c.join.new.self c.one_fewer.result)) i;
   },
 )
