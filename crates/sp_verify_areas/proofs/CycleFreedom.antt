@@ -17,12 +17,9 @@ use Rattle.sp_verify_rules.specs.NameRules.{LiesIn}
 use Rattle.sp_verify_rules.specs.Rules.{free_nexts, IsFreePath, BreaksV9, ComesBack}
 use Rattle.sp_verify_rules.proofs.RankLaws.{free_in}
 use Rattle.sp_verify_areas.specs.Alone.{flag_at}
-use Rattle.sp_verify_areas.specs.LeastPlaces.{IsLeast}
 use Rattle.sp_verify_areas.specs.Owners.{Owns, AreOwners, is_same, list_of_ways}
-use Rattle.sp_verify_areas.specs.Rounds.{has_owner, number_at, FallsFrom, instrs_before, BreaksAt, HasFreePath, gap}
-use Rattle.sp_verify_areas.specs.Rounds.{gaps}
-use Rattle.sp_verify_areas.specs.Rounds.{with_flag}
-use Rattle.sp_verify_areas.specs.Rounds.{AreFlagsReached, Widens, IsAt, HasGoneOn}
+use Rattle.sp_verify_areas.specs.Rounds.{AreFlagsReached, FallsFrom, HasFreePath, HasGoneOn, IsAt, RiseNowhere, Widens}
+use Rattle.sp_verify_areas.specs.Rounds.{gap, gaps, has_owner, number_at, with_flag}
 use Rattle.sp_verify_areas.proofs.OwnerSteps.{way_first, way_second}
 use Rattle.sp_verify_areas.proofs.OwnerLaws.{along}
 
@@ -85,29 +82,20 @@ module _ (c : Parts) where
 
   -- ---- numbers
 
-  module _ (ns : List ℕ) (limit : ℕ) (falls : (p : ℕ) (a : Area) → LiesIn c p a → FallsFrom c ns limit p) where
+  module _ (ns : List ℕ) (stay : RiseNowhere c ns) where
     stays : (n p q : ℕ) (a : Area) → LiesIn c p a → IsFreePath c n p q → number_at ns q ≤ number_at ns p
     stays zero p q a l w = let e = ap (number_at ns) w in omega (arith, e)
     stays (suc n) p q a l w =
         let on = stays n w.0 q a (along c p w.0 a l (free_in p w.0 (instr_at c p) w.1)) w.2 in
-        let f = (falls p a l w.0 w.1).0 in
+        let f = (stay p a l w.0 w.1).0 in
         omega (arith, on, f)
 
-    -- none before the limit is on a way back
-    pub no_round : (p : ℕ) → p < limit → BreaksV9 c p → ⊥
-    no_round p h (ComesBack a n l w) =
+    -- an instruction from which they fall is on no way back
+    pub no_round : (p : ℕ) → FallsFrom c ns (p + 1) p → BreaksV9 c p → ⊥
+    no_round p falls (ComesBack a n l w) =
         let on = stays n w.0 p a (along c p w.0 a l (free_in p w.0 (instr_at c p) w.1)) w.2 in
-        let f = (falls p a l w.0 w.1).1 h in
+        let f = (falls w.0 w.1).1 (omega arith) in
         omega (arith, on, f)
-
-  pub first_is : (ns : List ℕ) (first : Option ℕ)
-      → ((p : ℕ) (a : Area) → LiesIn c p a → FallsFrom c ns (instrs_before c first) p)
-      → BreaksAt c first → IsLeast (BreaksV9 c) first
-  first_is ns None falls b = λ p h. no_round ns (length c.instrs) falls p (within p h) h
-    where
-      within : (p : ℕ) → BreaksV9 c p → p < length c.instrs
-      within p (ComesBack a n l w) = back_within n p p w
-  first_is ns (Some p) falls b = (b, no_round ns p falls)
 
 -- ---- flags
 
@@ -254,8 +242,3 @@ module _ (c : Parts) (os : List Owner) (are : AreOwners c os) (p : ℕ) where
     λ t. absurd (cc t),
     λ x. absurd (not_true_and_false (flag_at fs p) (flagged c p fs led done (free_path_back c p x)) (sym s)),
   )
-
-pub broken_at : (c : Parts) (to : Option ℕ) (p : ℕ) (b : Bool) → to ≡ Some p → IsTrue b ↔ BreaksV9 c p → b ≡ true
-    → BreaksAt c to
-broken_at c to p true e h t = subst (BreaksAt c) (sym e) (h.0 refl)
-broken_at c to p false e h t = absurd (cc t)

@@ -22,7 +22,6 @@ use Rattle.sp_verify_areas.specs.Owners.{as_child}
 use Rattle.sp_verify_areas.specs.Owners.{of_child, KnowsOwner}
 use Rattle.sp_verify_areas.specs.Owners.{HandsOwner, Propagates, KnowsAt, IsSpread, IsHanded, IsSpreadBy}
 use Rattle.sp_verify_areas.specs.Owners.{AreBegun, EachFirst}
-use Rattle.sp_verify_areas.specs.Owners.{IsAllSpread}
 use Rattle.sp_verify_areas.specs.Owners.{list_of_ways, entry_at}
 use Rattle.sp_verify_areas.proofs.OwnerLaws.{same_is, same_self, gives_spreads, spreads_as, spreads_then}
 use Rattle.sp_verify_areas.proofs.OwnerLaws.{spreads_room, true_along, true_table, true_child, true_begin}
@@ -234,28 +233,25 @@ module _ (c : Parts) where
 
   -- ---- all
 
-  pub each_more : (P : ℕ → List Owner → Type 0) (a b d : List Owner) (k : ℕ) (s t : Bool)
-      → Propagates c a b (EachFirst P k) s
-      → Propagates c b d (P k) t → Propagates c a d (EachFirst P (k + 1)) (s || t)
-  each_more P a b d k s t h m = spreads_as c a d (λ os. EachFirst P k os × P k os) (EachFirst P (k + 1)) (s
-      || t) more (spreads_then c a b d (EachFirst P k) (P k) s t h m)
+  -- one more, beside what is closed already
+  pub each_more : (B : List Owner → Type 0) (P : ℕ → List Owner → Type 0) (a b d : List Owner) (k : ℕ) (s t : Bool)
+      → Propagates c a b (λ os. B os × EachFirst P k os) s
+      → Propagates c b d (P k) t → Propagates c a d (λ os. B os × EachFirst P (k + 1) os) (s || t)
+  each_more B P a b d k s t h m = spreads_as c a d (λ os. (B os × EachFirst P k os) × P k os)
+      (λ os. B os × EachFirst P (k + 1) os) (s || t) more
+      (spreads_then c a b d (λ os. B os × EachFirst P k os) (P k) s t h m)
     where
-      more : d ≡ a → EachFirst P k d × P k d → EachFirst P (k + 1) d
-      more same z x l = ⊎_elim (λ (y : x < k). z.0 x y) (λ (e : x ≡ k). subst (λ i. P i d) (sym e) z.1)
-          (below_or_last x k l)
+      more : d ≡ a → (B d × EachFirst P k d) × P k d → B d × EachFirst P (k + 1) d
+      more same ((before, first), here) = (
+        before,
+        λ x l. ⊎_elim (λ (y : x < k). first x y) (λ (e : x ≡ k). subst (λ i. P i d) (sym e) here) (below_or_last x k l),
+      )
 
-  pub swept : (a b d e : List Owner) (r s t : Bool) → Propagates c a b (AreBegun c (length c.layouts)) r
-      → Propagates c b d (EachFirst (IsSpread c) (length c.instrs)) s
-      → Propagates c d e (EachFirst (IsSpreadBy c) (length c.forks)) t
-      → Propagates c a e (IsAllSpread c) ((r || s) || t)
-  swept a b d e r s t h k m =
-      spreads_as c a e (λ os. (AreBegun c (length c.layouts) os × EachFirst (IsSpread c) (length c.instrs) os)
-      × EachFirst (IsSpreadBy c) (length c.forks) os) (IsAllSpread c) ((r || s) || t)
-      (λ same ((begun_layouts, spread_first), spread_tables).
-      record { begun = begun_layouts; spread = spread_first; tables = spread_tables })
-      (spreads_then c a d e (λ os. AreBegun c (length c.layouts) os
-      × EachFirst (IsSpread c) (length c.instrs) os) (EachFirst (IsSpreadBy c) (length c.forks)) (r || s) t
-      (spreads_then c a b d (AreBegun c (length c.layouts)) (EachFirst (IsSpread c) (length c.instrs)) r s h k) m)
+  -- none so far
+  pub each_none : (B : List Owner → Type 0) (P : ℕ → List Owner → Type 0) (a b : List Owner) (s : Bool)
+      → Propagates c a b B s → Propagates c a b (λ os. B os × EachFirst P 0 os) s
+  each_none B P a b s h = spreads_as c a b B (λ os. B os × EachFirst P 0 os) s
+      (λ same before. (before, λ x l. absurd (omega (arith, l)))) h
 
   -- with nothing said of what is closed
   abbrev Any : List Owner → Type 0

@@ -2,7 +2,6 @@
 -- The layouts of code in an ordered table by the numbers of their blocks: under each block stands the place of its
 -- first layout.
 use Rattle.std.specs.Prelude.{◌≡◌, ℕ, ◌+◌, ◌==◌, if◌then◌else◌, List, [], ◌∷◌, Option, Some, None}
-use Rattle.std.specs.Option.{option_or}
 use Rattle.std.specs.Ordering.{nat_cmp}
 use Rattle.std.specs.BTreeMap.{BTreeMap, get}
 use Rattle.sp_code.specs.declared.code.Layout.{Layout}
@@ -15,10 +14,6 @@ number_from n (l ∷ ls) b = if l.block == b then Some n else number_from (n + 1
 -- the place under a block
 abbrev pub number_of : BTreeMap ℕ ℕ → ℕ → Option ℕ
 number_of m b = get nat_cmp m b
-
--- the layout is in the table, with this place, unless one of its block was; all others are as before
-abbrev pub NotesLayout : BTreeMap ℕ ℕ → BTreeMap ℕ ℕ → ℕ → ℕ → Type 0
-NotesLayout old new n b = (d : ℕ) → number_of new d ≡ option_or (number_of old d) (if b == d then Some n else None)
 
 -- under each block stands the place of its first layout
 abbrev pub IsNumbered : BTreeMap ℕ ℕ → List Layout → Type 0

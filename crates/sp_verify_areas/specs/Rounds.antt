@@ -6,9 +6,10 @@ use Rattle.std.specs.Prelude.{slice_set, length, sum_by}
 use Rattle.sp_code.specs.declared.code.Parts.{Parts}
 use Rattle.sp_verify_areas.specs.declared.owners.Owner.{Owner}
 use Rattle.sp_verify_areas.specs.declared.owners.Owner.TheVariants as owner
-use Rattle.sp_verify_rules.specs.Areas.{on_option, instr_at}
+use Rattle.sp_verify_rules.specs.Areas.{Area, on_option, instr_at}
+use Rattle.sp_verify_rules.specs.NameRules.{LiesIn}
 use Rattle.sp_verify_rules.specs.Reach.{IsMember}
-use Rattle.sp_verify_rules.specs.Rules.{free_nexts, IsFreePath, BreaksV9}
+use Rattle.sp_verify_rules.specs.Rules.{free_nexts, IsFreePath}
 use Rattle.sp_verify_areas.specs.Alone.{flag_at}
 use Rattle.sp_verify_areas.specs.Owners.{is_same}
 
@@ -30,15 +31,9 @@ Falls ns limit p q = (number_at ns q ≤ number_at ns p) × (p < limit → numbe
 abbrev pub FallsFrom : Parts → List ℕ → ℕ → ℕ → Type 0
 FallsFrom c ns limit p = (q : ℕ) → IsMember q (free_nexts p (instr_at c p)) → Falls ns limit p q
 
--- the instructions before this one; all, if there is none
-abbrev pub instrs_before : Parts → Option ℕ → ℕ
-instrs_before c None = length c.instrs
-instrs_before c (Some p) = p
-
--- if it is one, V9 is broken there
-abbrev pub BreaksAt : Parts → Option ℕ → Type 0
-BreaksAt c None = Unit {0}
-BreaksAt c (Some p) = BreaksV9 c p
+-- the numbers rise on no way in the code of an area
+abbrev pub RiseNowhere : Parts → List ℕ → Type 0
+RiseNowhere c ns = (p : ℕ) (a : Area) → LiesIn c p a → FallsFrom c ns 0 p
 
 -- ---- a search from one instruction, with a flag for each instruction that it comes to
 

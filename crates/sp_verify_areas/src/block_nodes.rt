@@ -10,7 +10,7 @@ use crate::blocks::Blocks;
 use crate::have;
 use crate::order::order;
 use crate::tree::{Frame, Grown, give_node, no_nodes, node_at};
-use sp_base::{List, Memory};
+use sp_base::{List, Memory, Writer};
 use sp_code::{Code, Layout};
 
 // The node of a layout's parent.
@@ -85,24 +85,21 @@ fn sweep(code: &Code, blocks: &Blocks, grown: &mut Grown) -> Result<bool, Memory
     Ok(changed)
 }
 
-// Tries them in an order in which parents come first, so that the sweeps after it find nothing.
-fn hurry(code: &Code, blocks: &Blocks, grown: &mut Grown, order: &List<usize>) -> Result<(), Memory>
-    requires blocks { IsNumbered blocks.now.first code.now.layouts }
-    requires just { HaveBlockNodes code.now.layouts grown.old }
-    ensures { OnOk result (HaveBlockNodes code.now.layouts grown.new) }
-{
-    for item in order.items() {
-        let _new = have!(settle(code, blocks, grown, *item));
-    }
-    Ok(())
-}
-
-// Goes on until none is left that may get a node.
-fn search(code: &Code, blocks: &Blocks, grown: &mut Grown) -> Result<(), Memory>
+// Tries them in an order in which parents come first, and then goes on until none is left that may get a node: mostly
+// the first sweep finds nothing.
+fn search(
+    code: &Code,
+    blocks: &Blocks,
+    grown: &mut Grown,
+    order: &List<usize>,
+) -> Result<(), Memory>
     requires blocks { IsNumbered blocks.now.first code.now.layouts }
     requires just { HaveBlockNodes code.now.layouts grown.old }
     ensures { OnOk result (HaveAllBlockNodes code.now.layouts grown.new) }
 {
+    for item in order.items() {
+        let _new = have!(settle(code, blocks, grown, *item));
+    }
     'sweeps: loop {
         let found = have!(sweep(code, blocks, grown));
         if !found {
@@ -111,9 +108,10 @@ fn search(code: &Code, blocks: &Blocks, grown: &mut Grown) -> Result<(), Memory>
     }
 }
 
-// For each layout, the place of its parent.
-fn parents(code: &Code, blocks: &Blocks) -> Result<List<Option<usize>>, Memory> {
-    let mut up = List::new(code.parts().instrs.alloc());
+// The places of the layouts, those of parents first.
+fn parents_first(code: &Code, blocks: &Blocks) -> Result<List<usize>, Memory> {
+    let alloc = code.parts().instrs.alloc();
+    let mut up = Writer::new(alloc);
     for l in code.parts().layouts.items() {
         let place = match l.parent {
             None => None,
@@ -122,9 +120,9 @@ fn parents(code: &Code, blocks: &Blocks) -> Result<List<Option<usize>>, Memory> 
                 Some(place) => Some(place as usize),
             },
         };
-        have!(up.push(place));
+        up.put(place);
     }
-    Ok(up)
+    order(alloc, &up)
 }
 
 /// Nodes for exactly the layouts whose parents lead to block 0. The only other answer is want of memory.
@@ -132,10 +130,7 @@ pub fn led(code: &Code, blocks: &Blocks) -> Result<Grown, Memory>
     requires { IsNumbered blocks.now.first code.now.layouts }
     ensures { IfOk result (λ grown. HaveAllBlockNodes code.now.layouts grown) }
 {
-    let up = have!(parents(code, blocks));
-    let order = order(&up);
-    drop(up);
-    let order = have!(order);
+    let order = have!(parents_first(code, blocks));
     let parts = code.parts();
     let alloc = parts.instrs.alloc();
     let of = have!(no_nodes(alloc, parts.layouts.len()));
@@ -143,9 +138,6 @@ pub fn led(code: &Code, blocks: &Blocks) -> Result<Grown, Memory>
         nodes: List::new(alloc),
         of,
     };
-    let hurried = hurry(code, blocks, &mut grown, &order);
-    drop(order);
-    have!(hurried);
-    have!(search(code, blocks, &mut grown));
+    have!(search(code, blocks, &mut grown, &order));
     Ok(grown)
 }

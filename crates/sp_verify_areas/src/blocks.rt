@@ -1,7 +1,7 @@
 //! The layouts by the numbers of their blocks.
 
-ghost use Rattle.std.specs.Prelude.{◌≡◌, ◌+◌, ◌≤◌, IfOk, OnOk, length};
-ghost use Rattle.sp_verify_areas.specs.Blocks.{IsNumbered, NotesLayout, number_of};
+ghost use Rattle.std.specs.Prelude.{◌≡◌, ◌≤◌, IfOk, length};
+ghost use Rattle.sp_verify_areas.specs.Blocks.{IsNumbered, number_of};
 ghost use Rattle.sp_verify_areas.specs.Owners.{entry_at};
 ghost use Rattle.std.specs.Option.{is_some, option_copied};
 ghost use Rattle.sp_code.specs.Machine.{layout_of};
@@ -18,16 +18,6 @@ pub struct Blocks {
     first: BTreeMap<u32, u32>,
 }
 
-// Notes the place of a layout, unless there is an earlier one of its block.
-fn note(first: &mut BTreeMap<u32, u32>, place: u32, block: u32) -> Result<(), Memory>
-    ensures { OnOk result (NotesLayout first.old first.new place block) }
-{
-    if !first.contains_key(&block) {
-        have!(first.insert(block, place));
-    }
-    Ok(())
-}
-
 impl Blocks {
     /// The blocks of these layouts.
     pub fn of(alloc: Global, layouts: &[Layout]) -> Result<Blocks, Memory>
@@ -37,7 +27,9 @@ impl Blocks {
         let mut first = BTreeMap::new(alloc);
         let mut place = 0;
         for l in layouts {
-            have!(note(&mut first, place, l.block));
+            if !first.contains_key(&l.block) {
+                have!(first.insert(l.block, place));
+            }
             place += 1;
         }
         Ok(Blocks { first })

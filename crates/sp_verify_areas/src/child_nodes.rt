@@ -2,7 +2,7 @@
 //! `order`.
 
 ghost use Rattle.std.specs.Prelude.{◌≡◌, ◌+◌, ◌<◌, Some, None, IfOk, OnOk, length, slice_get};
-ghost use Rattle.sp_verify_areas.specs.Around.{AreAttached, AttachesChildren, IsAttachedBy, PutsChild, PutsChildren};
+ghost use Rattle.sp_verify_areas.specs.Around.{AreAttached, IsAttachedBy, PutsChild, PutsChildren};
 ghost use Rattle.sp_verify_areas.specs.Around.{child_node, node_of};
 ghost use Rattle.sp_verify_areas.specs.Around.{owner_in};
 ghost use Rattle.sp_verify_areas.specs.Around.{AreAllAttached, AreNodes};
@@ -16,7 +16,7 @@ use crate::have;
 use crate::order::order;
 use crate::owners::{Owner, table_number};
 use crate::tree::{Frame, Grown, Jump, Node, node_at, put};
-use sp_base::{List, Memory};
+use sp_base::{List, Memory, Writer};
 use sp_code::{ChildTable, Code, MAX_CODE};
 
 // The node of this number.
@@ -62,22 +62,6 @@ fn put_children(
     for child in children {
         have!(put_child(nodes, around, child.index));
     }
-    Ok(())
-}
-
-// Gives a table the first of its children's nodes.
-fn give_nodes(
-    grown: &mut Grown,
-    t: usize,
-    around: usize,
-    children: &[ChildTable],
-) -> Result<(), Memory>
-    requires { t < length grown.old.of }
-    ensures { OnOk result (AttachesChildren grown.old grown.new t around children.now) }
-{
-    let base = grown.nodes.len();
-    have!(put_children(&mut grown.nodes, around, children));
-    let _none = grown.of.replace(t, Some(base));
     Ok(())
 }
 
@@ -160,7 +144,9 @@ fn hang(
         None => return Ok(false),
         Some(table) => table,
     };
-    have!(give_nodes(grown, t, around, table.children.items()));
+    let base = grown.nodes.len();
+    have!(put_children(&mut grown.nodes, around, table.children.items()));
+    let _none = grown.of.replace(t, Some(base));
     Ok(true)
 }
 
@@ -186,61 +172,17 @@ fn sweep(
     Ok(changed)
 }
 
-// Goes through the instructions in an order in which outer forks come first, so that the sweeps after it find nothing.
-fn hurry(
-    code: &Code,
-    blocks: &Blocks,
-    owners: &List<Owner>,
-    of_blocks: &List<Option<usize>>,
-    grown: &mut Grown,
-    order: &List<usize>,
-) -> Result<(), Memory>
-    requires blocks { IsNumbered blocks.now.first code.now.layouts }
-    requires owners { AreOwners code.now owners.now }
-    requires just { AreAttached code.now of_blocks.now grown.old }
-    ensures { OnOk result (AreAttached code.now of_blocks.now grown.new) }
-{
-    for q in order.items() {
-        let q = *q;
-        if q < MAX_CODE {
-            let _new = have!(hang(code, blocks, owners, of_blocks, grown, q as u32));
-        }
-    }
-    Ok(())
-}
-
-// Goes on until no table is left that may get its children's nodes.
-fn search(
-    code: &Code,
-    blocks: &Blocks,
-    owners: &List<Owner>,
-    of_blocks: &List<Option<usize>>,
-    grown: &mut Grown,
-) -> Result<(), Memory>
-    requires blocks { IsNumbered blocks.now.first code.now.layouts }
-    requires owners { AreOwners code.now owners.now }
-    requires just { AreAttached code.now of_blocks.now grown.old }
-    ensures { OnOk result (AreAllAttached code.now owners.now of_blocks.now grown.new) }
-{
-    'sweeps: loop {
-        let found = have!(sweep(code, blocks, owners, of_blocks, grown));
-        if !found {
-            return Ok(());
-        }
-    }
-}
-
-// For each instruction of a child, that of its fork.
-fn forks(owners: &List<Owner>) -> Result<List<Option<usize>>, Memory> {
-    let mut up = List::new(owners.alloc());
+// The instructions, those of a child behind its fork.
+fn forks_first(owners: &List<Owner>) -> Result<List<usize>, Memory> {
+    let mut up = Writer::new(owners.alloc());
     for owner in owners.items() {
         let fork = match *owner {
             Owner::Child { at, child: _ } => Some(at as usize),
             _ => None,
         };
-        have!(up.push(fork));
+        up.put(fork);
     }
-    Ok(up)
+    order(owners.alloc(), &up)
 }
 
 /// The nodes of all children, beside those of the blocks. The only other answer is want of memory.
@@ -256,14 +198,20 @@ pub(crate) fn hang_all(
     requires just { AreAttached code.now of_blocks.now grown.old }
     ensures { OnOk result (AreAllAttached code.now owners.now of_blocks.now grown.new) }
 {
-    let up = have!(forks(owners));
-    let order = order(&up);
-    drop(up);
-    let order = have!(order);
-    let hurried = hurry(code, blocks, owners, of_blocks, grown, &order);
-    drop(order);
-    have!(hurried);
-    search(code, blocks, owners, of_blocks, grown)
+    // Outer forks come first: so mostly the first sweep after it finds nothing.
+    let order = have!(forks_first(owners));
+    for q in order.items() {
+        let q = *q;
+        if q < MAX_CODE {
+            let _new = have!(hang(code, blocks, owners, of_blocks, grown, q as u32));
+        }
+    }
+    'sweeps: loop {
+        let found = have!(sweep(code, blocks, owners, of_blocks, grown));
+        if !found {
+            return Ok(());
+        }
+    }
 }
 
 /// The node of each owner. The only other answer is want of memory.

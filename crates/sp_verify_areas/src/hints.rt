@@ -25,13 +25,24 @@ const NONE: u32 = 4_294_967_295;
 /// each variable, in a list, or in a map for variables of great numbers.
 #[derive(Drop)]
 pub(crate) struct Hints {
-    pub depths: List<usize>,
+    depths: Writer<usize>,
     pub hints: Writer<Hint>,
     near: Writer<u32>,
     far: BTreeMap<u32, u32>,
 }
 
 impl Hints {
+    /// How many frames there are from the outermost one to that of a node; none, if there is no node.
+    pub(crate) fn depth(&self, node: Option<usize>) -> usize {
+        match node {
+            None => 0,
+            Some(node) => match self.depths.items.get(node) {
+                None => 0,
+                Some(depth) => *depth,
+            },
+        }
+    }
+
     /// The number of the last hint of a variable.
     pub(crate) fn last(&self, x: u32) -> u32 {
         let number = if x < FEW {
@@ -69,26 +80,6 @@ impl Hints {
     }
 }
 
-/// How many frames there are from the outermost one to that of a node; none, if there is no node.
-pub(crate) fn depth_of(depths: &List<usize>, node: Option<usize>) -> usize {
-    match node {
-        None => 0,
-        Some(node) => match depths.get(node) {
-            None => 0,
-            Some(depth) => *depth,
-        },
-    }
-}
-
-fn depths(nodes: &List<Node>) -> Result<List<usize>, Memory> {
-    let mut depths = List::new(nodes.alloc());
-    for n in nodes.items() {
-        let depth = depth_of(&depths, n.around).saturating_add(1);
-        have!(depths.push(depth));
-    }
-    Ok(depths)
-}
-
 // Notes the variables of a frame, if that was not seen.
 fn note_frame(
     layouts: &List<Layout>,
@@ -117,19 +108,19 @@ fn note_frame(
 pub(crate) fn find_hints(code: &Code, nodes: &List<Node>) -> Result<Hints, Memory> {
     let layouts = &code.parts().layouts;
     let alloc = nodes.alloc();
-    let depths = have!(depths(nodes));
     let mut seen = have!(no_flags(alloc, layouts.len()));
     let mut hints = Hints {
-        depths,
+        depths: Writer::new(alloc),
         hints: Writer::new(alloc),
         near: Writer::new(alloc),
         far: BTreeMap::new(alloc),
     };
-    for (k, n) in nodes.items().iter().enumerate() {
-        let depth = depth_of(&hints.depths, Some(k));
+    for n in nodes.items() {
+        let depth = hints.depth(n.around).saturating_add(1);
+        hints.depths.put(depth);
         note_frame(layouts, &mut seen, &mut hints, n.frame, depth);
     }
-    if hints.hints.is_lost || hints.near.is_lost {
+    if hints.depths.is_lost || hints.hints.is_lost || hints.near.is_lost {
         return Err(Memory);
     }
     Ok(hints)

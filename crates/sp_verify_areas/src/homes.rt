@@ -2,7 +2,7 @@
 
 ghost use Rattle.std.specs.Prelude.{◌≡◌, ◌<◌, Some, length, slice_get};
 ghost use Rattle.sp_code.specs.declared.code.Parts.{Parts};
-ghost use Rattle.sp_verify_rules.specs.Areas.{Area, found_at, found_by, found_in, found_of as within, homes};
+ghost use Rattle.sp_verify_rules.specs.Areas.{Area, found_at, found_in, found_of as within, homes};
 ghost use Rattle.sp_verify_rules.specs.Areas.{variable_at};
 ghost use Rattle.sp_verify_areas.specs.Homes.{AreHomes, found_of};
 ghost use Rattle.sp_verify_areas.specs.Only.{LiesOnlyIn};
@@ -35,38 +35,28 @@ pub struct Homes {
     pub(crate) at: List<Option<usize>>,
 }
 
-// A variable by its formal, if it is one, and its size.
-fn found_by(number: u32, formal: Option<Formal>, size: Option<u32>) -> Option<Found>
-    ensures { found_of result ≡ found_by number formal size }
-{
-    if let Some(Formal::Reference(cells)) = formal {
-        return Some(Found {
-            number,
-            cells,
-            naming: Naming::ByReference,
-        });
-    }
-    match size {
-        None => None,
-        Some(cells) => Some(Found {
-            number,
-            cells,
-            naming: Naming::Plainly,
-        }),
-    }
-}
-
 // The variable of a layout at a place.
 fn found_in(l: &Layout, place: usize) -> Option<Found>
     ensures { found_of result ≡ found_in l.now place }
 {
-    match l.variables.get(place) {
+    let number = match l.variables.get(place) {
+        None => return None,
+        Some(number) => *number,
+    };
+    if let Some(Formal::Reference(cells)) = l.formals.get(place) {
+        return Some(Found {
+            number,
+            cells: *cells,
+            naming: Naming::ByReference,
+        });
+    }
+    match l.sizes.get(place) {
         None => None,
-        Some(number) => found_by(
-            *number,
-            l.formals.get(place).copied(),
-            l.sizes.get(place).copied(),
-        ),
+        Some(cells) => Some(Found {
+            number,
+            cells: *cells,
+            naming: Naming::Plainly,
+        }),
     }
 }
 

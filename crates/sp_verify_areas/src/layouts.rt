@@ -4,7 +4,6 @@ ghost use Rattle.std.specs.Prelude.{◌≡◌, ◌++◌, length};
 ghost use Rattle.sp_verify_areas.specs.Alone.{LayoutFails, layout_fails};
 ghost use Rattle.sp_verify_areas.specs.LeastPlaces.{IsLeast, Upto};
 ghost use Rattle.sp_verify_rules.specs.NameRules.{answer_cells, begins_with, formal_cells, formals_cells, has_sizes};
-ghost use Rattle.sp_verify_rules.specs.NameRules.{is_program};
 
 use crate::least::{least, place_if};
 use sp_code::{Formal, Layout};
@@ -46,18 +45,13 @@ fn has_sizes(l: &Layout) -> bool
     l.sizes.len() == l.variables.len() && begins_with(l.formals.items(), l.answer, l.sizes.items())
 }
 
-// Whether a layout has no parent, no formals and no answer.
-fn is_program(l: &Layout) -> bool
-    ensures { result ≡ is_program l.now }
-{
-    l.parent.is_none() && l.formals.len() == 0 && !l.answer
-}
-
-// Whether something is wrong with a layout in itself.
+// Whether something is wrong with a layout in itself. The program has no parent, no formals and no answer.
 fn layout_fails(l: &Layout, count: usize) -> bool
     ensures { result ≡ layout_fails count l.now }
 {
-    count <= l.entry as usize || !has_sizes(l) || (l.block == 0 && !is_program(l))
+    count <= l.entry as usize
+        || !has_sizes(l)
+        || (l.block == 0 && (l.parent.is_some() || l.formals.len() != 0 || l.answer))
 }
 
 /// The least entry of a layout with which something is wrong in itself.

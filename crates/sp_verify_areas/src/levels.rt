@@ -5,23 +5,10 @@ ghost use Rattle.sp_verify_rules.specs.Areas.{Area, homes as homes_of};
 ghost use Rattle.sp_verify_rules.specs.NameRules.{is_block};
 ghost use Rattle.sp_verify_areas.specs.Homes.{AreHomes};
 ghost use Rattle.sp_verify_areas.specs.Only.{LiesOnlyIn};
-ghost use Rattle.sp_verify_areas.specs.Tree.{home_at};
 
 use crate::homes::Homes;
 use crate::tree::Frame;
 use sp_code::Code;
-
-fn is_block(block: u32, frame: Option<Frame>) -> bool
-    ensures { result ≡ is_block (Some block) (home_at frame) }
-{
-    match frame {
-        None => false,
-        Some(frame) => match frame {
-            Frame::Block { block: b, place: _ } => block == b,
-            Frame::Index(_) => false,
-        },
-    }
-}
 
 /// Whether the frame so many levels outward from the code in which an instruction lies is that of a block, where the
 /// instruction lies in the code of one area alone.
@@ -31,5 +18,8 @@ pub fn is_block_outward(code: &Code, homes: &Homes, p: u32, up: u32, block: u32)
     ensures { (a : Area) → LiesOnlyIn code.now p a
         → result ≡ is_block (Some block) (slice_get (homes_of code.now a) up) }
 {
-    is_block(block, homes.frame(p, up as usize))
+    match homes.frame(p, up as usize) {
+        None | Some(Frame::Index(_)) => false,
+        Some(Frame::Block { block: b, place: _ }) => block == b,
+    }
 }

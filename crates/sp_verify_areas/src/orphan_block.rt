@@ -42,20 +42,6 @@ fn note(blocks: &Blocks, flags: &mut List<bool>, item: usize, block: u32)
     }
 }
 
-// The first layouts of blocks that have another one.
-fn doubled(code: &Code, blocks: &Blocks) -> Result<List<bool>, Memory>
-    requires { IsNumbered blocks.now.first code.now.layouts }
-    ensures { IfOk result (λ flags. AreDoubled code.now.layouts flags (length code.now.layouts)) }
-{
-    let parts = code.parts();
-    let count = parts.layouts.len();
-    let mut flags = have!(no_flags(parts.instrs.alloc(), count));
-    for (item, l) in parts.layouts.items().iter().enumerate() {
-        note(blocks, &mut flags, item, l.block);
-    }
-    Ok(flags)
-}
-
 // Whether a layout is one of two of its block, or is not led to block 0.
 fn lacks_home(blocks: &Blocks, flags: &List<bool>, grown: &Grown, item: usize, block: u32) -> bool
     ensures { (ls : List Layout) (l : Layout) → IsNumbered blocks.now.first ls → slice_get ls item ≡ Some l
@@ -96,6 +82,10 @@ pub fn first_orphan_block(code: &Code, blocks: &Blocks, led: &Grown) -> Result<O
     requires led { HaveAllBlockNodes code.now.layouts led.now }
     ensures { IfOk result (λ first. IsLeast (OrphanBlock code.now) first) }
 {
-    let flags = have!(doubled(code, blocks));
-    Ok(first_lacking(code, blocks, &flags, led))
+    let parts = code.parts();
+    let mut doubled = have!(no_flags(parts.instrs.alloc(), parts.layouts.len()));
+    for (item, l) in parts.layouts.items().iter().enumerate() {
+        note(blocks, &mut doubled, item, l.block);
+    }
+    Ok(first_lacking(code, blocks, &doubled, led))
 }

@@ -6,7 +6,7 @@ ghost use Rattle.sp_code.specs.declared.code.ChildTable.{ChildTable};
 ghost use Rattle.sp_verify_rules.specs.Areas.{instr_at, table_named};
 ghost use Rattle.sp_verify_areas.specs.Blocks.{IsNumbered};
 ghost use Rattle.sp_verify_rules.specs.NameRules.{Names};
-ghost use Rattle.sp_verify_areas.specs.Owners.{AreBegun, AreOwners, AreTrue, EachFirst, HandsOwner, IsAllSpread};
+ghost use Rattle.sp_verify_areas.specs.Owners.{AreBegun, AreOwners, AreTrue, HandsOwner, IsAllSpread};
 ghost use Rattle.sp_verify_areas.specs.Owners.{IsHanded};
 ghost use Rattle.sp_verify_areas.specs.Owners.{IsOwner};
 ghost use Rattle.sp_verify_areas.specs.Owners.{IsSpread, IsSpreadBy, IsTrueOf, KnowsOwner, KnowsAt, Propagates};
@@ -73,8 +73,7 @@ fn as_child(at: u32, o: Owner) -> Owner
 {
     match o {
         Owner::Nobody => Owner::Nobody,
-        Owner::Block(_) => Owner::Child { at, child: 0 },
-        Owner::Child { .. } => Owner::Child { at, child: 0 },
+        Owner::Block(_) | Owner::Child { .. } => Owner::Child { at, child: 0 },
         Owner::Several => Owner::Several,
     }
 }
@@ -271,34 +270,6 @@ fn begin(
     changed
 }
 
-// Visits all instructions.
-fn visit_all(code: &Code, owners: &mut List<Owner>, waiting: &mut Writer<usize>) -> bool
-    requires just { AreTrue code.now owners.old }
-    ensures { Propagates code.now owners.old owners.new (EachFirst (IsSpread code.now) (length code.now.instrs))
-        result }
-{
-    let count = code.parts().instrs.len();
-    let mut changed = false;
-    for p in 0..count {
-        changed |= visit(code, owners, waiting, p as u32);
-    }
-    changed
-}
-
-// Visits all tables.
-fn visit_tables(code: &Code, owners: &mut List<Owner>, waiting: &mut Writer<usize>) -> bool
-    requires just { AreTrue code.now owners.old }
-    ensures { Propagates code.now owners.old owners.new (EachFirst (IsSpreadBy code.now) (length code.now.forks))
-        result }
-{
-    let count = code.parts().forks.len();
-    let mut changed = false;
-    for t in 0..count {
-        changed |= visit_table(code, owners, waiting, t);
-    }
-    changed
-}
-
 // Visits everything once, and says whether anything was new.
 fn sweep(
     code: &Code,
@@ -310,10 +281,15 @@ fn sweep(
     requires blocks { IsNumbered blocks.now.first code.now.layouts }
     ensures { Propagates code.now owners.old owners.new (IsAllSpread code.now) result }
 {
-    let first = begin(code, blocks, owners, waiting);
-    let second = visit_all(code, owners, waiting);
-    let third = visit_tables(code, owners, waiting);
-    first | second | third
+    let parts = code.parts();
+    let mut changed = begin(code, blocks, owners, waiting);
+    for p in 0..parts.instrs.len() {
+        changed |= visit(code, owners, waiting, p as u32);
+    }
+    for t in 0..parts.forks.len() {
+        changed |= visit_table(code, owners, waiting, t);
+    }
+    changed
 }
 
 // Visits one instruction or table.

@@ -1,18 +1,15 @@
 //! Rule V9: ways of an instruction back to itself with no tick and no call. The numbers that `components` guesses are
-//! checked by a loop.
+//! checked by a loop, and then spare nearly all searches.
 
 ghost use Rattle.std.specs.Prelude.{◌≡◌, ◌↔◌, ◌<◌, ℕ, IfOk, IsTrue, MatchOption, Some, false, length, true};
-ghost use Rattle.sp_verify_rules.specs.Areas.{Area, instr_at};
-ghost use Rattle.sp_verify_rules.specs.NameRules.{LiesIn};
+ghost use Rattle.sp_verify_rules.specs.Areas.{instr_at};
 ghost use Rattle.sp_verify_rules.specs.Reach.{IsMember};
 ghost use Rattle.sp_verify_rules.specs.Rules.{BreaksV9, free_nexts};
 ghost use Rattle.sp_verify_areas.specs.Alone.{flag_at};
 ghost use Rattle.sp_verify_areas.specs.LeastPlaces.{IsLeast};
 ghost use Rattle.sp_verify_areas.specs.Owners.{AreOwners};
-ghost use Rattle.sp_verify_areas.specs.Rounds.{AreFlagged, AreFlagsReached, BreaksAt, Falls, FallsFrom, HasGoneOn};
-ghost use Rattle.sp_verify_areas.specs.Rounds.{HasFreePath};
-ghost use Rattle.sp_verify_areas.specs.Rounds.{Widens};
-ghost use Rattle.sp_verify_areas.specs.Rounds.{instrs_before, gaps, with_flag};
+ghost use Rattle.sp_verify_areas.specs.Rounds.{AreFlagged, AreFlagsReached, Falls, FallsFrom, HasFreePath};
+ghost use Rattle.sp_verify_areas.specs.Rounds.{HasGoneOn, RiseNowhere, Widens, with_flag};
 
 use crate::components::{components, has_owner, number_at};
 use crate::flags::{flag_at, no_flags};
@@ -45,41 +42,18 @@ fn falls_from(code: &Code, numbers: &List<u32>, limit: usize, p: u32) -> bool
     falls_to(numbers, limit, p, ways.first) && falls_to(numbers, limit, p, ways.second)
 }
 
-// The instructions before this one; all, if there is none.
-fn before(code: &Code, first: Option<u32>) -> usize
-    ensures { result ≡ instrs_before code.now first }
-{
-    match first {
-        None => code.parts().instrs.len(),
-        Some(p) => p as usize,
-    }
-}
-
-// Whether the numbers fall from all instructions before the first one, and rise from none.
-fn fall(code: &Code, owners: &List<Owner>, numbers: &List<u32>, first: Option<u32>) -> bool
+// Whether the numbers rise on no way.
+fn never_rise(code: &Code, owners: &List<Owner>, numbers: &List<u32>) -> bool
     requires { AreOwners code.now owners.now }
-    ensures { result ≡ true → (p : ℕ) (a : Area) → LiesIn code.now p a
-        → FallsFrom code.now numbers.now (instrs_before code.now first) p }
+    ensures { result ≡ true → RiseNowhere code.now numbers.now }
 {
-    let limit = before(code, first);
     let count = code.parts().instrs.len();
     for p in 0..count {
-        if has_owner(owners, p as u32) && !falls_from(code, numbers, limit, p as u32) {
+        if has_owner(owners, p as u32) && !falls_from(code, numbers, 0, p as u32) {
             return false;
         }
     }
     true
-}
-
-// The first instruction whose number stays on a way from it.
-fn first_staying(code: &Code, owners: &List<Owner>, numbers: &List<u32>) -> Option<u32> {
-    let count = code.parts().instrs.len();
-    for p in 0..count {
-        if has_owner(owners, p as u32) && !falls_from(code, numbers, count, p as u32) {
-            return Some(p as u32);
-        }
-    }
-    None
 }
 
 // ---- a search from an instruction
@@ -174,17 +148,6 @@ fn hurry(code: &Code, flags: &mut List<bool>, waiting: &mut Writer<u32>)
     }
 }
 
-// Flags an instruction, and what it leads to.
-fn go_on(code: &Code, flags: &mut List<bool>, waiting: &mut Writer<u32>, q: u32)
-    requires there { q < length flags.old }
-    requires new { flag_at flags.old q ≡ false }
-    ensures { (s : ℕ) → AreFlagsReached code.now s flags.old → HasFreePath code.now s q
-        → AreFlagsReached code.now s flags.new × (gaps flags.new < gaps flags.old) }
-{
-    flag(flags, waiting, Some(q));
-    hurry(code, flags, waiting);
-}
-
 // What an instruction leads to in one or more steps.
 fn reach(code: &Code, start: u32) -> Result<List<bool>, Memory>
     ensures { IfOk result (λ flags. AreFlagsReached code.now start flags × HasGoneOn code.now start flags) }
@@ -198,43 +161,43 @@ fn reach(code: &Code, start: u32) -> Result<List<bool>, Memory>
             None => return Ok(flags),
             Some(q) => q,
         };
-        go_on(code, &mut flags, &mut waiting, q);
+        flag(&mut flags, &mut waiting, Some(q));
+        hurry(code, &mut flags, &mut waiting);
         if waiting.is_lost {
             return Err(Memory);
         }
     }
 }
 
-// Whether V9 is broken at an instruction.
-fn breaks(code: &Code, owners: &List<Owner>, p: u32) -> Result<bool, Memory>
-    requires { AreOwners code.now owners.now }
+// Whether V9 is broken at an instruction: not where its number falls on each way, and else a search says it.
+fn breaks(code: &Code, owners: &List<Owner>, numbers: &List<u32>, p: u32) -> Result<bool, Memory>
+    requires owners { AreOwners code.now owners.now }
+    requires numbers { RiseNowhere code.now numbers.now }
     ensures { IfOk result (λ b. IsTrue b ↔ BreaksV9 code.now p) }
 {
     if !has_owner(owners, p) {
+        return Ok(false);
+    }
+    if falls_from(code, numbers, p as usize + 1, p) {
         return Ok(false);
     }
     let flags = have!(reach(code, p));
     Ok(flag_at(&flags, p as usize))
 }
 
-fn breaks_at(code: &Code, owners: &List<Owner>, first: Option<u32>) -> Result<bool, Memory>
-    requires { AreOwners code.now owners.now }
-    ensures { IfOk result (λ b. b ≡ true → BreaksAt code.now first) }
-{
-    match first {
-        None => Ok(true),
-        Some(p) => breaks(code, owners, p),
-    }
-}
-
-// The least instruction at which V9 is broken, by a search from each.
-fn first_broken(code: &Code, owners: &List<Owner>) -> Result<Option<u32>, Memory>
-    requires { AreOwners code.now owners.now }
+// The least instruction at which V9 is broken.
+fn first_broken(
+    code: &Code,
+    owners: &List<Owner>,
+    numbers: &List<u32>,
+) -> Result<Option<u32>, Memory>
+    requires owners { AreOwners code.now owners.now }
+    requires numbers { RiseNowhere code.now numbers.now }
     ensures { IfOk result (λ first. IsLeast (BreaksV9 code.now) first) }
 {
     let count = code.parts().instrs.len();
     for p in 0..count {
-        let broken = have!(breaks(code, owners, p as u32));
+        let broken = have!(breaks(code, owners, numbers, p as u32));
         if broken {
             return Ok(Some(p as u32));
         }
@@ -249,15 +212,11 @@ pub fn first_round(code: &Code, owners: &List<Owner>) -> Result<Option<u32>, Mem
     requires { AreOwners code.now owners.now }
     ensures { IfOk result (λ first. IsLeast (BreaksV9 code.now) first) }
 {
-    // By components the answer takes a few passes. It is checked: should it not hold, a search from each instruction
-    // answers.
-    let numbers = have!(components(code, owners));
-    let first = first_staying(code, owners, &numbers);
-    let falls = fall(code, owners, &numbers, first);
-    let broken = have!(breaks_at(code, owners, first));
-    if falls && broken {
-        Ok(first)
-    } else {
-        first_broken(code, owners)
+    // By the numbers of components one search is enough: the number falls at each instruction before the first one.
+    // They are a guess. Without numbers each instruction is searched from.
+    let mut numbers = have!(components(code, owners));
+    if !never_rise(code, owners, &numbers) {
+        numbers.truncate(0);
     }
+    first_broken(code, owners, &numbers)
 }

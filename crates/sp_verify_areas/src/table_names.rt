@@ -1,10 +1,10 @@
 //! Tables that not exactly one instruction of an area names: a point of rule V1.
 
-ghost use Rattle.std.specs.Prelude.{◌≡◌, ◌+◌, ◌<◌, Some, IfOk, length, slice_get};
+ghost use Rattle.std.specs.Prelude.{◌≡◌, ◌+◌, ◌<◌, IfOk, length};
 ghost use Rattle.sp_verify_rules.specs.NameRules.{Unnamed};
 ghost use Rattle.sp_verify_areas.specs.Alone.{ChildFails};
 ghost use Rattle.sp_verify_areas.specs.LeastPlaces.{IsLeast};
-ghost use Rattle.sp_verify_areas.specs.Namers.{AreNamers, is_lost, none_yet, with_namer_of, with_namer};
+ghost use Rattle.sp_verify_areas.specs.Namers.{AreNamers, is_lost, with_namer_of, with_namer};
 ghost use Rattle.sp_verify_areas.specs.Owners.{AreOwners};
 
 use crate::have;
@@ -13,7 +13,6 @@ use crate::owners::{Owner, is_same, table_named};
 use crate::placement::instr_of;
 use sp_base::{List, Memory};
 use sp_code::{ChildTable, Code};
-use std::alloc::Global;
 
 /// Which instructions name a table.
 #[derive(Clone, Copy)]
@@ -32,8 +31,7 @@ fn with_namer(w: Namer, p: u32) -> Namer
 {
     match w {
         Namer::Nothing => Namer::One(p),
-        Namer::One(_) => Namer::Several,
-        Namer::Several => Namer::Several,
+        Namer::One(_) | Namer::Several => Namer::Several,
     }
 }
 
@@ -60,34 +58,6 @@ fn visit(code: &Code, namers: &mut List<Namer>, p: usize)
         None => {}
         Some(t) => note(namers, t, p as u32),
     }
-}
-
-// As if no instruction named one of so many tables.
-fn none_yet(alloc: Global, count: usize) -> Result<List<Namer>, Memory>
-    ensures { IfOk result (λ ws. ws ≡ none_yet count) }
-{
-    let none = have!(vec![in alloc; Namer::Nothing; count]);
-    Ok(List::of(none))
-}
-
-// Which instructions name each table.
-fn namers(code: &Code) -> Result<List<Namer>, Memory>
-    ensures { IfOk result (λ ws. AreNamers code.now (length code.now.instrs) ws) }
-{
-    let parts = code.parts();
-    let count = parts.instrs.len();
-    let mut namers = have!(none_yet(parts.instrs.alloc(), parts.forks.len()));
-    for p in 0..count {
-        visit(code, &mut namers, p);
-    }
-    Ok(namers)
-}
-
-fn namer_at(namers: &List<Namer>, table: usize) -> Namer
-    requires { table < length namers.now }
-    ensures { slice_get namers.now table ≡ Some result }
-{
-    namers.items()[table]
 }
 
 // Whether a table is at fault, by which instructions name it.
@@ -123,7 +93,7 @@ fn first_lost(code: &Code, owners: &List<Owner>, namers: &List<Namer>) -> Option
     let tables = code.parts().forks.items();
     let mut first = None;
     for t in 0..tables.len() {
-        let lost = is_lost(owners, namer_at(namers, t));
+        let lost = is_lost(owners, namers.items()[t]);
         let here = first_child(tables[t].children.items(), lost);
         first = least(first, here);
     }
@@ -136,6 +106,11 @@ pub fn first_unnamed(code: &Code, owners: &List<Owner>) -> Result<Option<u32>, M
     requires { AreOwners code.now owners.now }
     ensures { IfOk result (λ first. IsLeast (Unnamed code.now) first) }
 {
-    let namers = have!(namers(code));
+    let parts = code.parts();
+    let none = have!(vec![in parts.instrs.alloc(); Namer::Nothing; parts.forks.len()]);
+    let mut namers = List::of(none);
+    for p in 0..parts.instrs.len() {
+        visit(code, &mut namers, p);
+    }
     Ok(first_lost(code, owners, &namers))
 }

@@ -1,7 +1,7 @@
 //! What can be wrong with a table of children in itself.
 
 ghost use Rattle.std.specs.Prelude.{◌≡◌, Some, length, IfOk};
-ghost use Rattle.sp_verify_areas.specs.Alone.{AreFlags, ChildFails, ChildrenFail, TableFails, child_fails, first_fails};
+ghost use Rattle.sp_verify_areas.specs.Alone.{AreFlags, ChildFails, TableFails, child_fails, first_fails};
 ghost use Rattle.sp_verify_areas.specs.Alone.{flag_at, table_by};
 ghost use Rattle.sp_verify_areas.specs.LeastPlaces.{IsLeast, Upto};
 
@@ -75,21 +75,6 @@ fn first_of_forall(children: &[ChildTable], foralled: bool) -> Option<u32>
     }
 }
 
-// The least entry of a child that is wrong.
-fn first_of_table(
-    children: &[ChildTable],
-    count: usize,
-    forked: bool,
-    foralled: bool,
-) -> Option<u32>
-    ensures { IsLeast (ChildrenFail count forked foralled children.now) result }
-{
-    least(
-        first_child(children, count, forked),
-        first_of_forall(children, foralled),
-    )
-}
-
 /// The least entry of a child that is wrong, in all tables.
 pub(crate) fn first_in(
     tables: &[ForkTable],
@@ -103,7 +88,9 @@ pub(crate) fn first_in(
     for (t, table) in tables.iter().enumerate() {
         let forks = flag_at(forked, t);
         let foralls = flag_at(foralled, t);
-        let here = first_of_table(table.children.items(), count, forks, foralls);
+        let children = table.children.items();
+        let any = first_child(children, count, forks);
+        let here = least(any, first_of_forall(children, foralls));
         first = least(first, here);
     }
     first

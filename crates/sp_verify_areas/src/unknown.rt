@@ -13,7 +13,7 @@ ghost use Rattle.sp_verify_areas.specs.Unknown.{ChildUnknown, HasUnknown, IsBelo
 ghost use Rattle.sp_verify_areas.specs.Unknown.{UnknownOnly};
 
 use crate::have;
-use crate::hints::{Hint, Hints, depth_of, find_hints};
+use crate::hints::{Hint, Hints, find_hints};
 use crate::homes::Homes;
 use crate::owners::{Owner, table_number};
 use crate::placement::owner_at;
@@ -84,7 +84,7 @@ fn is_near(code: &Code, homes: &Homes, hints: &Hints, q: u32, x: u32) -> bool
     ensures { (a : Area) → LiesOnlyIn code.now q a → result ≡ true
         → some_has code.now.layouts x (homes_of code.now a) ≡ true }
 {
-    let depth = depth_of(&hints.depths, node_at(&homes.at, q as usize));
+    let depth = hints.depth(node_at(&homes.at, q as usize));
     let mut next = hints.last(x);
     for _try in 0..16 {
         let hint = match hints.hints.items.get(next as usize) {
@@ -258,21 +258,6 @@ fn after(
     }
 }
 
-// The first one, with hints.
-fn first_by(code: &Code, owners: &List<Owner>, homes: &Homes, hints: &Hints) -> Option<u32>
-    requires owners { AreOwners code.now owners.now }
-    requires homes { AreHomes code.now homes.now }
-    ensures { IsLeast (UnknownOnly code.now) result }
-{
-    let count = code.parts().instrs.len();
-    let mut first = None;
-    for q in 0..count {
-        let owner = owner_at(owners, q);
-        first = after(code, homes, hints, owner, q as u32, first);
-    }
-    first
-}
-
 /// The least entry of a child that is handed a variable, other than the input and the output, which nothing around its
 /// fork has, of the forks that lie in the code of one area alone. None where there is none. The only other answer is
 /// want of memory.
@@ -286,5 +271,11 @@ pub fn first_unknown(
     ensures { IfOk result (λ first. IsLeast (UnknownOnly code.now) first) }
 {
     let hints = have!(find_hints(code, &homes.nodes));
-    Ok(first_by(code, owners, homes, &hints))
+    let count = code.parts().instrs.len();
+    let mut first = None;
+    for q in 0..count {
+        let owner = owner_at(owners, q);
+        first = after(code, homes, &hints, owner, q as u32, first);
+    }
+    Ok(first)
 }

@@ -1,11 +1,12 @@
 use Rattle.std.proofs.Common.{◌≡◌, List, length, None, Some, ap, sym, ◌∙◌, subst, arith}
-use Rattle.std.specs.Prelude.{slice_get}
+use Rattle.std.specs.Prelude.{slice_get, slice_set}
 use Rattle.std.proofs.lemmas.Option.{slice_get_within}
 use Rattle.sp_base.proofs.Facts.{value_if_some}
 use Rattle.sp_code.specs.declared.code.ChildTable.{ChildTable}
 use Rattle.sp_code.specs.declared.code.Parts.{Parts}
 use Rattle.sp_verify_rules.specs.Areas.{instr_at, table_named}
-use Rattle.sp_verify_areas.specs.Around.{AreAttached, AttachesChildren, IsAttachedBy, node_of}
+use Rattle.sp_verify_areas.specs.Around.{AreAttached, AttachesChildren, IsAttachedBy, PutsChildren, node_of}
+use Rattle.sp_verify_areas.specs.declared.tree.Grown.{Grown}
 use Rattle.sp_verify_areas.specs.Grown.{node_at}
 use Rattle.sp_verify_areas.specs.Owners.{Owns}
 use Rattle.sp_verify_areas.proofs.TreeGrowth.{steps_none}
@@ -35,8 +36,8 @@ returns-in-None-get c =
     (attached_past code c.args.of_blocks.now c.args.owners.now c.args.q c.in-Some.t g (sym c.table_number.ensures
     ∙ c.in-Some.is) past)
 
-pub give_nodes-requires : goal.give_nodes-requires
-give_nodes-requires c =
+pub replace-none-requires : goal.replace-none-requires
+replace-none-requires c =
     let code = c.args.code.now in
     let tb = c.in-Some-get.table.now in
     let there : slice_get code.forks c.in-Some.t ≡ Some tb = ap (λ (z : Parts). slice_get z.forks c.in-Some.t)
@@ -60,9 +61,12 @@ returns c =
     ∙ is_none c.node_at.result (sym c.is_some.ensures ∙ c.if-is_some.false) in
     let owns : Owns code c.args.q c.owner_in-owner.result = subst (Owns code c.args.q) (sym c.owner_in-owner.ensures)
     (owner_there code c.args.owners.now c.args.q c.requires.owners (named_within code t c.args.q names)) in
-    let hangs : AttachesChildren g c.give_nodes.new.grown t c.in-Some-node_of.around tb.children =
-    subst (λ (ts : List ChildTable).
-    AttachesChildren g c.give_nodes.new.grown t c.in-Some-node_of.around ts) c.items.ensures c.in-Ok.ensures in
-    attached_step code c.args.of_blocks.now g c.give_nodes.new.grown c.requires.just t c.args.q
+    let new : Grown = record { nodes = c.put_children.new.nodes; of = c.replace-none.new.self } in
+    let hangs : AttachesChildren g new t c.in-Some-node_of.around tb.children = record {
+      of = c.replace-none.ensures.list ∙ ap (λ n. slice_set g.of t (Some n)) c.len-base.ensures;
+      puts = subst (λ (ts : List ChildTable). PutsChildren g.nodes new.nodes c.in-Some-node_of.around ts (length ts))
+          c.items.ensures c.in-Ok.ensures;
+    } in
+    attached_step code c.args.of_blocks.now g new c.requires.just t c.args.q
     c.in-Some-node_of.around tb
     c.owner_in-owner.result names owns node none there hangs c.args.owners.now

@@ -4,7 +4,7 @@ use Rattle.std.proofs.lemmas.Option.{slice_get_read}
 use Rattle.sp_code.specs.declared.code.Layout.{Layout}
 use Rattle.sp_code.specs.declared.code.Parts.{Parts}
 use Rattle.sp_verify_areas.specs.OrphanBlock.{AreDoubled}
-use Rattle.sp_verify_areas.proofs.orphan_block.doubled.Goals as goal
+use Rattle.sp_verify_areas.proofs.orphan_block.first_orphan_block.Goals as goal
 
 pub loop-item-preserved : goal.loop-item-preserved
 loop-item-preserved c =
@@ -15,13 +15,13 @@ loop-item-preserved c =
     let same : items ≡ ls = c.items-l-items.ensures ∙ ap (λ (z : Parts). z.layouts) c.parts-parts.ensures.same in
     let e : slice_get ls j ≡ Some l = ap (λ (xs : List Layout). slice_get xs j) (sym same)
     ∙ slice_get_read items (length items) j l refl c.loop-item-test.true c.l-item.is in
-    c.note.ensures ls l c.requires e refl c.loop-item.invariant
+    c.note.ensures ls l c.requires.blocks e refl c.loop-item.invariant
 
-pub returns : goal.returns
-returns c =
+pub first_lacking-requires-clause-flags : goal.first_lacking-requires-clause-flags
+first_lacking-requires-clause-flags c =
     let ls = c.args.code.now.layouts in
     let same : c.items-l-items.result.now ≡ ls = c.items-l-items.ensures
     ∙ ap (λ (z : Parts). z.layouts) c.parts-parts.ensures.same in
     let size = ap length same in
     let e : c.loop-item.item ≡ length ls = omega (arith, size) in
-    subst (λ n. AreDoubled ls c.loop-item.flags n) e c.loop-item.invariant
+    subst (λ n. AreDoubled ls c.loop-item.doubled n) e c.loop-item.invariant

@@ -3,7 +3,7 @@ use Rattle.sp_code.specs.declared.code.Parts.{Parts}
 use Rattle.sp_verify_areas.specs.LeastPlaces.{IsLeast, Upto}
 use Rattle.sp_verify_areas.specs.Unknown.{UnknownBy}
 use Rattle.sp_verify_areas.proofs.KnownVariables.{all_unknown}
-use Rattle.sp_verify_areas.proofs.unknown.first_by.Goals as goal
+use Rattle.sp_verify_areas.proofs.unknown.first_unknown.Goals as goal
 
 pub returns : goal.returns
 returns c =
