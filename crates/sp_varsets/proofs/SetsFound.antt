@@ -183,8 +183,20 @@ if_found c start walk bodies reach numbers slots writes are reaches (Err e) h = 
 if_found c start walk bodies reach numbers slots writes are reaches (Ok s) h =
     let (hidden, declared, targets, seen) = reaches.declared in
     let (free, free_is, stops) = reaches.free in
-    are_sets c start walk (record { alloc = walk.alloc; pool = h.entries.0; slots = walk.slots; known = walk.known })
-    (record { alloc = walk.alloc; pool = s.pool; slots = walk.slots; known = walk.known }) bodies hidden free
+    are_sets c start walk (record {
+      alloc = walk.alloc;
+      pool = h.entries.0;
+      slots = walk.slots;
+      known = walk.known;
+      is_lost = walk.is_lost;
+    })
+    (record {
+      alloc = walk.alloc;
+      pool = s.pool;
+      slots = walk.slots;
+      known = walk.known;
+      is_lost = walk.is_lost;
+    }) bodies hidden free
     targets.closes.0 reach.targets seen.closes.0 reach.seen stops.closes.0 reach.stops s.statements
     s.blocks s.stops s.nothing
     (record {

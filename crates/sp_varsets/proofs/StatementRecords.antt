@@ -1,7 +1,7 @@
 -- What is recorded of statements, one after another.
 use Rattle.std.proofs.Common.{◌≡◌, ◌≢◌, ◌↔◌, ◌⊎◌, ℕ, zero, suc, ◌+◌, ◌<◌, ◌≤◌, true, List, [], ◌∷◌, map, drop}
 use Rattle.std.proofs.Common.{length, get_or, set, refl, sym, ap, subst, ◌∙◌, arith, rules, inl, inr, add-one, Option}
-use Rattle.std.proofs.Common.{Some, Bool, ◌||◌, Result, OnOk, is_err}
+use Rattle.std.proofs.Common.{Some, Bool, false, ◌||◌}
 use Rattle.std.proofs.lemmas.Bool.{cases_eq, or_parts}
 use Rattle.std.proofs.lemmas.Option.{same_Some}
 use Rattle.sp_base.specs.declared.place.Place.{Place}
@@ -23,7 +23,7 @@ use Rattle.sp_varsets.specs.AddedUses.{AddsUses, AreEmpty, AreUnions, IsWithout}
 use Rattle.sp_varsets.specs.Parts.{number_of, IsPart, IsInForm}
 use Rattle.sp_varsets.specs.Records.{Extends, IsSetOfIndex, Records, slot_at, RecordsStatements, RecordsSets}
 use Rattle.sp_varsets.specs.Walks.{AddsAndRecords}
-use Rattle.sp_varsets.proofs.AddedSets.{HasUses, adds_then, adds_nothing, adds_unless, went_well}
+use Rattle.sp_varsets.proofs.AddedSets.{HasUses, adds_then, adds_nothing, adds_unless}
 use Rattle.sp_varsets.proofs.AddedSets.{from_empty, merged, without}
 
 pub extends_self : (pool : List VarSet) → Extends pool pool
@@ -279,10 +279,9 @@ arms_end [] (suc i) h = refl
 arms_end (c ∷ bs) zero h = absurd (omega arith)
 arms_end (c ∷ bs) (suc i) h = arms_end bs i (omega arith)
 
-pub statement_walked : {w v x : Walk} {a b e m : Uses} {E : Type 0} (n : ℕ) (at : Place) (f : p.Form)
-    (r : Result (Unit {0}) E) (failed : Bool) → AreEmpty e
+pub statement_walked : {w v x : Walk} {a b e m : Uses} (n : ℕ) (at : Place) (f : p.Form) (failed : Bool) → AreEmpty e
     → AddsAndRecords w v e m (In_stmt (bare_statement_form f)) (λ t. IsInForm t f) → AreUnions a m b
-    → OnOk r (RecordsSets v x n m) → failed ≡ is_err r
+    → (failed ≡ false → RecordsSets v x n m)
     → AddsAndRecords w x a (record {
       targets = b.targets;
       expressions = b.expressions;
@@ -291,13 +290,13 @@ pub statement_walked : {w v x : Walk} {a b e m : Uses} {E : Type 0} (n : ℕ) (a
       is_lost = b.is_lost || failed;
     }) (In_stmt (bare_statement (p.Does n at f)))
     (λ t. IsPart t (p.Does n at f))
-statement_walked {w} {v} {x} {a} {b} {e} {m} {E} n at f r failed empty walked union recorded is = record {
+statement_walked {w} {v} {x} {a} {b} {e} {m} n at f failed empty walked union recorded = record {
   adds = adds_unless failed (merged (λ l. from_empty empty walked.adds l) union);
   writes = λ k.
       let (held, well) = or_parts b.is_lost failed k in
       let l = (union.kept held).1 in
       writes_as (writes_then (walked.writes l) (kept_writes (p.Does n at f) (from_empty empty walked.adds l)
-      (went_well r failed recorded is well)))
+      (recorded well)))
       (λ t s. elim s [ inl i ↦ inr i | inr e ↦ inl e ])
       (λ t s. elim s [ inl e ↦ inr e | inr i ↦ inl i ]);
 }
@@ -313,22 +312,20 @@ element_walked y s empty walked targets seen calls stops lost union =
       writes = λ l. walked.writes (sym lost ∙ (union.kept l).1);
     }
 
-pub keeps_is : (old new : Walk) (p1 p2 p3 : List VarSet) (slots : List (Option StatementSets)) (n i j k : ℕ)
-    (uses : Uses)
+pub keeps_is : (old new : Walk) (p1 p2 p3 : List VarSet) (n i j k : ℕ) (uses : Uses)
     → Extends old.pool p1 → IsSetOfIndex p1 i (λ x. has uses.targets x ≡ true) → Extends p1 p2
     → IsSetOfIndex p2 j (λ x. has uses.expressions x ≡ true) → Extends p2 p3
     → IsSetOfIndex p3 k (λ x. has uses.calls x ≡ true)
-    → new.pool ≡ p3 → ((m : ℕ) → slot_at slots m ≡ slot_at old.slots m) → n < length slots
-    → new.slots ≡ set slots n (Some (record { targets = i; expressions = j; calls = k })) → RecordsSets old new n uses
-keeps_is old new p1 p2 p3 slots n i j k uses e1 s1 e2 s2 e3 s3 pool same room list = record {
+    → new.pool ≡ p3 → slot_at new.slots n ≡ Some (record { targets = i; expressions = j; calls = k })
+    → ((m : ℕ) → m ≢ n → slot_at new.slots m ≡ slot_at old.slots m) → RecordsSets old new n uses
+keeps_is old new p1 p2 p3 n i j k uses e1 s1 e2 s2 e3 s3 pool there others = record {
   pool = subst (λ q. Extends old.pool q) (sym pool) (extends_then e1 (extends_then e2 e3));
   slot = (
     record { targets = i; expressions = j; calls = k },
-    ap (λ z. slot_at z n) list ∙ slot_put slots n (record { targets = i; expressions = j; calls = k }) room,
+    there,
     subst (λ q. IsSetOfIndex q i (λ x. has uses.targets x ≡ true)) (sym pool) (stands_more e3 (stands_more e2 s1)),
     subst (λ q. IsSetOfIndex q j (λ x. has uses.expressions x ≡ true)) (sym pool) (stands_more e3 s2),
     subst (λ q. IsSetOfIndex q k (λ x. has uses.calls x ≡ true)) (sym pool) s3,
   );
-  others = λ m away. ap (λ z. slot_at z m) list
-      ∙ (slot_other slots n m (Some (record { targets = i; expressions = j; calls = k })) away ∙ same m);
+  others = others;
 }

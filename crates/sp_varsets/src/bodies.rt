@@ -5,7 +5,7 @@ ghost use Rattle.std.specs.Prelude.{map, length};
 ghost use Rattle.sp_tree.specs.Bare.{without_places};
 ghost use Rattle.sp_tree.specs.CheckedOf.{block_of, program_of};
 ghost use Rattle.sp_varsets.specs.AreSets.{HaveEarlierParents};
-ghost use Rattle.sp_varsets.specs.Bodies.{IsInBlocks, AreBodies, AppendsRows, AppendsBody, Declares, AreDeclared};
+ghost use Rattle.sp_varsets.specs.Bodies.{IsInBlocks, AreBodies, AppendsBody, Declares, AreDeclared};
 ghost use Rattle.sp_varsets.specs.Paths.{member};
 ghost use Rattle.sp_varsets.specs.Records.{RecordsStatements};
 
@@ -19,13 +19,24 @@ use std::alloc::Global;
 
 /// What stands in the statement part of each block, by its number. Bodies that were refused memory are lost: what they
 /// have is no answer.
-#[derive(Drop)]
 pub(crate) struct Bodies {
     pub targets: List<VarSet>,
     pub expressions: List<VarSet>,
     pub calls: List<VarSet>,
     pub stops: List<VarSet>,
     pub is_lost: bool,
+}
+
+impl Drop for Bodies {
+    fn drop(self) {
+        let Bodies {
+            targets: _,
+            expressions: _,
+            calls: _,
+            stops: _,
+            is_lost: _,
+        } = self;
+    }
 }
 
 /// Walks through the statement parts of all blocks.
@@ -58,25 +69,7 @@ impl Bodies {
     {
         let mut uses = Uses::new(walk.alloc);
         walk.statement(&mut uses, &block.body);
-        self.put(uses);
-    }
-
-    // Puts the sets of the next block last.
-    fn put(&mut self, uses: Uses)
-        ensures { AppendsRows self.old self.new uses }
-    {
-        let Uses {
-            targets,
-            expressions,
-            calls,
-            stops,
-            is_lost,
-        } = uses;
-        self.is_lost |= is_lost;
-        self.is_lost |= self.targets.push(targets).is_err();
-        self.is_lost |= self.expressions.push(expressions).is_err();
-        self.is_lost |= self.calls.push(calls).is_err();
-        self.is_lost |= self.stops.push(stops).is_err();
+        uses.put_last(self);
     }
 }
 

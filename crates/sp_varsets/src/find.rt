@@ -21,11 +21,20 @@ use std::alloc::Global;
 
 /// What paths of calls lead to from each block: target variables, expression variables, and statements that a function
 /// may not have.
-#[derive(Drop)]
 pub(crate) struct Reach {
     pub targets: List<VarSet>,
     pub seen: List<VarSet>,
     pub stops: List<VarSet>,
+}
+
+impl Drop for Reach {
+    fn drop(self) {
+        let Reach {
+            targets: _,
+            seen: _,
+            stops: _,
+        } = self;
+    }
 }
 
 // The rows but for what is hidden in them, with what paths of calls lead to.
@@ -71,26 +80,38 @@ fn reached(alloc: Global, checked: &Checked, bodies: &Bodies) -> Result<Reach, M
     })
 }
 
-// The sets, from what is recorded of statements and from the rows.
-fn pooled(walk: Walk, reach: &Reach) -> Result<Sets, Memory>
-    requires within { AreWithin walk }
-    requires targets { length reach.now.targets ≤ 2 ^ 32 }
-    requires seen { length reach.now.seen ≡ length reach.now.targets }
-    ensures { IfOk result (λ s. ArePooled walk reach.now s) }
-{
-    let mut walk = walk;
-    let targets = reach.targets.items();
-    let seen = reach.seen.items();
-    let statements = take!(statement_entries(&mut walk, targets, seen));
-    let blocks = take!(row_entries(&mut walk, targets, seen));
-    let stops = take!(flags(walk.alloc, reach.stops.items()));
-    Ok(Sets {
-        nothing: VarSet::new(walk.alloc),
-        pool: walk.pool,
-        statements,
-        blocks,
-        stops,
-    })
+impl Walk {
+    // The sets, from what is recorded of statements and from the rows.
+    fn pooled(self, reach: &Reach) -> Result<Sets, Memory>
+        requires within { AreWithin self }
+        requires targets { length reach.now.targets ≤ 2 ^ 32 }
+        requires seen { length reach.now.seen ≡ length reach.now.targets }
+        ensures { IfOk result (λ s. ArePooled self reach.now s) }
+    {
+        let mut walk = self;
+        let targets = reach.targets.items();
+        let seen = reach.seen.items();
+        let statements = statement_entries(&mut walk, targets, seen);
+        let blocks = row_entries(&mut walk, targets, seen);
+        let stops = take!(flags(walk.alloc, reach.stops.items()));
+        let Walk {
+            alloc,
+            pool,
+            slots: _,
+            known: _,
+            is_lost,
+        } = walk;
+        if is_lost {
+            return Err(Memory);
+        }
+        Ok(Sets {
+            nothing: VarSet::new(alloc),
+            pool,
+            statements,
+            blocks,
+            stops,
+        })
+    }
 }
 
 /// The sets of each statement and each block of a tree whose statements have numbers of their own and whose blocks
@@ -109,5 +130,5 @@ pub fn sets_of(alloc: Global, checked: &Checked) -> Result<Sets, Memory>
     let mut walk = Walk::new(alloc);
     let bodies = take!(gather(&mut walk, checked.blocks.items()));
     let reach = take!(reached(alloc, checked, &bodies));
-    pooled(walk, &reach)
+    walk.pooled(&reach)
 }

@@ -1,21 +1,29 @@
 //! The pool of sets: an equal set that is found again is not put a second time, so that many statements with the same
 //! sets take no more memory than one.
 
-ghost use Rattle.std.specs.Prelude.{◌≡◌, true, OnOk, IfOk, IfSome};
+ghost use Rattle.std.specs.Prelude.{◌≡◌, true, false, IfSome};
 ghost use Rattle.sp_varsets.specs.Members.{has};
 ghost use Rattle.sp_varsets.specs.Records.{Extends, IsSetOfIndex};
 
 use crate::var_set::VarSet;
 use crate::walk::Walk;
-use sp_base::{List, Memory};
+use sp_base::List;
 use std::alloc::Global;
 
 /// A guess at where an equal set stands: for each sum of words the index of the set that was put last with this sum,
 /// and for each set the index of the one before it that has the same sum. 0 stands for none.
-#[derive(Drop)]
 pub(crate) struct Known {
     newest: List<u32>,
     before: List<u32>,
+}
+
+impl Drop for Known {
+    fn drop(self) {
+        let Known {
+            newest: _,
+            before: _,
+        } = self;
+    }
 }
 
 // Puts zeros last until there is a place of this number, or memory is refused.
@@ -80,16 +88,6 @@ impl VarSet {
     }
 }
 
-// So many sets, as the index of the last one.
-fn index_of(count: usize) -> Result<u32, Memory>
-    ensures { IfOk result (λ i. i ≡ count) }
-{
-    match u32::try_from(count) {
-        Ok(index) => Ok(index),
-        Err(_) => Err(Memory),
-    }
-}
-
 impl Walk {
     // Whether the set of this index has the same variables.
     fn stands_at(&self, index: u32, set: &VarSet) -> bool
@@ -119,29 +117,44 @@ impl Walk {
     }
 
     // Puts a set last into the pool.
-    fn append(&mut self, set: VarSet, sum: usize) -> Result<u32, Memory>
+    fn append(&mut self, set: VarSet, sum: usize) -> u32
+        ensures kept { self.new.is_lost ≡ false → self.old.is_lost ≡ false }
         ensures slots { self.new.slots ≡ self.old.slots }
-        ensures pool { OnOk result (Extends self.old.pool self.new.pool) }
-        ensures set { IfOk result (λ i. IsSetOfIndex self.new.pool i (λ x. has set x ≡ true)) }
+        ensures pool { self.new.is_lost ≡ false → Extends self.old.pool self.new.pool }
+        ensures set { self.new.is_lost ≡ false → IsSetOfIndex self.new.pool result (λ x. has set x ≡ true) }
     {
-        self.pool.push(set)?;
-        let index = index_of(self.pool.len())?;
-        self.known.note(sum, index);
-        Ok(index)
+        let count = self.pool.len();
+        if count > 4_294_967_294 {
+            self.is_lost = true;
+            return 0;
+        }
+        match self.pool.push(set) {
+            Ok(()) => {
+                let index = count as u32 + 1;
+                self.known.note(sum, index);
+                index
+            }
+            Err(_) => {
+                self.is_lost = true;
+                0
+            }
+        }
     }
 
-    // Puts a set into the pool, if no equal one is found there.
-    pub(crate) fn put(&mut self, set: VarSet) -> Result<u32, Memory>
+    // The index of this set, which is put into the pool if no equal one is found there. Where memory is refused the
+    // walk is lost.
+    pub(crate) fn put(&mut self, set: VarSet) -> u32
+        ensures kept { self.new.is_lost ≡ false → self.old.is_lost ≡ false }
         ensures slots { self.new.slots ≡ self.old.slots }
-        ensures pool { OnOk result (Extends self.old.pool self.new.pool) }
-        ensures set { IfOk result (λ i. IsSetOfIndex self.new.pool i (λ x. has set x ≡ true)) }
+        ensures pool { self.new.is_lost ≡ false → Extends self.old.pool self.new.pool }
+        ensures set { self.new.is_lost ≡ false → IsSetOfIndex self.new.pool result (λ x. has set x ≡ true) }
     {
         if set.is_empty() {
-            return Ok(0);
+            return 0;
         }
         let sum = set.sum();
         match self.find(&set, sum) {
-            Some(index) => Ok(index),
+            Some(index) => index,
             None => self.append(set, sum),
         }
     }

@@ -15,13 +15,24 @@ pub(crate) struct Entry {
 }
 
 /// The sets of the statements and blocks of a tree. Equal sets often stand once in the pool.
-#[derive(Drop)]
 pub struct Sets {
     pub(crate) nothing: VarSet,
     pub(crate) pool: List<VarSet>,
     pub(crate) statements: List<Entry>,
     pub(crate) blocks: List<Entry>,
     pub(crate) stops: List<bool>,
+}
+
+impl Drop for Sets {
+    fn drop(self) {
+        let Sets {
+            nothing: _,
+            pool: _,
+            statements: _,
+            blocks: _,
+            stops: _,
+        } = self;
+    }
 }
 
 impl Sets {

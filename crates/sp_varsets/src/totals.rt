@@ -51,27 +51,21 @@ impl Walk {
     }
 
     // Adds the set of this index.
-    fn add_pooled(&self, all: &mut VarSet, index: u32, nothing: &VarSet) -> Result<(), Memory>
-        requires nothing { (x : ℕ) → has nothing.now x ≡ false }
+    fn add_pooled(&self, all: &mut VarSet, index: u32) -> Result<(), Memory>
         ensures { OnOk result ((x : ℕ) → (has all.new x ≡ true)
             ↔ ((has all.old x ≡ true) ⊎ (pool_has self.now.pool index x ≡ true))) }
     {
         if index == 0 {
             return Ok(());
         }
-        let _grew = take!(add_row(all, self.pool.items(), index as usize - 1, nothing));
-        Ok(())
+        match self.pool.get(index as usize - 1) {
+            Some(set) => all.join(set),
+            None => Ok(()),
+        }
     }
 
     // Adds the rows of all blocks of the set of this index.
-    fn add_called(
-        &self,
-        all: &mut VarSet,
-        calls: u32,
-        rows: &[VarSet],
-        nothing: &VarSet,
-    ) -> Result<(), Memory>
-        requires nothing { (x : ℕ) → has nothing.now x ≡ false }
+    fn add_called(&self, all: &mut VarSet, calls: u32, rows: &[VarSet]) -> Result<(), Memory>
         requires small { length rows.now ≤ 2 ^ 32 }
         ensures { OnOk result ((x : ℕ) → (has all.new x ≡ true)
             ↔ ((has all.old x ≡ true) ⊎ ((f : ℕ) × (pool_has self.now.pool calls f ≡ true)
@@ -80,131 +74,106 @@ impl Walk {
         if calls == 0 {
             return Ok(());
         }
+        let nothing = VarSet::new(self.alloc);
         match self.pool.get(calls as usize - 1) {
-            Some(called) => {
-                take!(add_rows(all, called, rows, nothing));
-                Ok(())
-            }
+            Some(called) => add_rows(all, called, rows, &nothing),
             None => Ok(()),
         }
     }
 
     // The set of a statement's own positions, with what its calls carry. Without calls it is the same set.
-    fn total(
-        &mut self,
-        own: u32,
-        calls: u32,
-        rows: &[VarSet],
-        nothing: &VarSet,
-    ) -> Result<u32, Memory>
-        requires nothing { (x : ℕ) → has nothing.now x ≡ false }
+    fn total(&mut self, own: u32, calls: u32, rows: &[VarSet]) -> u32
         requires small { length rows.now ≤ 2 ^ 32 }
-        requires within { own ≤ length self.old.pool }
+        requires within { self.old.is_lost ≡ false → own ≤ length self.old.pool }
+        ensures kept { self.new.is_lost ≡ false → self.old.is_lost ≡ false }
         ensures slots { self.new.slots ≡ self.old.slots }
-        ensures pool { OnOk result (Extends self.old.pool self.new.pool) }
-        ensures set { IfOk result
-            (λ i. IsSetOfIndex self.new.pool i (λ x. IsInTotal self.old.pool rows.now own calls x)) }
+        ensures pool { self.new.is_lost ≡ false → Extends self.old.pool self.new.pool }
+        ensures set { self.new.is_lost ≡ false
+            → IsSetOfIndex self.new.pool result (λ x. IsInTotal self.old.pool rows.now own calls x) }
     {
         if calls == 0 {
-            return Ok(own);
+            return own;
         }
         let mut all = VarSet::new(self.alloc);
-        take!(self.add_pooled(&mut all, own, nothing));
-        take!(self.add_called(&mut all, calls, rows, nothing));
-        let i = take!(self.put(all));
-        Ok(i)
+        self.is_lost |= self.add_pooled(&mut all, own).is_err();
+        self.is_lost |= self.add_called(&mut all, calls, rows).is_err();
+        self.put(all)
     }
-}
 
-// A copy of a row in the pool.
-fn put_row(walk: &mut Walk, row: &VarSet, nothing: &VarSet) -> Result<u32, Memory>
-    requires nothing { (x : ℕ) → has nothing.now x ≡ false }
-    ensures slots { walk.new.slots ≡ walk.old.slots }
-    ensures pool { OnOk result (Extends walk.old.pool walk.new.pool) }
-    ensures set { IfOk result (λ i. IsSetOfIndex walk.new.pool i (λ x. has row.now x ≡ true)) }
-{
-    let mut copy = VarSet::new(walk.alloc);
-    let _grew = take!(copy.add(row, nothing));
-    let i = take!(walk.put(copy));
-    Ok(i)
-}
+    // The index of a copy of a row.
+    fn put_row(&mut self, row: &VarSet) -> u32
+        ensures kept { self.new.is_lost ≡ false → self.old.is_lost ≡ false }
+        ensures slots { self.new.slots ≡ self.old.slots }
+        ensures pool { self.new.is_lost ≡ false → Extends self.old.pool self.new.pool }
+        ensures set { self.new.is_lost ≡ false → IsSetOfIndex self.new.pool result (λ x. has row.now x ≡ true) }
+    {
+        let mut copy = VarSet::new(self.alloc);
+        self.is_lost |= copy.join(row).is_err();
+        self.put(copy)
+    }
 
-// The entry of what is recorded under one number.
-fn entry_of(
-    walk: &mut Walk,
-    sets: Option<StatementSets>,
-    targets: &[VarSet],
-    seen: &[VarSet],
-    nothing: &VarSet,
-) -> Result<Entry, Memory>
-    requires nothing { (x : ℕ) → has nothing.now x ≡ false }
-    requires targets { length targets.now ≤ 2 ^ 32 }
-    requires seen { length seen.now ≤ 2 ^ 32 }
-    requires within { (o : StatementSets) → sets ≡ Some o → IsWithin walk.old.pool o }
-    ensures slots { walk.new.slots ≡ walk.old.slots }
-    ensures pool { OnOk result (Extends walk.old.pool walk.new.pool) }
-    ensures entry { IfOk result (λ e. (o : StatementSets) → sets ≡ Some o
-        → IsEntry walk.old.pool walk.new.pool o targets.now seen.now e) }
-{
-    match sets {
-        None => Ok(Entry {
-            targets: 0,
-            expressions: 0,
-        }),
-        Some(sets) => {
-            let target_index = walk.total(sets.targets, sets.calls, targets, nothing)?;
-            let expression_index = walk.total(sets.expressions, sets.calls, seen, nothing)?;
-            Ok(Entry {
-                targets: target_index,
-                expressions: expression_index,
-            })
+    // The entry of what is recorded under one number.
+    fn entry_of(
+        &mut self,
+        sets: Option<StatementSets>,
+        targets: &[VarSet],
+        seen: &[VarSet],
+    ) -> Entry
+        requires targets { length targets.now ≤ 2 ^ 32 }
+        requires seen { length seen.now ≤ 2 ^ 32 }
+        requires within { self.old.is_lost ≡ false → (o : StatementSets) → sets ≡ Some o
+            → IsWithin self.old.pool o }
+        ensures kept { self.new.is_lost ≡ false → self.old.is_lost ≡ false }
+        ensures slots { self.new.slots ≡ self.old.slots }
+        ensures pool { self.new.is_lost ≡ false → Extends self.old.pool self.new.pool }
+        ensures entry { self.new.is_lost ≡ false → (o : StatementSets) → sets ≡ Some o
+            → IsEntry self.old.pool self.new.pool o targets.now seen.now result }
+    {
+        match sets {
+            None => Entry {
+                targets: 0,
+                expressions: 0,
+            },
+            Some(sets) => Entry {
+                targets: self.total(sets.targets, sets.calls, targets),
+                expressions: self.total(sets.expressions, sets.calls, seen),
+            },
         }
     }
 }
 
-/// An entry for each number under which a statement was recorded.
-pub(crate) fn statement_entries(
-    walk: &mut Walk,
-    targets: &[VarSet],
-    seen: &[VarSet],
-) -> Result<List<Entry>, Memory>
+/// An entry for each number under which a statement was recorded. Where memory is refused the walk is lost.
+pub(crate) fn statement_entries(walk: &mut Walk, targets: &[VarSet], seen: &[VarSet]) -> List<Entry>
     requires within { AreWithin walk.old }
     requires targets { length targets.now ≤ 2 ^ 32 }
     requires seen { length seen.now ≤ 2 ^ 32 }
-    ensures { IfOk result (λ entries. AreEntries walk.old.pool walk.new.pool walk.old.slots targets.now seen.now entries
-        (length walk.old.slots)) }
+    ensures { walk.new.is_lost ≡ false → AreEntries walk.old.pool walk.new.pool walk.old.slots targets.now seen.now
+        result (length walk.old.slots) }
 {
-    let nothing = VarSet::new(walk.alloc);
     let mut entries = List::new(walk.alloc);
     'slots: for n in 0..walk.slots.len() {
         let sets = walk.slot(n);
-        let entry = take!(entry_of(walk, sets, targets, seen, &nothing));
-        entries.push(entry)?;
+        let entry = walk.entry_of(sets, targets, seen);
+        walk.is_lost |= entries.push(entry).is_err();
     }
-    Ok(entries)
+    entries
 }
 
-/// An entry for each block, of the rows of both kinds.
-pub(crate) fn row_entries(
-    walk: &mut Walk,
-    targets: &[VarSet],
-    seen: &[VarSet],
-) -> Result<List<Entry>, Memory>
+/// An entry for each block, of the rows of both kinds. Where memory is refused the walk is lost.
+pub(crate) fn row_entries(walk: &mut Walk, targets: &[VarSet], seen: &[VarSet]) -> List<Entry>
     requires { length seen.now ≡ length targets.now }
-    ensures { IfOk result (λ entries. AreRowEntries walk.old.pool walk.new.pool targets.now seen.now entries
-        (length targets.now)) }
+    ensures { walk.new.is_lost ≡ false → (walk.old.is_lost ≡ false)
+        × AreRowEntries walk.old.pool walk.new.pool targets.now seen.now result (length targets.now) }
 {
-    let nothing = VarSet::new(walk.alloc);
     let mut entries = List::new(walk.alloc);
     'rows: for b in 0..targets.len() {
-        let target_index = take!(put_row(walk, &targets[b], &nothing));
-        let expression_index = take!(put_row(walk, &seen[b], &nothing));
-        entries.push(Entry {
-            targets: target_index,
-            expressions: expression_index,
-        })?;
+        let entry = Entry {
+            targets: walk.put_row(&targets[b]),
+            expressions: walk.put_row(&seen[b]),
+        };
+        walk.is_lost |= entries.push(entry).is_err();
     }
-    Ok(entries)
+    entries
 }
 
 /// Whether each row has 0.

@@ -6,10 +6,15 @@ ghost use Rattle.sp_varsets.specs.Members.{has, InWindow, union_has};
 use crate::var_set::VarSet;
 
 /// The union of the sets that were added, of the 8,256 variables from number `64 * first` on. It takes no memory.
-#[derive(Drop)]
 pub struct VarUnion {
     pub(crate) first: u32,
     pub(crate) words: [u64; 129],
+}
+
+impl Drop for VarUnion {
+    fn drop(self) {
+        let VarUnion { first: _, words: _ } = self;
+    }
 }
 
 impl VarUnion {

@@ -9,8 +9,10 @@ ghost use Rattle.sp_tree.specs.Plain.{Actuals};
 ghost use Rattle.sp_tree.specs.Uses.{Target, Seen, CallOf, Stop, In_expr, In_form, In_read, In_target, In_selectors};
 ghost use Rattle.sp_tree.specs.Uses.{In_actuals, In_width};
 ghost use Rattle.sp_varsets.specs.AddedUses.{AddsUses, AreEmpty, AreUnions, IsWithout, In_selector, In_actual};
+ghost use Rattle.sp_varsets.specs.Bodies.{AppendsRows};
 ghost use Rattle.sp_varsets.specs.Members.{has};
 
+use crate::bodies::Bodies;
 use crate::var_set::VarSet;
 use sp_tree::{Actual, Expr, ExprForm, Selector, Var};
 use std::alloc::Global;
@@ -30,13 +32,24 @@ macro_rules! take {
 /// What stands in a part of a tree: the variables of target positions and of expression positions, and the blocks
 /// that are called. `stops` has 0 where a statement stands there that a function may not have. Uses that were refused
 /// memory are lost: what they have is no answer. So a pass does not end at once, and has no branch for each call.
-#[derive(Drop)]
 pub(crate) struct Uses {
     pub targets: VarSet,
     pub expressions: VarSet,
     pub calls: VarSet,
     pub stops: VarSet,
     pub is_lost: bool,
+}
+
+impl Drop for Uses {
+    fn drop(self) {
+        let Uses {
+            targets: _,
+            expressions: _,
+            calls: _,
+            stops: _,
+            is_lost: _,
+        } = self;
+    }
 }
 
 impl Uses {
@@ -97,6 +110,24 @@ impl Uses {
     {
         self.targets.remove(variable);
         self.expressions.remove(variable);
+    }
+
+    /// Puts the sets last, as those of the next block.
+    pub(crate) fn put_last(self, bodies: &mut Bodies)
+        ensures { AppendsRows bodies.old bodies.new self }
+    {
+        let Uses {
+            targets,
+            expressions,
+            calls,
+            stops,
+            is_lost,
+        } = self;
+        bodies.is_lost |= is_lost;
+        bodies.is_lost |= bodies.targets.push(targets).is_err();
+        bodies.is_lost |= bodies.expressions.push(expressions).is_err();
+        bodies.is_lost |= bodies.calls.push(calls).is_err();
+        bodies.is_lost |= bodies.stops.push(stops).is_err();
     }
 
     #[cycle(uses)]

@@ -12,9 +12,14 @@ use std::mem;
 pub const MOST_WORDS: usize = 67_108_864;
 
 /// A set of variables, by their numbers. Its bits stand in words of 64, none where it is empty.
-#[derive(Drop)]
 pub struct VarSet {
     pub(crate) words: List<u64>,
+}
+
+impl Drop for VarSet {
+    fn drop(self) {
+        let VarSet { words: _ } = self;
+    }
 }
 
 impl VarSet {

@@ -1,6 +1,6 @@
 //! The pass over statements: what stands in each of them.
 
-ghost use Rattle.std.specs.Prelude.{◌≡◌, ℕ, ◌+◌, ◌<◌, Some, OnOk, IfOk, map, length};
+ghost use Rattle.std.specs.Prelude.{◌≡◌, ◌≢◌, ℕ, ◌+◌, false, Some, map, length};
 ghost use Rattle.sp_base.specs.declared.place.Place.{Place as APlace};
 ghost use Rattle.sp_tree.specs.PlainChecked as c;
 ghost use Rattle.sp_tree.specs.CheckedOf.{expression_of, variable_of, statement_of, statement_form_of, statements};
@@ -13,10 +13,9 @@ ghost use Rattle.sp_varsets.specs.Records.{RecordsSets, slot_at};
 ghost use Rattle.sp_varsets.specs.Walks.{WalksStatement, WalksForm, WalksStatements, WalksArms, WalksElement};
 
 use crate::pool::Known;
-use crate::take;
 use crate::uses::Uses;
 use crate::var_set::VarSet;
-use sp_base::{List, Memory};
+use sp_base::List;
 use sp_tree::{Arm, Expr, Form, Stmt, Var};
 use std::alloc::Global;
 
@@ -29,20 +28,15 @@ pub(crate) struct StatementSets {
     pub calls: u32,
 }
 
-/// The sets so far, each of them once, and what is recorded of each statement, by its number.
+/// The sets so far, each of them once, and what is recorded of each statement, by its number. A walk that was refused
+/// memory is lost: what it has is no answer.
 #[derive(Drop)]
 pub(crate) struct Walk {
     pub alloc: Global,
     pub pool: List<VarSet>,
     pub slots: List<Option<StatementSets>>,
     pub known: Known,
-}
-
-// The statement's number behind a first one.
-fn number_from(first: u32, i: usize) -> Result<usize, Memory>
-    ensures { IfOk result (λ n. n ≡ first + i) }
-{
-    (first as usize).checked_add(i).ok_or(Memory)
+    pub is_lost: bool,
 }
 
 impl Walk {
@@ -55,46 +49,51 @@ impl Walk {
             pool: List::new(alloc),
             slots: List::new(alloc),
             known: Known::new(alloc),
+            is_lost: false,
         }
     }
 
-    // Makes room for what is recorded under this number.
-    fn grow(&mut self, number: usize) -> Result<(), Memory>
+    // Records sets under this number.
+    #[tactic(auto, using(crate::proofs::StatementRecords::slot_put, crate::proofs::StatementRecords::slot_other))]
+    fn record(&mut self, number: usize, sets: StatementSets)
+        ensures kept { self.new.is_lost ≡ false → self.old.is_lost ≡ false }
         ensures pool { self.new.pool ≡ self.old.pool }
-        ensures same { OnOk result ((n : ℕ) → slot_at self.new.slots n ≡ slot_at self.old.slots n) }
-        ensures room { OnOk result (number < length self.new.slots) }
+        ensures there { self.new.is_lost ≡ false → slot_at self.new.slots number ≡ Some sets }
+        ensures others { self.new.is_lost ≡ false → (n : ℕ) → n ≢ number
+            → slot_at self.new.slots n ≡ slot_at self.old.slots n }
     {
         'slots: for _k in self.slots.len()..=number {
-            self.slots.push(None)?;
+            if self.slots.push(None).is_err() {
+                self.is_lost = true;
+                return;
+            }
         }
-        Ok(())
+        let _old = self.slots.replace(number, Some(sets));
     }
 
     // Puts the sets into the pool, and records them under this number.
-    fn keep(&mut self, number: usize, uses: &mut Uses) -> Result<(), Memory>
-        ensures { OnOk result (RecordsSets self.old self.new number uses.old) }
+    fn keep(&mut self, number: usize, uses: &mut Uses)
+        ensures { self.new.is_lost ≡ false → RecordsSets self.old self.new number uses.old }
     {
-        let targets = take!(self.put(uses.targets.take()));
-        let expressions = take!(self.put(uses.expressions.take()));
-        let calls = take!(self.put(uses.calls.take()));
-        take!(self.grow(number));
-        let _old = self.slots.replace(
-            number,
-            Some(StatementSets {
-                targets,
-                expressions,
-                calls,
-            }),
-        );
-        Ok(())
+        let targets = self.put(uses.targets.take());
+        let expressions = self.put(uses.expressions.take());
+        let calls = self.put(uses.calls.take());
+        let sets = StatementSets {
+            targets,
+            expressions,
+            calls,
+        };
+        self.record(number, sets);
     }
 
     // The same under the number that stands so far behind a first one.
-    fn keep_behind(&mut self, first: u32, i: usize, uses: &mut Uses) -> Result<(), Memory>
-        ensures { OnOk result (RecordsSets self.old self.new (first + i) uses.old) }
+    fn keep_behind(&mut self, first: u32, i: usize, uses: &mut Uses)
+        ensures { self.new.is_lost ≡ false → RecordsSets self.old self.new (first + i) uses.old }
     {
-        let number = take!(number_from(first, i));
-        self.keep(number, uses)
+        match (first as usize).checked_add(i) {
+            Some(number) => self.keep(number, uses),
+            None => self.is_lost = true,
+        }
     }
 
     /// Adds what stands in the statement, and records it and the statements inside it.
@@ -105,7 +104,8 @@ impl Walk {
         let mut mine = Uses::new(self.alloc);
         self.form(&mut mine, &s.form);
         into.merge(&mine);
-        into.is_lost |= self.keep(s.number as usize, &mut mine).is_err();
+        self.keep(s.number as usize, &mut mine);
+        into.is_lost |= self.is_lost;
     }
 
     #[cycle(walk)]
@@ -241,7 +241,8 @@ impl Walk {
         let mut mine = Uses::new(self.alloc);
         mine.send_through(through, value);
         into.merge(&mine);
-        into.is_lost |= self.keep_behind(first, i, &mut mine).is_err();
+        self.keep_behind(first, i, &mut mine);
+        into.is_lost |= self.is_lost;
     }
 
     // The single statements of several receives, in the same way.
@@ -266,6 +267,7 @@ impl Walk {
         let mut mine = Uses::new(self.alloc);
         mine.receive_through(through, variable);
         into.merge(&mine);
-        into.is_lost |= self.keep_behind(first, i, &mut mine).is_err();
+        self.keep_behind(first, i, &mut mine);
+        into.is_lost |= self.is_lost;
     }
 }

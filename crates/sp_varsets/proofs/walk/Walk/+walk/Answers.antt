@@ -203,5 +203,5 @@ pub statement-returns : goal.statement-returns
 statement-returns t c =
     let i = statement_is c.args.s.now in
     rw i (statement_walked (out-Stmt c.args.s.now).number (out-Stmt c.args.s.now).at
-    (statement_form_of (out-Stmt c.args.s.now).form) c.keep.result c.is_err.result c.new-mine.ensures c.form.ensures
-    c.merge.ensures c.keep.ensures c.is_err.ensures.value)
+    (statement_form_of (out-Stmt c.args.s.now).form) c.keep.new.self.is_lost c.new-mine.ensures c.form.ensures
+    c.merge.ensures c.keep.ensures)

@@ -5,25 +5,19 @@ use Rattle.sp_varsets.proofs.StatementRecords.{keeps_is}
 use Rattle.sp_varsets.proofs.walk.Walk.keep.Goals as goal
 
 pub returns : goal.returns
-returns c =
-    let targets = subst (λ s. IsSetOfIndex c.put.new.self.pool c.in-Ok.value (λ x. has s x ≡ true)) c.take.ensures
-    c.in-Ok.ensures.set in
-    let expressions = subst (λ s. IsSetOfIndex c.put-2.new.self.pool c.in-Ok-put.value (λ x. has s x ≡ true))
-    c.take-2.ensures
-    c.in-Ok-put.ensures.set in
-    let calls = subst (λ s. IsSetOfIndex c.put-3.new.self.pool c.in-Ok-put-2.value (λ x. has s x ≡ true))
-    c.take-3.ensures
-    c.in-Ok-put-2.ensures.set in
-    keeps_is c.args.self.now (record {
-      alloc = c.grow.new.self.alloc;
-      pool = c.grow.new.self.pool;
-      slots = c.replace-old.new.self;
-      known = c.grow.new.self.known;
-    })
-    c.put.new.self.pool c.put-2.new.self.pool c.put-3.new.self.pool c.grow.new.self.slots c.args.number
-    c.in-Ok.value c.in-Ok-put.value c.in-Ok-put-2.value c.args.uses.now
-    c.in-Ok.ensures.pool targets c.in-Ok-put.ensures.pool expressions c.in-Ok-put-2.ensures.pool calls
-    c.in-Ok-grow.ensures.pool
-    (λ m. c.in-Ok-grow.ensures.same m ∙ (ap (λ z. slot_at z m) c.in-Ok-put-2.ensures.slots
-    ∙ (ap (λ z. slot_at z m) c.in-Ok-put.ensures.slots ∙ ap (λ z. slot_at z m) c.in-Ok.ensures.slots)))
-    c.in-Ok-grow.ensures.room c.replace-old.ensures.list
+returns c k3 =
+    let k2 = c.record.ensures.kept k3 in
+    let k1 = c.put-calls.ensures.kept k2 in
+    let k = c.put-expressions.ensures.kept k1 in
+    let targets = subst (λ s. IsSetOfIndex c.put-targets.new.self.pool c.put-targets.result (λ x. has s x ≡ true))
+    c.take.ensures (c.put-targets.ensures.set k) in
+    let expressions = subst (λ s. IsSetOfIndex c.put-expressions.new.self.pool c.put-expressions.result
+    (λ x. has s x ≡ true)) c.take-2.ensures (c.put-expressions.ensures.set k1) in
+    let calls = subst (λ s. IsSetOfIndex c.put-calls.new.self.pool c.put-calls.result (λ x. has s x ≡ true))
+    c.take-3.ensures (c.put-calls.ensures.set k2) in
+    keeps_is c.args.self.now c.record.new.self c.put-targets.new.self.pool c.put-expressions.new.self.pool
+    c.put-calls.new.self.pool c.args.number c.put-targets.result c.put-expressions.result c.put-calls.result
+    c.args.uses.now (c.put-targets.ensures.pool k) targets (c.put-expressions.ensures.pool k1) expressions
+    (c.put-calls.ensures.pool k2) calls c.record.ensures.pool (c.record.ensures.there k3)
+    (λ m away. c.record.ensures.others k3 m away ∙ (ap (λ z. slot_at z m) c.put-calls.ensures.slots
+    ∙ (ap (λ z. slot_at z m) c.put-expressions.ensures.slots ∙ ap (λ z. slot_at z m) c.put-targets.ensures.slots)))
