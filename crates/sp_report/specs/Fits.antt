@@ -1,7 +1,7 @@
 -- None of this belongs to what the program promises: it is for contracts between crates.
 -- What a table of conditions holds, and that what processes wait for is there. No public contract cites these; the
 -- parts of the report of those that wait keep them.
-use Rattle.std.specs.Prelude.{ℕ, ◌+◌, ◌<◌, ◌≤◌, nat_eq, unwrap_or}
+use Rattle.std.specs.Prelude.{◌≡◌, ℕ, ◌+◌, ◌<◌, ◌≤◌, false, nat_eq, unwrap_or}
 use Rattle.std.specs.HashMap as hash
 use Rattle.sp_journal.specs.Births.{Births}
 use Rattle.sp_report.specs.declared.condition.Condition.{Condition}
@@ -16,6 +16,10 @@ table_conditions t = record {
   pending = λ c. hash.get nat_eq t.pending c;
   faulted = t.faulted;
 }
+
+-- if the new table is not lost, the old one was not, and the new one has these conditions
+abbrev pub Becomes : Table → Table → Conditions → Type 0
+Becomes old new t = new.is_lost ≡ false → (old.is_lost ≡ false) × (table_conditions new ≡ t)
 
 -- what a process waits for is there
 abbrev pub ConditionFits : Births → Condition → Type 0

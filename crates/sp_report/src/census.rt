@@ -1,12 +1,12 @@
 //! The watcher `Census`: how many entries of each kind a journal has.
 
-ghost use Rattle.std.specs.Prelude.{◌≡◌, [], IfOk, codes};
+ghost use Rattle.std.specs.Prelude.{◌≡◌, [], codes};
 ghost use Rattle.std.specs.List.{flat_map};
 ghost use Rattle.sp_report.specs.Census.{census_text, count_line, count_of, is_counted, kind_name, kinds};
 ghost use Rattle.sp_base.specs.Adds.{Adds};
 
 use crate::have;
-use crate::watcher::Watcher;
+use crate::watcher::{Watcher, put_text};
 use sp_base::{List, Memory, Writer};
 use sp_journal::{Entry, Event};
 use std::alloc::Global;
@@ -104,15 +104,6 @@ fn put_kinds(out: &mut Writer<u8>, entries: &[Entry])
     EntryKind::Laid.put(out, entries);
 }
 
-fn census_text(alloc: Global, entries: &[Entry]) -> Result<Vec<u8>, Memory>
-    ensures { IfOk result (λ text. text.items ≡ census_text entries.now) }
-{
-    let mut text = Writer::new(alloc);
-    text.extend(b"census\n");
-    put_kinds(&mut text, entries);
-    text.finish()
-}
-
 impl Watcher for Census {
     ghost told = { λ c. c.entries };
 
@@ -130,8 +121,9 @@ impl Watcher for Census {
     }
 
     fn finish(&mut self, out: &mut Vec<u8>) -> Result<(), Memory> {
-        let text = have!(census_text(self.alloc, self.entries.items()));
-        have!(out.extend_from_slice(text.as_slice()));
-        Ok(())
+        let mut text = Writer::new(self.alloc);
+        text.extend(b"census\n");
+        put_kinds(&mut text, self.entries.items());
+        put_text(out, text)
     }
 }

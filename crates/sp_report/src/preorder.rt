@@ -18,85 +18,65 @@ use sp_journal::Ledger;
 use std::alloc::Global;
 use std::cmp::Ordering;
 
-// For each process, its first child, and the child of its parent that comes next.
+// Processes in an order that is guessed, and the place of each in it.
 #[derive(Drop)]
-struct Links {
-    child: List<Option<u32>>,
-    next: List<Option<u32>>,
+struct Guess {
+    order: List<u32>,
+    places: List<u32>,
 }
 
-fn link_at(links: &List<Option<u32>>, process: u32) -> Option<u32> {
-    match links.get(process as usize) {
-        None => None,
-        Some(link) => *link,
+// The number there, or 0.
+fn number_at(numbers: &List<u32>, at: u32) -> u32 {
+    match numbers.get(at as usize) {
+        None => 0,
+        Some(number) => *number,
     }
 }
 
-// So many processes that are not linked.
-fn no_links(alloc: Global, count: usize) -> Result<Links, Memory> {
-    Ok(Links {
-        child: List::of(have!(vec![in alloc; None; count])),
-        next: List::of(have!(vec![in alloc; None; count])),
-    })
-}
-
-// Puts a process before the other children of its parent.
-fn link(links: &mut Links, process: u32, parent: u32) {
-    let before = link_at(&links.child, parent);
-    if (process as usize) < links.next.len() && (parent as usize) < links.child.len() {
-        let _none = links.next.replace(process as usize, before);
-        let _before = links.child.replace(parent as usize, Some(process));
+// Puts a number there, if there is such a place.
+fn put_at(numbers: &mut List<u32>, at: u32, number: u32) {
+    if (at as usize) < numbers.len() {
+        let _old = numbers.replace(at as usize, number);
     }
 }
 
-// The links of all, from the last process to the first.
-fn links_of(alloc: Global, ledger: &Ledger) -> Result<Links, Memory>
+// Puts a process, with all that come from it, behind its parent. What is behind each process is `next`; the last of all
+// that come from it is `last`, or 0 if none does.
+fn link(next: &mut List<u32>, last: &mut List<u32>, process: u32, parent: u32) {
+    let end = match number_at(last, process) {
+        0 => process,
+        end => end,
+    };
+    let behind = number_at(next, parent);
+    put_at(next, end, behind);
+    put_at(next, parent, process);
+    if behind == 0 {
+        put_at(last, parent, end);
+    }
+}
+
+// The processes behind the root, linked from the last one to the first, so that a child stands before its later
+// brothers, each with all that come from it.
+fn guessed(alloc: Global, ledger: &Ledger) -> Result<Guess, Memory>
     requires { IsLedger ledger.now }
 {
     let count = ledger.processes();
-    let mut links = have!(no_links(alloc, count as usize));
+    let mut next = List::of(have!(vec![in alloc; 0; count as usize]));
+    let mut places = List::of(have!(vec![in alloc; 0; count as usize]));
     for back in 1..count {
         let process = (count - back) as u32;
         if let Some(birth) = ledger.birth(process) {
-            link(&mut links, process, birth.parent);
+            link(&mut next, &mut places, process, birth.parent);
         }
     }
-    Ok(links)
-}
-
-// Puts a process on those that are still to come, if there is one.
-fn push_link(waiting: &mut List<u32>, link: Option<u32>) -> Result<(), Memory> {
-    if let Some(process) = link {
-        have!(waiting.push(process));
+    let mut order = List::of(have!(vec![in alloc; 0; (count - 1) as usize]));
+    let mut process = number_at(&next, 0);
+    for place in 0..count - 1 {
+        put_at(&mut order, place as u32, process);
+        put_at(&mut places, process, place as u32);
+        process = number_at(&next, process);
     }
-    Ok(())
-}
-
-// The processes from the first child of the root on, each with all that come from it before the next.
-fn guessed(alloc: Global, links: &Links) -> Result<List<u32>, Memory> {
-    let mut order = List::new(alloc);
-    let mut waiting = List::new(alloc);
-    have!(push_link(&mut waiting, link_at(&links.child, 0)));
-    for _step in 0..links.next.len() {
-        let Some(process) = waiting.pop() else {
-            return Ok(order);
-        };
-        have!(order.push(process));
-        have!(push_link(&mut waiting, link_at(&links.next, process)));
-        have!(push_link(&mut waiting, link_at(&links.child, process)));
-    }
-    Ok(order)
-}
-
-// The place of each process of the order.
-fn places_of(alloc: Global, order: &List<u32>, count: usize) -> Result<List<u32>, Memory> {
-    let mut places = List::of(have!(vec![in alloc; 0; count]));
-    for (place, process) in order.items().iter().enumerate() {
-        if (*process as usize) < places.len() && place < 4_294_967_296 {
-            let _old = places.replace(*process as usize, place as u32);
-        }
-    }
-    Ok(places)
+    Ok(Guess { order, places })
 }
 
 // Whether a process stands at its place.
@@ -233,14 +213,12 @@ pub(crate) fn rising_names(alloc: Global, ledger: &Ledger) -> Result<Option<List
         ≡ tree_lines (sorted_by_name (births ledger.now.journal.entries)
         (forked_processes (births ledger.now.journal.entries))))) }
 {
-    let links = have!(links_of(alloc, ledger));
-    let order = have!(guessed(alloc, &links));
+    let guess = have!(guessed(alloc, ledger));
     let count = ledger.processes();
-    let places = have!(places_of(alloc, &order, count as usize));
-    if !has_below(&order, &places, count) {
+    if !has_below(&guess.order, &guess.places, count) {
         return Ok(None);
     }
-    match have!(names_of(alloc, ledger, &order, &places)) {
+    match have!(names_of(alloc, ledger, &guess.order, &guess.places)) {
         None => Ok(None),
         Some(names) => {
             if rises(names.items()) {

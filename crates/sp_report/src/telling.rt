@@ -1,12 +1,12 @@
 //! The telling of a journal to the chosen ones of boxed watchers that are handed in.
 
-ghost use Rattle.std.specs.Prelude.{◌≡◌, ◌++◌, [], All, IfOk, OnOk};
+ghost use Rattle.std.specs.Prelude.{◌≡◌, [], All, IfOk};
+ghost use Rattle.sp_base.specs.Adds.{Adds};
 ghost use Rattle.sp_journal.specs.Births.{IsNameable};
 ghost use Rattle.sp_report.specs.WatcherReports.{AreFresh, is_chosen, reports};
 
-use crate::have;
 use crate::watcher::Watcher;
-use sp_base::{Memory, Show};
+use sp_base::{Memory, Show, Writer};
 use sp_journal::Journal;
 use std::alloc::Global;
 
@@ -24,15 +24,18 @@ fn is_chosen(show: Show, name: &str) -> bool
 }
 
 /// Tells the watcher every entry of the journal, and puts its text last into `out`.
-fn tell_one(watcher: &mut dyn Watcher, journal: &Journal, out: &mut Vec<u8>) -> Result<(), Memory>
+fn tell_one(watcher: &mut dyn Watcher, journal: &Journal, out: &mut Writer<u8>)
     requires fresh { told watcher.old ≡ [] }
     requires nameable { IsNameable journal.now }
-    ensures { OnOk result (out.new.items ≡ out.old.items ++ text watcher.old journal.now.entries) }
+    ensures { Adds out.old out.new (text watcher.old journal.now.entries) }
 {
     for entry in journal.entries.items() {
-        have!(watcher.see(entry));
+        if watcher.see(entry).is_err() {
+            return out.lose();
+        }
     }
-    watcher.finish(out)
+    let done = watcher.finish(&mut out.items);
+    out.note(done);
 }
 
 /// The texts of the chosen watchers over the journal, in the order in which they are handed in. Each chosen one is
@@ -47,12 +50,12 @@ pub fn tell(
     requires nameable { IsNameable journal.now }
     ensures { IfOk result (λ out. out.items ≡ reports text title watchers.items show journal.now.entries) }
 {
-    let mut out = Vec::new(alloc);
+    let mut out = Writer::new(alloc);
     for watcher in watchers {
         let mut watcher = watcher;
         if is_chosen(show, watcher.name()) {
-            have!(tell_one(&mut *watcher, journal, &mut out));
+            tell_one(&mut *watcher, journal, &mut out);
         }
     }
-    Ok(out)
+    out.finish()
 }

@@ -1,13 +1,13 @@
 //! The watcher `Timeline`: the entries of a journal with their indices.
 
-ghost use Rattle.std.specs.Prelude.{◌≡◌, ◌++◌, [], IfOk, codes, decimal, true};
+ghost use Rattle.std.specs.Prelude.{◌≡◌, ◌++◌, [], codes, decimal, true};
 ghost use Rattle.sp_journal.specs.Births.{IsNameable, first_births};
 ghost use Rattle.sp_report.specs.Nameable.{nameable_prop};
 ghost use Rattle.sp_report.specs.Timeline.{numbered_lines, timeline_text};
 ghost use Rattle.sp_base.specs.Adds.{Adds};
 
 use crate::have;
-use crate::watcher::Watcher;
+use crate::watcher::{Watcher, put_text};
 use sp_base::{List, Memory, Writer};
 use sp_journal::{Entry, Journal, print_journal};
 use std::alloc::Global;
@@ -57,19 +57,6 @@ fn put_numbered(out: &mut Writer<u8>, lines: &[u8])
     }
 }
 
-fn timeline_text(alloc: Global, journal: &Journal) -> Result<Vec<u8>, Memory>
-    requires { IsNameable journal.now }
-    ensures { IfOk result (λ text. text.items ≡ timeline_text journal.now.entries) }
-{
-    let printed = have!(print_journal(alloc, journal));
-    let lines = &printed.as_slice()[b"superpascal journal 2\n".len()..];
-    let mut text = Writer::new(alloc);
-    text.extend(b"timeline\n");
-    put_numbered(&mut text, lines);
-    let text = have!(text.finish());
-    Ok(text)
-}
-
 impl Watcher for Timeline {
     ghost told = { λ t. t.journal.entries };
 
@@ -86,8 +73,11 @@ impl Watcher for Timeline {
     }
 
     fn finish(&mut self, out: &mut Vec<u8>) -> Result<(), Memory> {
-        let text = have!(timeline_text(self.alloc, &self.journal));
-        have!(out.extend_from_slice(text.as_slice()));
-        Ok(())
+        let printed = have!(print_journal(self.alloc, &self.journal));
+        let lines = &printed.as_slice()[b"superpascal journal 2\n".len()..];
+        let mut text = Writer::new(self.alloc);
+        text.extend(b"timeline\n");
+        put_numbered(&mut text, lines);
+        put_text(out, text)
     }
 }

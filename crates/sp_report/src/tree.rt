@@ -1,7 +1,7 @@
 //! The watcher `ProcessTree`: the processes of a journal as a tree, in the order of their names. That is the order that
 //! `preorder.rt` finds; where it finds none, an ordered map under the names makes it.
 
-ghost use Rattle.std.specs.Prelude.{◌≡◌, ◌++◌, [], IfOk, OnOk, codes, decimal};
+ghost use Rattle.std.specs.Prelude.{◌≡◌, ◌++◌, [], IfOk, codes, decimal};
 ghost use Rattle.std.specs.List.{flat_map};
 ghost use Rattle.sp_journal.specs.Births.{IsNameable, first_births, births};
 ghost use Rattle.sp_journal.specs.Ledger.{IsLedger};
@@ -12,7 +12,7 @@ ghost use Rattle.sp_base.specs.Adds.{Adds};
 
 use crate::have;
 use crate::preorder::rising_names;
-use crate::watcher::Watcher;
+use crate::watcher::{Watcher, put_text};
 use sp_base::{List, Memory, Pair, ProcName, Writer};
 use sp_journal::{Entry, Journal, Ledger};
 use std::alloc::Global;
@@ -102,31 +102,19 @@ fn put_names(out: &mut Writer<u8>, names: &List<ProcName>)
 }
 
 /// Puts the lines of the processes but the root.
-fn put_forked(out: &mut Writer<u8>, alloc: Global, ledger: &Ledger) -> Result<(), Memory>
+fn put_forked(out: &mut Writer<u8>, alloc: Global, ledger: &Ledger)
     requires { IsLedger ledger.now }
-    ensures { OnOk result (Adds out.old out.new
-        (tree_lines (sorted_by_name (births ledger.now.journal.entries)
-        (forked_processes (births ledger.now.journal.entries))))) }
+    ensures { Adds out.old out.new (tree_lines (sorted_by_name (births ledger.now.journal.entries)
+        (forked_processes (births ledger.now.journal.entries)))) }
 {
-    match have!(rising_names(alloc, ledger)) {
-        Some(names) => put_names(out, &names),
-        None => {
-            let names = have!(forked(alloc, ledger));
-            put_lines(out, &names);
-        }
+    match rising_names(alloc, ledger) {
+        Ok(Some(names)) => put_names(out, &names),
+        Ok(None) => match forked(alloc, ledger) {
+            Ok(names) => put_lines(out, &names),
+            Err(Memory) => out.lose(),
+        },
+        Err(Memory) => out.lose(),
     }
-    Ok(())
-}
-
-fn tree_text(alloc: Global, journal: &Journal) -> Result<Vec<u8>, Memory>
-    requires { IsNameable journal.now }
-    ensures { IfOk result (λ text. text.items ≡ tree_text journal.now.entries) }
-{
-    let ledger = have!(Ledger::of(alloc, journal));
-    let mut text = Writer::new(alloc);
-    text.extend(b"tree\n0\n");
-    have!(put_forked(&mut text, alloc, &ledger));
-    text.finish()
 }
 
 impl Watcher for ProcessTree {
@@ -145,8 +133,10 @@ impl Watcher for ProcessTree {
     }
 
     fn finish(&mut self, out: &mut Vec<u8>) -> Result<(), Memory> {
-        let text = have!(tree_text(self.alloc, &self.journal));
-        have!(out.extend_from_slice(text.as_slice()));
-        Ok(())
+        let ledger = have!(Ledger::of(self.alloc, &self.journal));
+        let mut text = Writer::new(self.alloc);
+        text.extend(b"tree\n0\n");
+        put_forked(&mut text, self.alloc, &ledger);
+        put_text(out, text)
     }
 }

@@ -19,7 +19,7 @@ ghost use Rattle.sp_base.specs.Adds.{Adds};
 use crate::condition::Condition;
 use crate::have;
 use crate::table::Table;
-use crate::watcher::Watcher;
+use crate::watcher::{Watcher, put_text};
 use sp_base::{List, Memory, ProcName, Writer};
 use sp_journal::{Entry, Journal, Ledger};
 use std::alloc::Global;
@@ -62,10 +62,13 @@ fn after_all(alloc: Global, journal: &Journal) -> Result<Last, Memory>
     ensures fit { IfOk result (λ e. ConditionsFit (births journal.now.entries) (conditions journal.now.entries)) }
 {
     let mut ledger = Ledger::new(alloc);
-    let mut table = have!(Table::new(alloc));
+    let mut table = Table::new(alloc);
     for entry in journal.entries.items() {
-        have!(table.tell(&ledger, *entry));
+        table.tell(&ledger, *entry);
         have!(ledger.add(*entry));
+    }
+    if table.is_lost {
+        return Err(Memory);
     }
     Ok(Last { ledger, table })
 }
@@ -167,18 +170,6 @@ fn put_lines(out: &mut Writer<u8>, last: &Last, names: &BTreeMap<ProcName, u32>)
     }
 }
 
-fn waiting_text(alloc: Global, journal: &Journal) -> Result<Vec<u8>, Memory>
-    requires { IsNameable journal.now }
-    ensures { IfOk result (λ text. text.items ≡ waiting_text journal.now.entries) }
-{
-    let last = have!(after_all(alloc, journal));
-    let names = have!(waiting_processes(alloc, &last.ledger, &last.table));
-    let mut text = Writer::new(alloc);
-    text.extend(b"waiting\n");
-    put_lines(&mut text, &last, &names);
-    text.finish()
-}
-
 impl Watcher for Waiting {
     ghost told = { λ w. w.journal.entries };
 
@@ -195,8 +186,11 @@ impl Watcher for Waiting {
     }
 
     fn finish(&mut self, out: &mut Vec<u8>) -> Result<(), Memory> {
-        let text = have!(waiting_text(self.alloc, &self.journal));
-        have!(out.extend_from_slice(text.as_slice()));
-        Ok(())
+        let last = have!(after_all(self.alloc, &self.journal));
+        let names = have!(waiting_processes(self.alloc, &last.ledger, &last.table));
+        let mut text = Writer::new(self.alloc);
+        text.extend(b"waiting\n");
+        put_lines(&mut text, &last, &names);
+        put_text(out, text)
     }
 }

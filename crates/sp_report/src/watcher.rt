@@ -1,10 +1,11 @@
 //! What every watcher promises: the trait `Watcher`.
 
-ghost use Rattle.std.specs.Prelude.{◌≡◌, ◌++◌, ◌∷◌, [], List, OnErr, OnOk, ℕ};
+ghost use Rattle.std.specs.Prelude.{◌≡◌, ◌++◌, ◌∷◌, [], List, OnErr, OnOk, false, ℕ};
 ghost use Rattle.sp_journal.specs.Births.{NameableFrom, first_births};
 ghost use Rattle.sp_journal.specs.declared.entry.Entry.{Entry as AnEntry};
 
-use sp_base::Memory;
+use crate::have;
+use sp_base::{Memory, Writer};
 use sp_journal::Entry;
 
 /// A watcher is told the entries of a journal one by one and makes a text of them. What it means is the list of
@@ -37,4 +38,14 @@ pub trait Watcher: Drop {
         ensures text { text self.new ≡ text self.old }
         ensures title { title self.new ≡ title self.old }
         ensures same { OnErr result (self.new ≡ self.old) };
+}
+
+/// Puts what is written last into `out`: all of it, or nothing, if the writer is lost or memory is refused.
+pub(crate) fn put_text(out: &mut Vec<u8>, text: Writer<u8>) -> Result<(), Memory>
+    ensures ok { OnOk result ((text.is_lost ≡ false) × (out.new.items ≡ out.old.items ++ text.items.items)) }
+    ensures err { OnErr result (out.new.items ≡ out.old.items) }
+{
+    let bytes = have!(text.finish());
+    have!(out.extend_from_slice(bytes.as_slice()));
+    Ok(())
 }

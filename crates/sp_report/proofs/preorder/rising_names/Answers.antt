@@ -7,7 +7,7 @@ use Rattle.sp_report.proofs.preorder.rising_names.Goals as goal
 pub returns-then-rises : goal.returns-then-rises
 returns-then-rises c =
     let s = births c.args.ledger.now.journal.entries in
-    let order : List ℕ = c.in-Ok-guessed.value in
+    let order : List ℕ = c.in-Ok.value.order in
     let all = subst (λ o. MatchOption o (Unit {0}) (λ names. (names ≡ names_of s order) × AreForked s order))
     c.in-Some.is c.in-Ok-names_of.ensures in
     lines_rise s order c.in-Some.names c.processes-count.result c.processes-count.ensures.value

@@ -1,7 +1,10 @@
-use Rattle.std.proofs.Common.{refl, sym, subst, List}
+use Rattle.std.proofs.Common.{◌∙◌, ◌++◌, ℕ, refl, sym, subst, ap, ap₂, List}
+use Rattle.std.proofs.lemmas.List.{take_all}
 use contract.BorrowLft.{meet_⊑_right}
 use Rattle.sp_journal.specs.declared.entry.Entry.{Entry}
 use Rattle.sp_journal.specs.Births.{NameableFrom, first_births}
+use Rattle.sp_base.specs.declared.writer.Writer.{Writer}
+use Rattle.sp_base.proofs.Additions.{noted}
 use Rattle.sp_report.proofs.Prefixes.{nameable_next}
 use Rattle.sp_report.proofs.telling.tell_one.Goals as goal
 
@@ -19,3 +22,15 @@ see-requires g c κs = (
     ),
   ),
 )
+
+pub returns : goal.returns
+returns g c = λ kept.
+    let after = c.note.ensures kept in
+    let (so_far, same, unchanged) = c.loop-entry.invariant in
+    let told = so_far ∙ take_all c.loop-entry.entry-index c.items-entry-items.result.now c.loop-entry-test.false
+    ∙ c.items-entry-items.ensures in (
+      ap (λ (v : Writer ℕ). v.is_lost) (sym unchanged) ∙ after.0,
+      after.1.0 ∙ noted c.finish-done.result c.finish-done.ensures.0 after.1.1
+          ∙ ap₂ (λ (v : Writer ℕ) (t : List ℕ). v.items.items ++ t) unchanged
+          (ap₂ (λ (text : List Entry → List ℕ) (es : List Entry). text es) same told),
+    )

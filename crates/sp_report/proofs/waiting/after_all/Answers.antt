@@ -14,8 +14,10 @@ loop-entry-init c =
       c.new-ledger.ensures.ledger,
       c.new-ledger.ensures.empty,
       subst (NameableFrom first_births) (sym c.items-entry-items.ensures) c.requires,
-      ap (λ (t : Conditions). conditions_after_all first_births t es) c.in-Ok.ensures,
-      subst (ConditionsFit first_births) (sym c.in-Ok.ensures) first_fit,
+      λ kept. (
+        ap (λ (t : Conditions). conditions_after_all first_births t es) (c.new-table.ensures kept),
+        subst (ConditionsFit first_births) (sym (c.new-table.ensures kept)) first_fit,
+      ),
     )
 
 pub tell-requires-clause-next : goal.tell-requires-clause-next
@@ -37,13 +39,17 @@ loop-entry-preserved c =
     let es = c.items-entry-items.result.now in
     let i = c.loop-entry.entry-index in
     let l = c.loop-entry-test.true in
-    let (_, so_far, nameable, told, fit) = c.loop-entry.invariant in (
-      c.in-Ok-add.ensures.ledger,
+    let (_, so_far, nameable, table) = c.loop-entry.invariant in (
+      c.in-Ok.ensures.ledger,
       kept_whole es i l c.loop-entry.ledger.journal.entries c.add.new.self.journal.entries so_far
-          c.in-Ok-add.ensures.added,
+          c.in-Ok.ensures.added,
       still_nameable es i any_entry l nameable,
-      one_told es i l _ _ _ so_far c.in-Ok-tell.ensures told,
-      one_fits es i l _ _ _ so_far c.in-Ok-tell.ensures nameable fit,
+      λ kept.
+          let one = c.tell.ensures kept in
+          let (told, fit) = table one.0 in (
+            one_told es i l _ _ _ so_far one.1 told,
+            one_fits es i l _ _ _ so_far one.1 nameable fit,
+          ),
     )
 
 pub returns-clause-ledger : goal.returns-clause-ledger
@@ -58,7 +64,8 @@ pub returns-clause-table : goal.returns-clause-table
 returns-clause-table c =
     let es = c.items-entry-items.result.now in
     let t = table_conditions c.loop-entry.table in
-    let (_, _, _, told, _) = c.loop-entry.invariant in
+    let (_, _, _, table) = c.loop-entry.invariant in
+    let (told, _) = table c.if-table.false in
     sym (ap (conditions_after_all (births (take c.loop-entry.entry-index es)) t)
     (drop_all c.loop-entry.entry-index es c.loop-entry-test.false))
     ∙ told ∙ ap conditions c.items-entry-items.ensures
@@ -67,7 +74,8 @@ pub returns-clause-fit : goal.returns-clause-fit
 returns-clause-fit c =
     let es = c.items-entry-items.result.now in
     let whole = take_all c.loop-entry.entry-index es c.loop-entry-test.false ∙ c.items-entry-items.ensures in
-    let (_, _, _, told, fit) = c.loop-entry.invariant in
+    let (_, _, _, table) = c.loop-entry.invariant in
+    let (told, fit) = table c.if-table.false in
     let all_told = sym (ap (conditions_after_all (births (take c.loop-entry.entry-index es))
     (table_conditions c.loop-entry.table))
     (drop_all c.loop-entry.entry-index es c.loop-entry-test.false)) ∙ told

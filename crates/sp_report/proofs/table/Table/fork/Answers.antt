@@ -1,5 +1,5 @@
-use Rattle.std.proofs.Common.{◌≡◌, ◌≢◌, ◌∙◌, ◌+◌, ◌≤◌, ◌<◌, ◌&&◌, ◌==◌, ⊎_elim, ℕ, Bool, true, false, cond, nat_le}
-use Rattle.std.proofs.Common.{nat_lt, Option, Some, unwrap_or, refl, sym, ap, arith}
+use Rattle.std.proofs.Common.{◌≡◌, ◌≢◌, ◌∙◌, ◌+◌, ◌≤◌, ◌<◌, ◌&&◌, ◌==◌, ⊎_elim, ℕ, Bool, cond, nat_le}
+use Rattle.std.proofs.Common.{nat_lt, sym, ap, arith}
 use Rattle.std.proofs.lemmas.Bool.{cases_eq, ne_eqb}
 use Rattle.std.proofs.lemmas.Bool.Decides.{nat_tests}
 use Rattle.sp_journal.proofs.Facts.{between, here}
@@ -7,11 +7,6 @@ use Rattle.sp_report.specs.declared.condition.Condition.{Condition}
 use Rattle.sp_report.specs.declared.condition.Condition.TheVariants as condition
 use Rattle.sp_report.specs.Conditions.{Conditions}
 use Rattle.sp_report.proofs.table.Table.fork.Goals as goal
-
-put_in : (b : Bool) (v d : Condition) (o : Option Condition)
-    → unwrap_or (cond b (Some v) o) d ≡ cond b v (unwrap_or o d)
-put_in true v d o = refl
-put_in false v d o = refl
 
 same_test : (first q child : ℕ) → child ≢ q → nat_le first q && nat_lt q child ≡ nat_le first q && nat_lt q (child + 1)
 same_test first q child n = grind (arith, nat_tests)
@@ -31,13 +26,15 @@ one_runs first child q old x l e = ⊎_elim
     (cases_eq child q)
 
 pub loop-child-preserved : goal.loop-child-preserved
-loop-child-preserved c =
-    let h = c.loop-child.invariant in
-    let k = c.loop-child.child in λ i. record {
-      of = λ (q : ℕ).
-          (ap (λ (o : Option Condition). unwrap_or o condition.Unstarted) (c.in-Ok-insert.ensures.updates.0 q)
-          ∙ put_in (k == q) condition.Running condition.Unstarted _
-          ∙ one_runs _ k q _ _ c.loop-child.auto.child (ap (λ (t : Conditions). t.of q) h)) i;
-      pending = (h i).pending;
-      faulted = (h i).faulted;
-    }
+loop-child-preserved c = λ kept.
+    let one = c.becomes-in-loop-child.ensures kept in
+    let all = c.loop-child.invariant one.0 in (
+      all.0,
+      λ i. record {
+        of = λ (q : ℕ).
+            (ap (λ (t : Conditions). t.of q) one.1
+            ∙ one_runs _ c.loop-child.child q _ _ c.loop-child.auto.child (ap (λ (t : Conditions). t.of q) all.1)) i;
+        pending = (ap (λ (t : Conditions). t.pending) one.1 ∙ ap (λ (t : Conditions). t.pending) all.1) i;
+        faulted = (ap (λ (t : Conditions). t.faulted) one.1 ∙ ap (λ (t : Conditions). t.faulted) all.1) i;
+      },
+    )
