@@ -2,7 +2,7 @@
 use Rattle.std.proofs.Common.{◌≡◌, ◌≢◌, ℕ, zero, suc, ◌+◌, ◌≤◌, ◌<◌, List, [], ◌∷◌, ◌++◌, length, take, drop, get_or}
 use Rattle.std.proofs.Common.{replicate, Option, Some, None, Bool, true, false, refl, sym, ap, ◌∙◌, subst, arith}
 use Rattle.std.proofs.Common.{append_assoc}
-use Rattle.std.specs.Prelude.{Result, Ok, Err, IfOk, if◌then◌else◌, reverse, slice_get, nat_lt, nat_le, sum}
+use Rattle.std.specs.Prelude.{IfSome, if◌then◌else◌, reverse, slice_get, nat_lt, nat_le, sum}
 use Rattle.std.proofs.lemmas.List.{append-nil, reverse-append, drop_all, length-replicate}
 use Rattle.std.proofs.Math.Seq.{drop-cons}
 use Rattle.std.proofs.lemmas.Bool.{lt-ltb, le-ltb, eqb-true, leb-true, and_parts}
@@ -31,13 +31,12 @@ use Rattle.sp_machine.specs.declared.stack.Operand.TheVariants as operand
 use Rattle.sp_machine.specs.Arguments.{HasOwn, Takes, TakeAll}
 use Rattle.sp_machine.specs.StackEntries.{entry_of, entries_of, pointer_in}
 use Rattle.sp_code.specs.Sound.{run_of}
-use Rattle.sp_base.specs.declared.halt.Memory.{Memory as Refused}
 use Rattle.sp_machine.specs.declared.state.State.{State}
 use Rattle.sp_machine.specs.declared.state.Stop.{Stop}
 use Rattle.sp_code.specs.Formals.{HasRoom}
-use Rattle.sp_machine.specs.declared.state.Interrupt.{Interrupt}
-use Rattle.sp_machine.specs.declared.state.Interrupt.TheVariants as interrupt
-use Rattle.sp_machine.specs.Procs.{StepMatches, CameBy, stop_by, KeepsNumberAndInput, memory_of, code_run_of}
+use Rattle.sp_machine.specs.declared.state.Outcome.{Outcome}
+use Rattle.sp_machine.specs.declared.state.Outcome.TheVariants as outcome
+use Rattle.sp_machine.specs.Procs.{StepMatches, CameBy, told_by, KeepsNumberAndInput, memory_of, code_run_of}
 
 -- ---- arguments one after another
 
@@ -361,6 +360,11 @@ came_any (m.Stops t d) p s q (Some x) h w = w
 came_any (m.Fails f) p s q x h w = absurd h
 came_any m.Stuck p s q x h w = w
 
+came_told : (o : m.StepResult (Memory Plain)) (p s q : State) (t : Option (Option Stop)) → NeverFails o
+    → IfSome t (λ x. StepMatches o s q x) → IfSome t (λ x. StepMatches o p q x)
+came_told o p s q None h w = tt
+came_told o p s q (Some x) h w = came_any o p s q x h w
+
 entered_never : (g : CodeRun) (code : Parts) (l : Layout) (r : ℕ) (st : List m.Entry) (n : Memory Plain)
     → NeverFails (m.enter_step (memory plain g) code l r st n)
 entered_never g code l r st n = go l.answer (m.is_in_no_function st) ((memory plain g).due n)
@@ -399,18 +403,16 @@ module _ (p s q : State) (code : Parts) (lim : Limits) (l : Layout) (up : ℕ)
       ∙ ap (λ (n : Memory Plain). m.enter_step (memory plain (code_run_of s code lim)) code l (s.pc + 1)
       (entries_of s.stack) n) (sym opens)
 
-  pub call_came : (r : Result (Option Interrupt) Refused)
-      → IfOk r (λ x. CameBy (m.enter_step (memory plain (code_run_of s code lim)) code l (s.pc + 1) (entries_of s.stack)
-      (memory_of s)) s q x)
-      → IfOk r (λ x. CameBy (call (code_run_of p code lim) code l up (p.pc + 1) p.stack (memory_of p)) p q x)
-  call_came (Ok x) w = subst (λ (o : m.StepResult (Memory Plain)). CameBy o p q x)
+  pub call_came : (r : Outcome)
+      → CameBy (m.enter_step (memory plain (code_run_of s code lim)) code l (s.pc + 1) (entries_of s.stack)
+      (memory_of s)) s q r
+      → CameBy (call (code_run_of p code lim) code l up (p.pc + 1) p.stack (memory_of p)) p q r
+  call_came r w = subst (λ (o : m.StepResult (Memory Plain)). CameBy o p q r)
       (sym (call_done (code_run_of p code lim) code l up (p.pc + 1) p.stack (memory_of p) safe ticks depth cells
       ∙ alike))
-      (came_any _ p s q (stop_by q x) (entered_never (code_run_of s code lim) code l (s.pc + 1) (entries_of s.stack)
+      (came_told _ p s q (told_by q r) (entered_never (code_run_of s code lim) code l (s.pc + 1) (entries_of s.stack)
       (memory_of s)) w)
-  call_came (Err e) w = tt
 
 pub faulted : (o : m.StepResult (Memory Plain)) (f : Fault) (p : State) → o ≡ m.Fails f
-    → CameBy o p p (Some (interrupt.Fault f))
-faulted o f p e = subst (λ (x : m.StepResult (Memory Plain)). CameBy x p p (Some (interrupt.Fault f))) (sym e)
-    (refl, refl)
+    → CameBy o p p (outcome.Fault f)
+faulted o f p e = subst (λ (x : m.StepResult (Memory Plain)). CameBy x p p (outcome.Fault f)) (sym e) (refl, refl)

@@ -200,11 +200,11 @@ some_visible xs (suc v) h = omega arith
 
 -- ---- frames that are shared
 
-pub all_shared : (xs ys : List Frame) (v : ℕ) → ys ≡ [] → plain_frames (take v xs ++ ys) ≡ plain_frames (take v xs)
+all_shared : (xs ys : List Frame) (v : ℕ) → ys ≡ [] → plain_frames (take v xs ++ ys) ≡ plain_frames (take v xs)
 all_shared xs ys v e = ap (λ (zs : List Frame). plain_frames (take v xs ++ zs)) e
     ∙ ap plain_frames (append-nil (take v xs))
 
-pub all_gathered : (xs ys zs : List Frame) (v n : ℕ) → n ≡ length zs → zs ≡ take v xs ++ ys
+all_gathered : (xs ys zs : List Frame) (v n : ℕ) → n ≡ length zs → zs ≡ take v xs ++ ys
     → plain_frames (take v xs ++ ys) ≡ plain_frames (take n zs)
 all_gathered xs ys zs v n l e = ap plain_frames (sym e ∙ sym (take_all n zs (omega (arith, l))))
 

@@ -1,5 +1,5 @@
 -- From instructions to a turn.
-use Rattle.std.proofs.Common.{◌+◌, ◌∷◌, Option, Result, Ok, Err, IfOk, inl, inr, arith}
+use Rattle.std.proofs.Common.{◌+◌, ◌∷◌, Option, Result, Ok, Err, IfOk, IfSome, inl, inr, arith}
 use Rattle.std.specs.Prelude.{slice_get, IsTrue}
 use Rattle.std.proofs.Common.{◌≡◌, ◌≢◌, ℕ, zero, suc, ◌<◌, Bool, true, Some, None, refl, sym, ap, ◌∙◌, subst}
 use Rattle.sp_base.specs.declared.fault.Fault.{Fault}
@@ -20,13 +20,13 @@ use Rattle.sp_code.specs.Budgets.{left_by, ticks_left}
 use Rattle.sp_code.proofs.Falls.{falls}
 use Rattle.sp_code.proofs.TickCounts.{spends}
 use Rattle.sp_machine.specs.declared.state.State.{State}
-use Rattle.sp_machine.specs.declared.state.Interrupt.{Interrupt}
+use Rattle.sp_machine.specs.declared.state.Outcome.{Outcome}
 use Rattle.sp_machine.specs.declared.state.Stop.{Stop}
 use Rattle.sp_machine.specs.declared.state.Stop.TheVariants as stop
 use Rattle.sp_machine.specs.Procs.{step_at_config, IsSafeThen, WentTwice, Proceeded, CameBy, does, memory_of}
 use Rattle.sp_machine.specs.StackEntries.{entries_of}
 use Rattle.sp_machine.specs.Procs.{config_of, code_run_of, next_of, StepMatches}
-use Rattle.sp_machine.specs.Procs.{StopIs, FaultIs, IsRankedFrom, IsTurnOf}
+use Rattle.sp_machine.specs.Procs.{StopIs, FaultIs, IsRankedFrom, IsTurnOf, told_by}
 
 module _ (g : CodeRun) where
   abbrev ops : m.Ops (Memory Plain)
@@ -168,26 +168,26 @@ module _ (x : State) (code : Parts) (lim : Limits) (p : State) (input : p.input 
     ends_it s c = stopped (code_run_of x code lim) (config_of x) p q n b h x code lim refl refl s (next_of p code lim)
         (sym same_next) (safe_next n safe b h) c
 
+    -- so it ends where the outcome tells a stop: two instructions at once only go on
+    pub ends_by : (r : Outcome) (s : Stop) → told_by q r ≡ Some (Some s) → Proceeded p code lim q r
+        → IsTurnOf x code lim q s
+    ends_by r s e (inl c) = ends_it s (subst (λ (o : Option (Option Stop)). IfSome o
+        (λ (y : Option Stop). StepMatches (next_of p code lim) p q y)) e c)
+    ends_by r s e (inr h) = absurd (none_some (sym (ap (told_by q) h.0) ∙ e))
+      where
+        none_some : Some None ≡ Some (Some s) → ⊥
+        none_some k = cc
+
 -- what a turn did, whatever the state keeps of why it stopped
 pub turned_with : (x : State) (code : Parts) (lim : Limits) (q : State) (t s : Stop) → IsTurnOf x code lim q s
     → IsTurnOf x code lim (record q { stopped = t }) s
 turned_with x code lim q t (stop.Fork table v k) h = h
 turned_with _ _ _ _ _ _ h = h
 
--- one instruction came so, whatever it was
-pub once : (p : State) (code : Parts) (lim : Limits) (q : State) (r : Result (Option Interrupt) Refused)
-    → IfOk r (λ s. CameBy (next_of p code lim) p q s) → IfOk r (λ s. Proceeded p code lim q s)
-once p code lim q (Ok s) h = inl h
-once p code lim q (Err e) h = tt
-
--- only one instruction interrupts
-pub came_some : (p : State) (code : Parts) (lim : Limits) (q : State) (i : Interrupt)
-    → Proceeded p code lim q (Some i) → CameBy (next_of p code lim) p q (Some i)
-came_some p code lim q i (inl h) = h
-came_some p code lim q i (inr h) = absurd (none_some h.0)
-  where
-    none_some : Some i ≡ None → ⊥
-    none_some e = cc
+-- one instruction came so
+pub once : (p : State) (code : Parts) (lim : Limits) (q : State) (r : Outcome)
+    → CameBy (next_of p code lim) p q r → Proceeded p code lim q r
+once p code lim q r h = inl h
 
 -- an address pushed, and the ordinal there loaded
 module _ (p : State) (code : Parts) (lim : Limits) (a : Address) where

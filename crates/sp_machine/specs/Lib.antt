@@ -3,7 +3,6 @@ pub mod OperatorResults
 pub mod StackEntries
 pub mod Frames
 pub mod FirstFrames
-pub mod Outcomes
 pub mod Procs
 pub mod Conversions
 pub mod Texts

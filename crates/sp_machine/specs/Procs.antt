@@ -2,7 +2,7 @@
 -- A process in memory as the definitions see it, and what one instruction and one turn of it do. Each instruction's
 -- contract here is `StepMatches` of the definition's instruction, and the kernel and the runner cite the turn.
 use Rattle.std.specs.Prelude.{◌≡◌, ◌≢◌, ℕ, ◌+◌, ◌≤◌, ℤ, pos, ◌+ℤ◌, ◌≤ℤ◌, List, Option, Some, None, Bool, not}
-use Rattle.std.specs.Prelude.{true, false, if◌then◌else◌, ◌⊎◌, slice_get}
+use Rattle.std.specs.Prelude.{true, false, if◌then◌else◌, ◌⊎◌, slice_get, IfSome}
 use Rattle.sp_base.specs.declared.fault.Fault.{Fault}
 use Rattle.sp_base.specs.declared.limits.Limits.{Limits}
 use Rattle.sp_cell.specs.declared.spot.Address.{Address}
@@ -20,8 +20,8 @@ use Rattle.sp_code.specs.Sound.{run_of}
 use Rattle.sp_machine.specs.declared.state.State.{State}
 use Rattle.sp_machine.specs.declared.state.Stop.{Stop}
 use Rattle.sp_machine.specs.declared.state.Stop.TheVariants as stop
-use Rattle.sp_machine.specs.declared.state.Interrupt.{Interrupt}
-use Rattle.sp_machine.specs.declared.state.Interrupt.TheVariants as interrupt
+use Rattle.sp_machine.specs.declared.state.Outcome.{Outcome}
+use Rattle.sp_machine.specs.declared.state.Outcome.TheVariants as outcome
 use Rattle.sp_machine.specs.StackEntries.{entries_of}
 
 -- the memory of the machine's definition
@@ -110,16 +110,18 @@ StepMatches (m.Fails f) p q None = ⊥
 StepMatches (m.Fails f) p q (Some s) = FaultIs s f × (config_of q ≡ config_of p)
 StepMatches m.Stuck p q s = Unit {0}
 
--- why a process stopped that an instruction interrupted: what a stop holds besides is in its state
-abbrev pub stop_by : State → Option Interrupt → Option Stop
-stop_by q None = None
-stop_by q (Some interrupt.Pause) = Some stop.Pause
-stop_by q (Some (interrupt.Fault f)) = Some (stop.Fault f)
-stop_by q (Some interrupt.Stop) = Some q.stopped
+-- what an outcome tells, unless it is want of memory: the process goes on, or why it stopped; what a stop holds besides
+-- is in its state
+abbrev pub told_by : State → Outcome → Option (Option Stop)
+told_by q outcome.On = Some None
+told_by q outcome.Pause = Some (Some stop.Pause)
+told_by q (outcome.Fault f) = Some (Some (stop.Fault f))
+told_by q outcome.Stop = Some (Some q.stopped)
+told_by q outcome.Refused = None
 
--- so told by an interrupt
-abbrev pub CameBy : m.StepResult (Memory Plain) → State → State → Option Interrupt → Type 0
-CameBy o p q r = StepMatches o p q (stop_by q r)
+-- so told by an outcome; of an instruction that was refused memory nothing is said
+abbrev pub CameBy : m.StepResult (Memory Plain) → State → State → Outcome → Type 0
+CameBy o p q r = IfSome (told_by q r) (λ s. StepMatches o p q s)
 
 -- the instruction that a process would find at another place
 abbrev pub step_at_config : State → Parts → Limits → m.Config (Memory Plain) → m.StepResult (Memory Plain)
@@ -136,8 +138,8 @@ WentTwice p code lim q = (d : m.Config (Memory Plain))
     × ((next_of p code lim ≡ m.Goes d) × (step_at_config p code lim d ≡ m.Goes (config_of q)))
 
 -- so came of the next instruction, or the process went on by two
-abbrev pub Proceeded : State → Parts → Limits → State → Option Interrupt → Type 0
-Proceeded p code lim q s = CameBy (next_of p code lim) p q s ⊎ ((s ≡ None) × WentTwice p code lim q)
+abbrev pub Proceeded : State → Parts → Limits → State → Outcome → Type 0
+Proceeded p code lim q r = CameBy (next_of p code lim) p q r ⊎ ((r ≡ outcome.On) × WentTwice p code lim q)
 
 -- ---- a turn
 

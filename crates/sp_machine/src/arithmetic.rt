@@ -1,6 +1,6 @@
 //! The instructions on ordinals: constants, conversions, ranges, successors, operators and comparison.
 
-ghost use Rattle.std.specs.Prelude.{◌≡◌, ◌≢◌, ◌+◌, ◌<◌, IfOk, Some};
+ghost use Rattle.std.specs.Prelude.{◌≡◌, ◌≢◌, ◌+◌, ◌<◌, Some};
 ghost use Rattle.sp_code.specs.Machine.{Stuck, on_two, on_one};
 ghost use Rattle.sp_code.specs.Memory.{memory};
 ghost use Rattle.sp_code.specs.PlainStore.{plain};
@@ -15,8 +15,8 @@ use crate::operators::{
     absolute_of, binary, next_of, odd, previous_of, square_of, truth_of, unary, within,
 };
 use crate::stack::Operand;
-use crate::state::{Interrupt, State, unpacked};
-use sp_base::{Fault, Limits, Memory};
+use crate::state::{Outcome, State};
+use sp_base::{Fault, Limits};
 use sp_code::{Code, Instr};
 use sp_tree::{BinaryOp, UnaryOp};
 
@@ -46,20 +46,14 @@ fn convert(conversion: Conversion, n: i64) -> Result<i64, Fault>
 impl State {
     // Pushes an ordinal.
     #[inline(always)]
-    pub(crate) fn constant(
-        &mut self,
-        value: i64,
-        code: &Code,
-        limits: &Limits,
-    ) -> Result<Option<Interrupt>, Memory>
+    pub(crate) fn constant(&mut self, value: i64, code: &Code, limits: &Limits) -> Outcome
         requires { self.old.pc + 1 < 4294967296 }
-        ensures came { IfOk result (λ s. CameBy (does (Some (instr.Const value)) self.old code.now limits.now) self.old
-            self.new s) }
+        ensures came { CameBy (does (Some (instr.Const value)) self.old code.now limits.now) self.old self.new result }
         ensures same { KeepsNumberAndInput self.old self.new }
     {
-        have!(self.stack.push(Operand::Number(value)));
+        have!(self.stack.push(Operand::Number(value)), Outcome::Refused);
         self.pc += 1;
-        Ok(None)
+        Outcome::On
     }
 
     // What an operation makes of the ordinal on top.
@@ -68,16 +62,15 @@ impl State {
         conversion: Conversion,
         code: &Code,
         limits: &Limits,
-    ) -> Result<Option<Interrupt>, Memory>
+    ) -> Outcome
         requires next { self.old.pc + 1 < 4294967296 }
         requires safe { on_one (memory plain (code_run_of self.old code.now limits.now)) code.now
             (conversion_result conversion)
             self.old.pc
             (entries_of self.old.stack) (memory_of self.old) ≢ Stuck }
-        ensures came { IfOk result (λ s. CameBy
-            (on_one (memory plain (code_run_of self.old code.now limits.now)) code.now (conversion_result conversion)
-            self.old.pc
-            (entries_of self.old.stack) (memory_of self.old)) self.old self.new s) }
+        ensures came { CameBy (on_one (memory plain (code_run_of self.old code.now limits.now)) code.now
+            (conversion_result conversion) self.old.pc (entries_of self.old.stack) (memory_of self.old)) self.old
+            self.new result }
         ensures same { KeepsNumberAndInput self.old self.new }
     {
         match self.stack.top_number() {
@@ -85,112 +78,68 @@ impl State {
                 Ok(value) => {
                     self.stack.put(Operand::Number(value));
                     self.pc += 1;
-                    Ok(None)
+                    Outcome::On
                 }
-                Err(fault) => Ok(Some(Interrupt::Fault(fault))),
+                Err(fault) => Outcome::Fault(fault),
             },
             None => unreachable!(),
         }
     }
 
-    // The same number, where it is in the range of the instruction.
-    pub(crate) fn range(
-        &mut self,
-        this: Instr,
-        code: &Code,
-        limits: &Limits,
-    ) -> Result<Option<Interrupt>, Memory>
+    // The same number, the next or the one before, where it is within the bounds of the instruction.
+    pub(crate) fn bounded(&mut self, this: Instr, code: &Code, limits: &Limits) -> Outcome
         requires next { self.old.pc + 1 < 4294967296 }
         requires safe { does (Some this) self.old code.now limits.now ≢ Stuck }
-        ensures came { IfOk result (λ s. CameBy (does (Some this) self.old code.now limits.now) self.old self.new s) }
+        ensures came { CameBy (does (Some this) self.old code.now limits.now) self.old self.new result }
         ensures same { KeepsNumberAndInput self.old self.new }
     {
         match this {
-            Instr::Range { low, high } => match self.stack.pop_number() {
+            Instr::Range { low, high } => match self.stack.top_number() {
                 Some(n) => match within(low, high, n) {
-                    Ok(value) => self.push_on(Operand::Number(value)),
-                    Err(fault) => self.fail(Operand::Number(n), fault),
+                    Ok(value) => {
+                        self.stack.put(Operand::Number(value));
+                        self.pc += 1;
+                        Outcome::On
+                    }
+                    Err(fault) => Outcome::Fault(fault),
                 },
                 None => unreachable!(),
             },
-            // No other instruction comes here.
-            _ => Err(Memory),
-        }
-    }
-
-    // The next number, up to that of the instruction.
-    pub(crate) fn successor(
-        &mut self,
-        this: Instr,
-        code: &Code,
-        limits: &Limits,
-    ) -> Result<Option<Interrupt>, Memory>
-        requires next { self.old.pc + 1 < 4294967296 }
-        requires safe { does (Some this) self.old code.now limits.now ≢ Stuck }
-        ensures came { IfOk result (λ s. CameBy (does (Some this) self.old code.now limits.now) self.old self.new s) }
-        ensures same { KeepsNumberAndInput self.old self.new }
-    {
-        match this {
-            Instr::Succ(high) => match self.stack.pop_number() {
+            Instr::Succ(high) => match self.stack.top_number() {
                 Some(n) => match next_of(high, n) {
                     Ok(value) => {
-                        have!(self.stack.push(Operand::Number(value)));
+                        self.stack.put(Operand::Number(value));
                         self.pc += 1;
-                        Ok(None)
+                        Outcome::On
                     }
-                    Err(fault) => self.fail(Operand::Number(n), fault),
+                    Err(fault) => Outcome::Fault(fault),
                 },
                 None => unreachable!(),
             },
-            // No other instruction comes here.
-            _ => Err(Memory),
-        }
-    }
-
-    // The number before, down to that of the instruction.
-    pub(crate) fn predecessor(
-        &mut self,
-        this: Instr,
-        code: &Code,
-        limits: &Limits,
-    ) -> Result<Option<Interrupt>, Memory>
-        requires next { self.old.pc + 1 < 4294967296 }
-        requires safe { does (Some this) self.old code.now limits.now ≢ Stuck }
-        ensures came { IfOk result (λ s. CameBy (does (Some this) self.old code.now limits.now) self.old self.new s) }
-        ensures same { KeepsNumberAndInput self.old self.new }
-    {
-        match this {
-            Instr::Pred(low) => match self.stack.pop_number() {
+            Instr::Pred(low) => match self.stack.top_number() {
                 Some(n) => match previous_of(low, n) {
                     Ok(value) => {
-                        have!(self.stack.push(Operand::Number(value)));
+                        self.stack.put(Operand::Number(value));
                         self.pc += 1;
-                        Ok(None)
+                        Outcome::On
                     }
-                    Err(fault) => self.fail(Operand::Number(n), fault),
+                    Err(fault) => Outcome::Fault(fault),
                 },
                 None => unreachable!(),
             },
             // No other instruction comes here.
-            _ => Err(Memory),
+            _ => Outcome::Refused,
         }
     }
 
     // What an operator makes of two ordinals.
     #[inline(always)]
-    pub(crate) fn operate(
-        &mut self,
-        op: BinaryOp,
-        code: &Code,
-        limits: &Limits,
-    ) -> Result<Option<Interrupt>, Memory>
+    pub(crate) fn operate(&mut self, op: BinaryOp, code: &Code, limits: &Limits) -> Outcome
         requires next { self.old.pc + 1 < 4294967296 }
         requires safe { on_two (memory plain (code_run_of self.old code.now limits.now)) code.now op self.old.pc
             (entries_of self.old.stack) (memory_of self.old) ≢ Stuck }
-        ensures came { IfOk result (λ s. CameBy
-            (on_two (memory plain (code_run_of self.old code.now limits.now)) code.now op self.old.pc
-            (entries_of self.old.stack)
-            (memory_of self.old)) self.old self.new s) }
+        ensures came { CameBy (on_two (memory plain (code_run_of self.old code.now limits.now)) code.now op
+            self.old.pc (entries_of self.old.stack) (memory_of self.old)) self.old self.new result }
         ensures same { KeepsNumberAndInput self.old self.new }
     {
         match self.stack.pop_number() {
@@ -199,9 +148,9 @@ impl State {
                     Ok(value) => {
                         self.stack.put(Operand::Number(value));
                         self.pc += 1;
-                        Ok(None)
+                        Outcome::On
                     }
-                    Err(fault) => unpacked(self.fail_number(n, fault)),
+                    Err(fault) => self.fail_number(n, fault),
                 },
                 None => unreachable!(),
             },
@@ -211,16 +160,10 @@ impl State {
 
     // Whether two ordinals or two channels are equal, or whether they are different.
     #[inline(always)]
-    pub(crate) fn equals(
-        &mut self,
-        different: bool,
-        code: &Code,
-        limits: &Limits,
-    ) -> Result<Option<Interrupt>, Memory>
+    pub(crate) fn equals(&mut self, different: bool, code: &Code, limits: &Limits) -> Outcome
         requires next { self.old.pc + 1 < 4294967296 }
         requires safe { equality_step different self.old code.now limits.now ≢ Stuck }
-        ensures came { IfOk result
-            (λ s. CameBy (equality_step different self.old code.now limits.now) self.old self.new s) }
+        ensures came { CameBy (equality_step different self.old code.now limits.now) self.old self.new result }
         ensures same { KeepsNumberAndInput self.old self.new }
     {
         let equal = match self.stack.pop() {
@@ -235,8 +178,11 @@ impl State {
             _ => unreachable!(),
         };
         let told = if different { !equal } else { equal };
-        have!(self.stack.push(Operand::Number(truth_of(told))));
+        have!(
+            self.stack.push(Operand::Number(truth_of(told))),
+            Outcome::Refused
+        );
         self.pc += 1;
-        Ok(None)
+        Outcome::On
     }
 }

@@ -17,7 +17,7 @@ use crate::frames::{Frame, Home};
 use crate::have;
 use crate::layouts::{answer_of, cells_of, cells_of_home, layout_of};
 use crate::stack::{Operand, pointer_in};
-use crate::state::{Interrupt, State};
+use crate::state::{Outcome, State};
 use sp_base::{Fault, Limits, List, Memory};
 use sp_cell::{Address, Cell, Spot};
 use sp_code::{Code, Layout};
@@ -109,9 +109,9 @@ impl State {
         let count = layout.formals.len();
         let link = self.frames.level(up);
         let arguments = self.stack.top(count);
-        let references = have!(references(*self.text.allocator(), arguments));
         let number = have!(self.store.push_frame(layout.sizes.items()));
         have!(fill(&mut self.store, number, arguments));
+        let references = have!(references(*self.text.allocator(), arguments));
         let frame = Frame {
             owner: self.number,
             number,
@@ -128,39 +128,25 @@ impl State {
     }
 
     /// Goes to the first instruction of a block that was called.
-    fn enter_block(
-        &mut self,
-        layout: &Layout,
-        to: u32,
-        code: &Code,
-        limits: &Limits,
-    ) -> Result<Option<Interrupt>, Memory>
-        ensures came { IfOk result (λ s. CameBy
-            (enter_step (memory plain (code_run_of self.old code.now limits.now)) code.now layout.now to
-            (entries_of self.old.stack)
-            (memory_of self.old)) self.old self.new s) }
+    fn enter_block(&mut self, layout: &Layout, to: u32, code: &Code, limits: &Limits) -> Outcome
+        ensures came { CameBy (enter_step (memory plain (code_run_of self.old code.now limits.now)) code.now
+            layout.now to (entries_of self.old.stack) (memory_of self.old)) self.old self.new result }
         ensures same { KeepsNumberAndInput self.old self.new }
     {
         self.pc = layout.entry;
         if layout.answer {
-            have!(self.stack.push(Operand::Reply(to)));
-            return Ok(None);
+            have!(self.stack.push(Operand::Reply(to)), Outcome::Refused);
+            return Outcome::On;
         }
-        have!(self.stack.push(Operand::Link(to)));
+        have!(self.stack.push(Operand::Link(to)), Outcome::Refused);
         if self.stack.is_outside() && self.is_due() {
-            return Ok(Some(Interrupt::Pause));
+            return Outcome::Pause;
         }
-        Ok(None)
+        Outcome::On
     }
 
     /// Calls a block.
-    fn call_block(
-        &mut self,
-        layout: &Layout,
-        up: u32,
-        code: &Code,
-        limits: &Limits,
-    ) -> Result<Option<Interrupt>, Memory>
+    fn call_block(&mut self, layout: &Layout, up: u32, code: &Code, limits: &Limits) -> Outcome
         requires next { self.old.pc + 1 < 4294967296 }
         requires sizes { length layout.now.sizes ≤ 4294967294 }
         requires formals { BeginsWithFormals layout.now }
@@ -168,41 +154,38 @@ impl State {
         requires safe { call_step (memory plain (code_run_of self.old code.now limits.now)) code.now layout.now up
             (self.old.pc + 1)
             (entries_of self.old.stack) (memory_of self.old) ≢ Stuck }
-        ensures came { IfOk result (λ s. CameBy
-            (call_step (memory plain (code_run_of self.old code.now limits.now)) code.now layout.now up
-            (self.old.pc + 1) (entries_of self.old.stack) (memory_of self.old)) self.old self.new s) }
+        ensures came { CameBy (call_step (memory plain (code_run_of self.old code.now limits.now)) code.now
+            layout.now up (self.old.pc + 1) (entries_of self.old.stack) (memory_of self.old)) self.old self.new
+            result }
         ensures same { KeepsNumberAndInput self.old self.new }
     {
         if self.ticks >= limits.ticks {
-            return Ok(Some(Interrupt::Fault(Fault::F10)));
+            return Outcome::Fault(Fault::F10);
         }
         if self.depth >= limits.depth {
-            return Ok(Some(Interrupt::Fault(Fault::F11)));
+            return Outcome::Fault(Fault::F11);
         }
         let cells = cells_of(layout.sizes.items());
         if self.cells as u128 + cells as u128 > limits.cells as u128 {
-            return Ok(Some(Interrupt::Fault(Fault::F12)));
+            return Outcome::Fault(Fault::F12);
         }
-        have!(self.open_frame(layout, up, cells, code, limits));
+        have!(
+            self.open_frame(layout, up, cells, code, limits),
+            Outcome::Refused
+        );
         let to = self.pc + 1;
         self.enter_block(layout, to, code, limits)
     }
 
     // Calls a block.
     #[tactic(auto, using(crate::proofs::LayoutLookups::few_sizes, crate::proofs::LayoutLookups::few_formals))]
-    pub(crate) fn call(
-        &mut self,
-        block: u32,
-        up: u32,
-        code: &Code,
-        limits: &Limits,
-    ) -> Result<Option<Interrupt>, Memory>
+    pub(crate) fn call(&mut self, block: u32, up: u32, code: &Code, limits: &Limits) -> Outcome
         requires next { self.old.pc + 1 < 4294967296 }
         requires blocks { HasDistinctBlocks code.now.layouts }
         requires formals { HaveFormals code.now.layouts }
         requires safe { does (Some (instr.Call block up)) self.old code.now limits.now ≢ Stuck }
-        ensures came { IfOk result (λ s. CameBy (does (Some (instr.Call block up)) self.old code.now limits.now)
-            self.old self.new s) }
+        ensures came { CameBy (does (Some (instr.Call block up)) self.old code.now limits.now) self.old self.new
+            result }
         ensures same { KeepsNumberAndInput self.old self.new }
     {
         let _parts = code.parts();
@@ -232,23 +215,18 @@ impl State {
 
     // Returns from a block.
     #[tactic(auto, using(sp_code::proofs::StoreLaws::has_held))]
-    pub(crate) fn give_back(
-        &mut self,
-        code: &Code,
-        limits: &Limits,
-    ) -> Result<Option<Interrupt>, Memory>
+    pub(crate) fn give_back(&mut self, code: &Code, limits: &Limits) -> Outcome
         requires blocks { HasDistinctBlocks code.now.layouts }
         requires formals { HaveFormals code.now.layouts }
         requires safe { does (Some instr.Return) self.old code.now limits.now ≢ Stuck }
-        ensures came { IfOk result (λ s. CameBy (does (Some instr.Return) self.old code.now limits.now) self.old
-            self.new s) }
+        ensures came { CameBy (does (Some instr.Return) self.old code.now limits.now) self.old self.new result }
         ensures same { KeepsNumberAndInput self.old self.new }
     {
         match self.stack.pop() {
             Some(Operand::Link(to)) => {
                 self.close_frame(code, limits);
                 self.pc = to;
-                Ok(None)
+                Outcome::On
             }
             Some(Operand::Reply(to)) => {
                 let (frame, home) = self.frames.newest();
@@ -256,9 +234,9 @@ impl State {
                     Some(at) => match self.store.load(at) {
                         Cell::Ordinal(value) => {
                             self.close_frame(code, limits);
-                            have!(self.stack.push(Operand::Number(value)));
+                            have!(self.stack.push(Operand::Number(value)), Outcome::Refused);
                             self.pc = to;
-                            Ok(None)
+                            Outcome::On
                         }
                         Cell::Undefined | Cell::Channel(_) => self.fail(
                             Operand::Reply(to),

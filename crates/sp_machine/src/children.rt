@@ -1,7 +1,7 @@
 //! Forks: what a process hands to its children, and how the children begin.
 
 ghost use Rattle.std.specs.Prelude.{◌≡◌, ℕ, ◌+◌, ◌<◌, ◌≤◌, IfOk, OnOk, OnErr, IsSome, pos, ◌+ℤ◌, ◌≤ℤ◌, length, get_or};
-ghost use Rattle.std.specs.Prelude.{take, ◌≢◌, ℤ, Some, IfSome};
+ghost use Rattle.std.specs.Prelude.{◌≢◌, ℤ, Some, IfSome};
 ghost use Rattle.std.specs.Option.{option_copied};
 ghost use Rattle.sp_cell.specs.declared.spot.Handing.{Handing};
 ghost use Rattle.sp_cell.specs.Map.{Plain};
@@ -15,7 +15,7 @@ ghost use Rattle.sp_code.specs.Tables.{child_at};
 ghost use Rattle.sp_store.specs.Layout.{FramesBelow};
 ghost use Rattle.sp_machine.specs.Children.{handed_to, with_frame, IsBornSo, AreBornSo, AreNewborn};
 ghost use Rattle.sp_machine.specs.declared.state.State.{State};
-ghost use Rattle.sp_machine.specs.Frames.{frame_of, home_of, plain_frames};
+ghost use Rattle.sp_machine.specs.Frames.{frame_of, home_of};
 ghost use Rattle.sp_machine.specs.Seen.{IsSeen};
 
 use crate::frames::{Frame, Frames, Home, referred, smaller};
@@ -283,15 +283,11 @@ fn handing_at(
         (child_or (child_at table.now number))) }
 {
     match alike {
-        Some(handing) => {
-            let moved = have!(Vec::from_slice(alloc, handing.moved.items()));
-            let shared = have!(Vec::from_slice(alloc, handing.shared.items()));
-            Ok(Handing {
-                moved: List::of(moved),
-                shared: List::of(shared),
-                index: Some((0, value)),
-            })
-        }
+        Some(handing) => Ok(Handing {
+            moved: have!(List::from_slice(alloc, handing.moved.items())),
+            shared: have!(List::from_slice(alloc, handing.shared.items())),
+            index: Some((0, value)),
+        }),
         None => {
             let child = table.child(u64::from(number));
             handing_of(alloc, frames, code, seen, value, child)
@@ -325,20 +321,15 @@ impl State {
     /// The frames of a child: those of its parent, and above them that of its index.
     fn child_frames(
         &self,
-        shared: &Arc<List<Frame>>,
-        visible: usize,
         number: u32,
         handing: &Handing,
         index: Option<u32>,
     ) -> Result<Frames, Memory>
-        requires visible { visible ≤ length shared.now.value }
-        requires frames { self.now.frames ≡ plain_frames (take visible shared.now.value) }
-        requires below { IsSome index → FramesBelow handing.now.moved 18446744073709551615
+        requires { IsSome index → FramesBelow handing.now.moved 18446744073709551615
             × FramesBelow handing.now.shared 18446744073709551615 }
         ensures { IfOk result (λ fs. fs ≡ with_frame number handing.now index self.now.frames) }
     {
-        let alloc = *self.text.allocator();
-        let mut frames = Frames::of(alloc, have!(Arc::try_clone(shared)), visible);
+        let mut frames = have!(self.frames.copy());
         match index {
             Some(variable) => {
                 let link = frames.len();
@@ -347,7 +338,7 @@ impl State {
                     number: index_frame(handing),
                     home: Home::Index(variable),
                     link,
-                    references: List::new(alloc),
+                    references: List::new(*self.text.allocator()),
                 };
                 have!(frames.push(frame));
                 Ok(frames)
@@ -389,12 +380,8 @@ impl State {
         &self,
         table: &ForkTable,
         plan: &List<Handing>,
-        shared: &Arc<List<Frame>>,
-        visible: usize,
         number: u32,
     ) -> Result<Vec<Proc>, Memory>
-        requires visible { visible ≤ length shared.now.value }
-        requires frames { self.now.frames ≡ plain_frames (take visible shared.now.value) }
         requires deeper { self.now.depth + 1 ≤ 4294967295 }
         requires numbers { number + length plan.now ≤ 4294967295 }
         requires below { (k : ℕ) (h : Handing) → k < length plan.now → h ≡ get_or plan.now k h
@@ -407,7 +394,7 @@ impl State {
         let mut k = 0u32;
         for handing in plan.items() {
             let (entry, index) = beginning(table, u64::from(k));
-            let frames = have!(self.child_frames(shared, visible, number + k, handing, index));
+            let frames = have!(self.child_frames(number + k, handing, index));
             children.push(have!(self.child(frames, entry, number + k)))?;
             k += 1;
         }
@@ -437,8 +424,8 @@ impl State {
         ensures err { OnErr result (self.new ≡ self.old) }
     {
         let plan = have!(self.plan(code, table, count));
-        let (shared, visible) = have!(self.frames.share());
-        let mut children = have!(self.children(table, &plan, &shared, visible, number));
+        have!(self.frames.share());
+        let mut children = have!(self.children(table, &plan, number));
         let stores = have!(self.store.split(&plan));
         give_stores(&mut children, stores);
         Ok(List::of(children))
@@ -470,5 +457,5 @@ fn give_store(children: &mut Vec<Proc>, place: usize, store: Store)
     ensures others { (k : ℕ) (d : State) → k ≢ place → get_or children.new.items k d ≡ get_or children.old.items k d }
 {
     let child = &mut children[place];
-    child.put_store(store);
+    child.state.store = store;
 }

@@ -1,6 +1,6 @@
 //! The instructions of jumps, loops and ticks.
 
-ghost use Rattle.std.specs.Prelude.{◌≡◌, ◌≢◌, ◌+◌, ◌<◌, IfOk, Some, nat_le, true};
+ghost use Rattle.std.specs.Prelude.{◌≡◌, ◌≢◌, ◌+◌, ◌<◌, Some, nat_le, true};
 ghost use Rattle.sp_base.specs.declared.limits.TheConstants.{TURN_TICKS};
 ghost use Rattle.sp_tree.specs.Operators.{is_range, is_before, next_value};
 ghost use Rattle.sp_code.specs.Machine.{Stuck, begins_loop, ends_loop};
@@ -12,8 +12,8 @@ ghost use Rattle.sp_machine.specs.Procs.{does, CameBy, KeepsNumberAndInput, code
 
 use crate::have;
 use crate::stack::Operand;
-use crate::state::{Interrupt, State};
-use sp_base::{Fault, Limits, Memory, TURN_TICKS};
+use crate::state::{Outcome, State};
+use sp_base::{Fault, Limits, TURN_TICKS};
 use sp_cell::Cell;
 use sp_code::Code;
 
@@ -47,46 +47,22 @@ impl State {
         self.since <= self.ticks && self.ticks - self.since >= TURN_TICKS
     }
 
-    // Goes on there.
-    #[inline(always)]
-    pub(crate) fn jump(
-        &mut self,
-        to: u32,
-        code: &Code,
-        limits: &Limits,
-    ) -> Result<Option<Interrupt>, Memory>
-        requires next { self.old.pc + 1 < 4294967296 }
-        requires safe { does (Some (instr.Jump to)) self.old code.now limits.now ≢ Stuck }
-        ensures came { IfOk result (λ s. CameBy (does (Some (instr.Jump to)) self.old code.now limits.now) self.old
-            self.new s) }
-        ensures same { KeepsNumberAndInput self.old self.new }
-    {
-        self.pc = to;
-        Ok(None)
-    }
-
     // Goes on there where the operand is false.
     #[inline(always)]
-    pub(crate) fn jump_false(
-        &mut self,
-        to: u32,
-        code: &Code,
-        limits: &Limits,
-    ) -> Result<Option<Interrupt>, Memory>
+    pub(crate) fn jump_false(&mut self, to: u32, code: &Code, limits: &Limits) -> Outcome
         requires next { self.old.pc + 1 < 4294967296 }
         requires safe { does (Some (instr.Jumpf to)) self.old code.now limits.now ≢ Stuck }
-        ensures came { IfOk result (λ s. CameBy (does (Some (instr.Jumpf to)) self.old code.now limits.now) self.old
-            self.new s) }
+        ensures came { CameBy (does (Some (instr.Jumpf to)) self.old code.now limits.now) self.old self.new result }
         ensures same { KeepsNumberAndInput self.old self.new }
     {
         match self.stack.pop_number() {
             Some(value) => {
                 if value <= 0 {
                     self.pc = to;
-                    return Ok(None);
+                    return Outcome::On;
                 }
                 self.pc += 1;
-                Ok(None)
+                Outcome::On
             }
             None => unreachable!(),
         }
@@ -99,37 +75,32 @@ impl State {
         to: u32,
         code: &Code,
         limits: &Limits,
-    ) -> Result<Option<Interrupt>, Memory>
+    ) -> Outcome
         requires next { self.old.pc + 1 < 4294967296 }
         requires safe { does (Some (instr.Casej value to)) self.old code.now limits.now ≢ Stuck }
-        ensures came { IfOk result (λ s. CameBy (does (Some (instr.Casej value to)) self.old code.now limits.now)
-            self.old self.new s) }
+        ensures came { CameBy (does (Some (instr.Casej value to)) self.old code.now limits.now) self.old self.new
+            result }
         ensures same { KeepsNumberAndInput self.old self.new }
     {
         match self.stack.pop_number() {
             Some(n) => {
                 if n == value {
                     self.pc = to;
-                    return Ok(None);
+                    return Outcome::On;
                 }
-                have!(self.stack.push(Operand::Number(n)));
+                have!(self.stack.push(Operand::Number(n)), Outcome::Refused);
                 self.pc += 1;
-                Ok(None)
+                Outcome::On
             }
             None => unreachable!(),
         }
     }
 
     // Goes on where the operand is true.
-    pub(crate) fn assume(
-        &mut self,
-        code: &Code,
-        limits: &Limits,
-    ) -> Result<Option<Interrupt>, Memory>
+    pub(crate) fn assume(&mut self, code: &Code, limits: &Limits) -> Outcome
         requires next { self.old.pc + 1 < 4294967296 }
         requires safe { does (Some instr.Assume) self.old code.now limits.now ≢ Stuck }
-        ensures came { IfOk result (λ s. CameBy (does (Some instr.Assume) self.old code.now limits.now) self.old
-            self.new s) }
+        ensures came { CameBy (does (Some instr.Assume) self.old code.now limits.now) self.old self.new result }
         ensures same { KeepsNumberAndInput self.old self.new }
     {
         match self.stack.pop_number() {
@@ -138,7 +109,7 @@ impl State {
                     return self.fail(Operand::Number(value), Fault::F8);
                 }
                 self.pc += 1;
-                Ok(None)
+                Outcome::On
             }
             None => unreachable!(),
         }
@@ -146,22 +117,21 @@ impl State {
 
     // Counts a tick. The process may pause.
     #[inline(always)]
-    pub(crate) fn tick(&mut self, code: &Code, limits: &Limits) -> Result<Option<Interrupt>, Memory>
+    pub(crate) fn tick(&mut self, code: &Code, limits: &Limits) -> Outcome
         requires next { self.old.pc + 1 < 4294967296 }
         requires safe { does (Some instr.Tick) self.old code.now limits.now ≢ Stuck }
-        ensures came { IfOk result (λ s. CameBy (does (Some instr.Tick) self.old code.now limits.now) self.old self.new
-            s) }
+        ensures came { CameBy (does (Some instr.Tick) self.old code.now limits.now) self.old self.new result }
         ensures same { KeepsNumberAndInput self.old self.new }
     {
         if self.ticks >= limits.ticks {
-            return Ok(Some(Interrupt::Fault(Fault::F10)));
+            return Outcome::Fault(Fault::F10);
         }
         self.ticks += 1;
         self.pc += 1;
         if self.stack.is_outside() && self.is_due() {
-            return Ok(Some(Interrupt::Pause));
+            return Outcome::Pause;
         }
-        Ok(None)
+        Outcome::On
     }
 
     // Begins a loop with its first value, or leaves it.
@@ -172,14 +142,13 @@ impl State {
         to: u32,
         code: &Code,
         limits: &Limits,
-    ) -> Result<Option<Interrupt>, Memory>
+    ) -> Outcome
         requires next { self.old.pc + 1 < 4294967296 }
         requires safe { begins_loop (memory plain (code_run_of self.old code.now limits.now)) code.now down var to
             self.old.pc
             (entries_of self.old.stack) (memory_of self.old) ≢ Stuck }
-        ensures came { IfOk result (λ s. CameBy
-            (begins_loop (memory plain (code_run_of self.old code.now limits.now)) code.now down var to self.old.pc
-            (entries_of self.old.stack) (memory_of self.old)) self.old self.new s) }
+        ensures came { CameBy (begins_loop (memory plain (code_run_of self.old code.now limits.now)) code.now down
+            var to self.old.pc (entries_of self.old.stack) (memory_of self.old)) self.old self.new result }
         ensures same { KeepsNumberAndInput self.old self.new }
     {
         match self.stack.pop_number() {
@@ -187,11 +156,11 @@ impl State {
                 Some(first) => match self.frames.address(0, var) {
                     Some(at) => {
                         if has_range(down, first, last) {
-                            have!(self.store.store(at, Cell::Ordinal(first)));
+                            have!(self.store.store(at, Cell::Ordinal(first)), Outcome::Refused);
                             return self.push_on(Operand::Number(last));
                         }
                         self.pc = to;
-                        Ok(None)
+                        Outcome::On
                     }
                     None => unreachable!(),
                 },
@@ -210,14 +179,13 @@ impl State {
         to: u32,
         code: &Code,
         limits: &Limits,
-    ) -> Result<Option<Interrupt>, Memory>
+    ) -> Outcome
         requires next { self.old.pc + 1 < 4294967296 }
         requires safe { ends_loop (memory plain (code_run_of self.old code.now limits.now)) code.now down var to
             self.old.pc
             (entries_of self.old.stack) (memory_of self.old) ≢ Stuck }
-        ensures came { IfOk result (λ s. CameBy
-            (ends_loop (memory plain (code_run_of self.old code.now limits.now)) code.now down var to self.old.pc
-            (entries_of self.old.stack) (memory_of self.old)) self.old self.new s) }
+        ensures came { CameBy (ends_loop (memory plain (code_run_of self.old code.now limits.now)) code.now down var
+            to self.old.pc (entries_of self.old.stack) (memory_of self.old)) self.old self.new result }
         ensures same { KeepsNumberAndInput self.old self.new }
     {
         match self.stack.top_number() {
@@ -226,18 +194,18 @@ impl State {
                     Cell::Ordinal(value) => {
                         if has_next(down, value, last) {
                             let next = following(down, value, last);
-                            have!(self.store.store(at, Cell::Ordinal(next)));
+                            have!(self.store.store(at, Cell::Ordinal(next)), Outcome::Refused);
                             self.pc = to;
-                            return Ok(None);
+                            return Outcome::On;
                         }
                         match self.stack.pop_number() {
                             Some(_) => {}
                             None => unreachable!(),
                         }
                         self.pc += 1;
-                        Ok(None)
+                        Outcome::On
                     }
-                    Cell::Undefined | Cell::Channel(_) => Ok(Some(Interrupt::Fault(Fault::F4))),
+                    Cell::Undefined | Cell::Channel(_) => Outcome::Fault(Fault::F4),
                 },
                 None => unreachable!(),
             },

@@ -105,41 +105,37 @@ impl Frames {
         })
     }
 
-    /// Frames that are shared with others: so many of them are visible.
-    #[tactic(auto, using(crate::proofs::FrameLists::all_shared))]
-    pub(crate) fn of(alloc: Global, shared: Arc<List<Frame>>, visible: usize) -> Frames
-        requires { visible ≤ length shared.value }
-        ensures { result ≡ plain_frames (take visible shared.value) }
-    {
-        Frames {
-            shared,
-            visible,
-            own: List::new(alloc),
-        }
-    }
-
-    /// All frames become shared ones. They are given with how many of them are visible.
-    #[tactic(auto, using(crate::proofs::FrameLists::all_shared, crate::proofs::FrameLists::all_gathered, crate::proofs::FrameLists::still_shared))]
-    pub(crate) fn share(&mut self) -> Result<(Arc<List<Frame>>, usize), Memory>
+    /// All frames become shared ones: a copy of them costs no more than a pointer then.
+    #[tactic(auto, using(crate::proofs::FrameLists::still_shared))]
+    pub(crate) fn share(&mut self) -> Result<(), Memory>
         ensures same { self.new ≡ self.old }
-        ensures frames { IfOk result (λ r. self.old ≡ plain_frames (take r.1 r.0.value)) }
-        ensures visible { IfOk result (λ r. r.1 ≤ length r.0.value) }
     {
         if self.own.is_empty() {
-            let shared = have!(Arc::try_clone(&self.shared));
-            return Ok((shared, self.visible));
+            return Ok(());
         }
         let alloc = self.own.alloc();
         let mut all = List::new(alloc);
         have!(copy_frames(alloc, &mut all, &self.shared.items()[..self.visible]));
         have!(copy_frames(alloc, &mut all, self.own.items()));
         let visible = all.len();
-        let lent = Arc::new(alloc, all)?;
-        let kept = have!(Arc::try_clone(&lent));
-        self.shared = kept;
+        self.shared = Arc::new(alloc, all)?;
         self.visible = visible;
         self.own = List::new(alloc);
-        Ok((lent, visible))
+        Ok(())
+    }
+
+    /// The same frames once more. What is shared stays so.
+    pub(crate) fn copy(&self) -> Result<Frames, Memory>
+        ensures { IfOk result (λ r. r ≡ self.now) }
+    {
+        let alloc = self.own.alloc();
+        let mut own = List::new(alloc);
+        have!(copy_frames(alloc, &mut own, self.own.items()));
+        Ok(Frames {
+            shared: have!(Arc::try_clone(&self.shared)),
+            visible: self.visible,
+            own,
+        })
     }
 
     /// How many there are.

@@ -20,7 +20,7 @@ use crate::items::{
 };
 use crate::operators::truth_of;
 use crate::stack::Operand;
-use crate::state::{Interrupt, State};
+use crate::state::{Outcome, State};
 use sp_base::{Fault, Limits, Memory, put_signed};
 use sp_cell::{Address, Cell, Spot};
 use sp_code::Code;
@@ -144,24 +144,6 @@ fn emit_wide(
     emit(store, blanks, shown, limits)
 }
 
-/// Writes the text of a value right in a width. `false` where the output would pass its limit; then nothing is written.
-fn show(
-    store: &mut Store,
-    room: &mut Vec<u8>,
-    shown: Shown,
-    n: i64,
-    width: u64,
-    limits: &Limits,
-) -> Result<bool, Memory>
-    requires { is_held (plain.output store.old) ≡ true }
-    ensures { IfOk result (λ b. Emits b limits.now.output
-        (right_justified width (if is_cut shown then take width (text_of shown n) else text_of shown n)) store.old
-        store.new) }
-{
-    have!(spell(room, shown, n));
-    emit_wide(store, cuts(shown), width, room.as_slice(), limits)
-}
-
 impl State {
     /// What is left of the input.
     #[tactic(auto, using(crate::proofs::Positions::position_held, crate::proofs::Positions::position_is, crate::proofs::Positions::position_not_undefined, crate::proofs::Positions::position_not_channel, crate::proofs::Positions::left_held))]
@@ -220,27 +202,21 @@ impl State {
 
     // Reads an item into an address.
     #[tactic(auto, using(sp_code::proofs::StoreLaws::has_held))]
-    pub(crate) fn read(
-        &mut self,
-        item: Item,
-        code: &Code,
-        limits: &Limits,
-    ) -> Result<Option<Interrupt>, Memory>
+    pub(crate) fn read(&mut self, item: Item, code: &Code, limits: &Limits) -> Outcome
         requires next { self.old.pc + 1 < 4294967296 }
         requires safe { reads (memory plain (code_run_of self.old code.now limits.now)) code.now (item_in item)
             (self.old.pc + 1)
             (entries_of self.old.stack) (memory_of self.old) ≢ Stuck }
-        ensures came { IfOk result (λ s. CameBy
-            (reads (memory plain (code_run_of self.old code.now limits.now)) code.now (item_in item) (self.old.pc + 1)
-            (entries_of self.old.stack) (memory_of self.old)) self.old self.new s) }
+        ensures came { CameBy (reads (memory plain (code_run_of self.old code.now limits.now)) code.now (item_in
+            item) (self.old.pc + 1) (entries_of self.old.stack) (memory_of self.old)) self.old self.new result }
         ensures same { KeepsNumberAndInput self.old self.new }
     {
         match self.stack.pop_pointer() {
             Some(at) => match taken(item, self.left()) {
                 ReadResult::ReadItem(value, bytes) => {
-                    have!(self.take(at, value, bytes));
+                    have!(self.take(at, value, bytes), Outcome::Refused);
                     self.pc += 1;
-                    Ok(None)
+                    Outcome::On
                 }
                 ReadResult::ReadFault(fault) => self.fail(Operand::Pointer(at), fault),
             },
@@ -249,33 +225,23 @@ impl State {
     }
 
     // Drops the rest of the line.
-    pub(crate) fn read_line(
-        &mut self,
-        code: &Code,
-        limits: &Limits,
-    ) -> Result<Option<Interrupt>, Memory>
+    pub(crate) fn read_line(&mut self, code: &Code, limits: &Limits) -> Outcome
         requires next { self.old.pc + 1 < 4294967296 }
         requires safe { does (Some instr.Readln) self.old code.now limits.now ≢ Stuck }
-        ensures came { IfOk result (λ s. CameBy (does (Some instr.Readln) self.old code.now limits.now) self.old
-            self.new s) }
+        ensures came { CameBy (does (Some instr.Readln) self.old code.now limits.now) self.old self.new result }
         ensures same { KeepsNumberAndInput self.old self.new }
     {
         let bytes = line_length(self.left());
-        have!(self.advance(bytes));
+        have!(self.advance(bytes), Outcome::Refused);
         self.pc += 1;
-        Ok(None)
+        Outcome::On
     }
 
     // Whether nothing is left of the line, or of the input.
-    pub(crate) fn is_over(
-        &mut self,
-        line: bool,
-        code: &Code,
-        limits: &Limits,
-    ) -> Result<Option<Interrupt>, Memory>
+    pub(crate) fn is_over(&mut self, line: bool, code: &Code, limits: &Limits) -> Outcome
         requires next { self.old.pc + 1 < 4294967296 }
         requires safe { over_step line self.old code.now limits.now ≢ Stuck }
-        ensures came { IfOk result (λ s. CameBy (over_step line self.old code.now limits.now) self.old self.new s) }
+        ensures came { CameBy (over_step line self.old code.now limits.now) self.old self.new result }
         ensures same { KeepsNumberAndInput self.old self.new }
     {
         let left = self.left();
@@ -284,55 +250,49 @@ impl State {
         } else {
             left.is_empty()
         };
-        have!(self.stack.push(Operand::Number(truth_of(over))));
+        have!(
+            self.stack.push(Operand::Number(truth_of(over))),
+            Outcome::Refused
+        );
         self.pc += 1;
-        Ok(None)
+        Outcome::On
     }
 
     // Writes a value.
-    pub(crate) fn write(
-        &mut self,
-        shown: Shown,
-        code: &Code,
-        limits: &Limits,
-    ) -> Result<Option<Interrupt>, Memory>
+    pub(crate) fn write(&mut self, shown: Shown, code: &Code, limits: &Limits) -> Outcome
         requires next { self.old.pc + 1 < 4294967296 }
         requires safe { writes (memory plain (code_run_of self.old code.now limits.now)) code.now (text_of shown)
             (self.old.pc + 1)
             (entries_of self.old.stack) (memory_of self.old) ≢ Stuck }
-        ensures came { IfOk result (λ s. CameBy
-            (writes (memory plain (code_run_of self.old code.now limits.now)) code.now (text_of shown) (self.old.pc + 1)
-            (entries_of self.old.stack) (memory_of self.old)) self.old self.new s) }
+        ensures came { CameBy (writes (memory plain (code_run_of self.old code.now limits.now)) code.now (text_of
+            shown) (self.old.pc + 1) (entries_of self.old.stack) (memory_of self.old)) self.old self.new result }
         ensures same { KeepsNumberAndInput self.old self.new }
     {
         match self.stack.pop_number() {
             Some(n) => {
-                have!(spell(&mut self.text, shown, n));
-                if !have!(emit(&mut self.store, 0, self.text.as_slice(), limits)) {
+                have!(spell(&mut self.text, shown, n), Outcome::Refused);
+                if !have!(
+                    emit(&mut self.store, 0, self.text.as_slice(), limits),
+                    Outcome::Refused
+                ) {
                     return self.fail(Operand::Number(n), Fault::F16);
                 }
                 self.pc += 1;
-                Ok(None)
+                Outcome::On
             }
             None => unreachable!(),
         }
     }
 
     // Writes a value in a width.
-    pub(crate) fn write_wide(
-        &mut self,
-        shown: Shown,
-        code: &Code,
-        limits: &Limits,
-    ) -> Result<Option<Interrupt>, Memory>
+    pub(crate) fn write_wide(&mut self, shown: Shown, code: &Code, limits: &Limits) -> Outcome
         requires next { self.old.pc + 1 < 4294967296 }
         requires safe { writes_wide (memory plain (code_run_of self.old code.now limits.now)) code.now (is_cut shown)
             (text_of shown)
             (self.old.pc + 1) (entries_of self.old.stack) (memory_of self.old) ≢ Stuck }
-        ensures came { IfOk result (λ s. CameBy
-            (writes_wide (memory plain (code_run_of self.old code.now limits.now)) code.now (is_cut shown)
-            (text_of shown)
-            (self.old.pc + 1) (entries_of self.old.stack) (memory_of self.old)) self.old self.new s) }
+        ensures came { CameBy (writes_wide (memory plain (code_run_of self.old code.now limits.now)) code.now (is_cut
+            shown) (text_of shown) (self.old.pc + 1) (entries_of self.old.stack) (memory_of self.old)) self.old
+            self.new result }
         ensures same { KeepsNumberAndInput self.old self.new }
     {
         match self.stack.pop_number() {
@@ -345,14 +305,13 @@ impl State {
                             Fault::F1,
                         );
                     }
-                    if !have!(show(
-                        &mut self.store,
-                        &mut self.text,
-                        shown,
-                        n,
-                        width.unsigned_abs(),
-                        limits,
-                    )) {
+                    have!(spell(&mut self.text, shown, n), Outcome::Refused);
+                    let (cut, columns) = (cuts(shown), width.unsigned_abs());
+                    let text = self.text.as_slice();
+                    if !have!(
+                        emit_wide(&mut self.store, cut, columns, text, limits),
+                        Outcome::Refused
+                    ) {
                         return self.fail_both(
                             Operand::Number(n),
                             Operand::Number(width),
@@ -360,7 +319,7 @@ impl State {
                         );
                     }
                     self.pc += 1;
-                    Ok(None)
+                    Outcome::On
                 }
                 None => unreachable!(),
             },
@@ -369,39 +328,28 @@ impl State {
     }
 
     // Writes bytes.
-    pub(crate) fn print(
-        &mut self,
-        text: &[u8],
-        code: &Code,
-        limits: &Limits,
-    ) -> Result<Option<Interrupt>, Memory>
+    pub(crate) fn print(&mut self, text: &[u8], code: &Code, limits: &Limits) -> Outcome
         requires next { self.old.pc + 1 < 4294967296 }
         requires safe { prints (memory plain (code_run_of self.old code.now limits.now)) code.now text.now
             (self.old.pc + 1)
             (entries_of self.old.stack) (memory_of self.old) ≢ Stuck }
-        ensures came { IfOk result (λ s. CameBy
-            (prints (memory plain (code_run_of self.old code.now limits.now)) code.now text.now (self.old.pc + 1)
-            (entries_of self.old.stack) (memory_of self.old)) self.old self.new s) }
+        ensures came { CameBy (prints (memory plain (code_run_of self.old code.now limits.now)) code.now text.now
+            (self.old.pc + 1) (entries_of self.old.stack) (memory_of self.old)) self.old self.new result }
         ensures same { KeepsNumberAndInput self.old self.new }
     {
-        if !have!(emit(&mut self.store, 0, text, limits)) {
-            return Ok(Some(Interrupt::Fault(Fault::F16)));
+        if !have!(emit(&mut self.store, 0, text, limits), Outcome::Refused) {
+            return Outcome::Fault(Fault::F16);
         }
         self.pc += 1;
-        Ok(None)
+        Outcome::On
     }
 
     // Writes a text.
-    pub(crate) fn write_text(
-        &mut self,
-        number: u32,
-        code: &Code,
-        limits: &Limits,
-    ) -> Result<Option<Interrupt>, Memory>
+    pub(crate) fn write_text(&mut self, number: u32, code: &Code, limits: &Limits) -> Outcome
         requires next { self.old.pc + 1 < 4294967296 }
         requires safe { does (Some (instr.WriteText number)) self.old code.now limits.now ≢ Stuck }
-        ensures came { IfOk result (λ s. CameBy (does (Some (instr.WriteText number)) self.old code.now limits.now)
-            self.old self.new s) }
+        ensures came { CameBy (does (Some (instr.WriteText number)) self.old code.now limits.now) self.old self.new
+            result }
         ensures same { KeepsNumberAndInput self.old self.new }
     {
         match code.text(number) {
@@ -411,16 +359,11 @@ impl State {
     }
 
     // Writes a text in a width.
-    pub(crate) fn write_text_wide(
-        &mut self,
-        number: u32,
-        code: &Code,
-        limits: &Limits,
-    ) -> Result<Option<Interrupt>, Memory>
+    pub(crate) fn write_text_wide(&mut self, number: u32, code: &Code, limits: &Limits) -> Outcome
         requires next { self.old.pc + 1 < 4294967296 }
         requires safe { does (Some (instr.WritewText number)) self.old code.now limits.now ≢ Stuck }
-        ensures came { IfOk result (λ s. CameBy (does (Some (instr.WritewText number)) self.old code.now limits.now)
-            self.old self.new s) }
+        ensures came { CameBy (does (Some (instr.WritewText number)) self.old code.now limits.now) self.old self.new
+            result }
         ensures same { KeepsNumberAndInput self.old self.new }
     {
         match self.stack.pop_number() {
@@ -429,17 +372,20 @@ impl State {
                     if width <= 0 {
                         return self.fail(Operand::Number(width), Fault::F1);
                     }
-                    if !have!(emit_wide(
-                        &mut self.store,
-                        true,
-                        width.unsigned_abs(),
-                        text.bytes(),
-                        limits,
-                    )) {
+                    if !have!(
+                        emit_wide(
+                            &mut self.store,
+                            true,
+                            width.unsigned_abs(),
+                            text.bytes(),
+                            limits,
+                        ),
+                        Outcome::Refused
+                    ) {
                         return self.fail(Operand::Number(width), Fault::F16);
                     }
                     self.pc += 1;
-                    Ok(None)
+                    Outcome::On
                 }
                 None => unreachable!(),
             },

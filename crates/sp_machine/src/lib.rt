@@ -43,12 +43,12 @@
 //! - `turn`, `root` and `split` require one layout for each block, `turn` also that frames have room for formals.
 //! - `specs/Procs.antt` leads from memory to the definitions: `config_of` is a process as the definitions see it.
 //! - Each instruction is a function of `State`, whose contract is `CameBy` of the definition's instruction. It answers
-//!   by a small `Interrupt`, and what a stop holds besides stands in the state, so that the many instructions that go
+//!   by a small `Outcome`, and what a stop holds besides stands in the state, so that the many instructions that go
 //!   on hand nothing about. How an instruction ends: `src/steps.rt`. `src/turn.rt` joins them to a turn, and
 //!   `proofs/TurnSteps` leads from instructions to a turn.
 //! - The instructions that loops are made of stand in the turn itself, and what they do seldom, as a fault, stands
-//!   apart and tells it by an `Outcome`, so that the turn keeps nothing in memory between two instructions. A
-//!   variable whose address is pushed and then loaded is pushed at once (`proceed`).
+//!   apart, so that the turn keeps nothing in memory between two instructions. A variable whose address is pushed and
+//!   then loaded is pushed at once (`proceed`).
 //! - A fork that asks for many variables notes once where all stand that the process sees (`src/seen.rt`), so that it
 //!   takes no time for each pair of one that is asked for and one of a frame. For a few, each frame is searched.
 //! - After want of memory nothing is said of a process but that it keeps its number and its input.

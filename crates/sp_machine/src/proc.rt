@@ -24,11 +24,12 @@ use sp_code::{Code, ForkTable};
 use sp_store::Store;
 use std::alloc::Global;
 use std::marker::Model;
+use std::mem;
 use std::sync::Arc;
 
 /// A process: its state behind one box, so that it is handed on as one word. Contracts see the state.
 pub struct Proc {
-    state: Box<State>,
+    pub(crate) state: Box<State>,
 }
 
 // By hand, so that it is proved once, here, and not in each crate that drops a process.
@@ -185,8 +186,9 @@ impl Proc {
         requires { CanJoin self.old.store child.store }
         ensures { self.new ≡ record self.old { store = plain.joined self.old.store child.store } }
     {
-        let Proc { state } = child;
-        let State { store, .. } = Box::into_inner(state);
+        let mut child = child;
+        let nothing = Store::empty(*self.state.text.allocator());
+        let store = mem::replace(&mut child.state.store, nothing);
         self.state.store.join(store);
     }
 }
@@ -253,21 +255,5 @@ impl Proc {
         Ok(Proc {
             state: Box::new(alloc, state)?,
         })
-    }
-}
-
-impl Proc {
-    /// All that it is.
-    pub(crate) fn state(&self) -> &State
-        ensures { result.now ≡ self.now }
-    {
-        &self.state
-    }
-
-    /// Puts another store in place of its own.
-    pub(crate) fn put_store(&mut self, store: Store)
-        ensures { self.new ≡ record self.old { store = store } }
-    {
-        self.state.store = store;
     }
 }

@@ -137,31 +137,8 @@ fn note_frame(
     }
 }
 
-/// Where each variable stands that is seen outward from the newest frame; None where a variable parameter stands for
-/// nothing.
-fn all_seen(
-    alloc: Global,
-    frames: &Frames,
-    code: &Code,
-) -> Result<Option<BTreeMap<u32, Spot>>, Memory>
-    requires { HasDistinctBlocks code.now.layouts }
-    ensures { IfOk result (λ seen. IsSeen code.now.layouts frames.now seen) }
-{
-    let mut seen = BTreeMap::new(alloc);
-    let mut count = frames.len();
-    while count > 0 {
-        let frame = frames.at(count - 1);
-        let whole = have!(note_frame(alloc, &mut seen, frame, code));
-        if !whole {
-            return Ok(None);
-        }
-        let next = smaller(frame.link, count - 1);
-        count = next;
-    }
-    Ok(Some(seen))
-}
-
-/// Where each variable stands, for a fork that asks for many of them; None where they are looked for one by one.
+/// Where each variable stands that is seen outward from the newest frame, for a fork that asks for many of them. None
+/// where they are looked for one by one: by any other fork, and where a variable parameter stands for nothing.
 pub(crate) fn seen_by(
     alloc: Global,
     frames: &Frames,
@@ -172,8 +149,19 @@ pub(crate) fn seen_by(
     requires { HasDistinctBlocks code.now.layouts }
     ensures { IfOk result (λ seen. IsSeen code.now.layouts frames.now seen) }
 {
-    if asks_much(table, count) {
-        return all_seen(alloc, frames, code);
+    if !asks_much(table, count) {
+        return Ok(None);
     }
-    Ok(None)
+    let mut seen = BTreeMap::new(alloc);
+    let mut left = frames.len();
+    while left > 0 {
+        let frame = frames.at(left - 1);
+        let whole = have!(note_frame(alloc, &mut seen, frame, code));
+        if !whole {
+            return Ok(None);
+        }
+        let next = smaller(frame.link, left - 1);
+        left = next;
+    }
+    Ok(Some(seen))
 }

@@ -111,18 +111,12 @@ impl Stack {
     }
 
     /// Takes the channel on top. `None` where none is there; then nothing is said of the stack afterwards.
-    #[inline(always)]
     pub(crate) fn pop_channel(&mut self) -> Option<u32>
         ensures { MatchOption result (HasNoChannel self.old) (λ c. self.old ≡ Channel c ∷ self.new) }
     {
-        match self.entries.pop() {
+        match self.pop() {
             Some(Operand::Channel(c)) => Some(c),
-            Some(entry) => {
-                self.answering -= counted(&entry);
-                mem::forget(entry);
-                None
-            }
-            None => None,
+            _ => None,
         }
     }
 

@@ -1,23 +1,26 @@
 //! The state of a process, and why a turn ends.
 
-ghost use Rattle.std.specs.Prelude.{◌≡◌};
-ghost use Rattle.sp_machine.specs.Outcomes.{result_of_outcome};
-
 use crate::frames::Frames;
 use crate::stack::Stack;
-use sp_base::{Fault, List, Memory, Text};
+use sp_base::{Fault, List, Text};
 use sp_cell::{Address, Cell};
 use sp_store::Store;
 use std::sync::Arc;
 
-/// What a call gives; where memory is refused to it, the function around ends so. One match, where `?` is two generic
-/// calls, which cost the proof more.
+/// What a call gives; where memory is refused to it, the function around ends so, an instruction with `refused`. One
+/// match, where `?` is two generic calls, which cost the proof more.
 #[macro_export]
 macro_rules! have {
     ($call:expr) => {
         match $call {
             Ok(value) => value,
             Err(_) => return Err(Memory),
+        }
+    };
+    ($call:expr, $refused:expr) => {
+        match $call {
+            Ok(value) => value,
+            Err(_) => return $refused,
         }
     };
 }
@@ -50,19 +53,8 @@ pub struct State {
     pub(crate) stopped: Stop,
 }
 
-/// Why a process does not go on behind an instruction. It is small, since each instruction tells it: what a stop holds
-/// besides is kept in the state.
-#[derive(Clone, Copy)]
-pub(crate) enum Interrupt {
-    /// It is due.
-    Pause,
-    /// The instruction has this fault.
-    Fault(Fault),
-    /// It stops, as its state says.
-    Stop,
-}
-
-/// What came of an instruction, told in two bytes: so a call in the midst of a turn answers by registers.
+/// What came of an instruction. It is small, so that the call of an instruction in the midst of a turn answers by
+/// registers: what a stop holds besides is kept in the state.
 #[derive(Clone, Copy)]
 pub(crate) enum Outcome {
     /// The process goes on.
@@ -74,35 +66,7 @@ pub(crate) enum Outcome {
     /// It stops, as its state says.
     Stop,
     /// Memory was refused.
-    Refused(Memory),
-}
-
-/// The same at length.
-#[inline(always)]
-pub(crate) fn unpacked(outcome: Outcome) -> Result<Option<Interrupt>, Memory>
-    ensures { result ≡ result_of_outcome outcome }
-{
-    match outcome {
-        Outcome::On => Ok(None),
-        Outcome::Pause => Ok(Some(Interrupt::Pause)),
-        Outcome::Fault(fault) => Ok(Some(Interrupt::Fault(fault))),
-        Outcome::Stop => Ok(Some(Interrupt::Stop)),
-        Outcome::Refused(e) => Err(e),
-    }
-}
-
-/// The same in two bytes.
-#[inline(always)]
-pub(crate) fn packed(told: Result<Option<Interrupt>, Memory>) -> Outcome
-    ensures { result_of_outcome result ≡ told }
-{
-    match told {
-        Ok(None) => Outcome::On,
-        Ok(Some(Interrupt::Pause)) => Outcome::Pause,
-        Ok(Some(Interrupt::Fault(fault))) => Outcome::Fault(fault),
-        Ok(Some(Interrupt::Stop)) => Outcome::Stop,
-        Err(e) => Outcome::Refused(e),
-    }
+    Refused,
 }
 
 /// Why a turn ended.

@@ -1,6 +1,6 @@
 //! Instructions at which a turn stops: opens, sends, receives and forks.
 
-ghost use Rattle.std.specs.Prelude.{◌≡◌, ◌≢◌, ◌+◌, ◌<◌, ◌≤◌, ◌∷◌, [], IfOk, Some, true, length, int_le, pos, ◌+ℤ◌};
+ghost use Rattle.std.specs.Prelude.{◌≡◌, ◌≢◌, ◌+◌, ◌<◌, ◌≤◌, ◌∷◌, [], IfOk, Some, true, int_le, pos, ◌+ℤ◌};
 ghost use Rattle.std.specs.Prelude.{◌≤ℤ◌};
 ghost use Rattle.sp_code.specs.Machine.{Stuck, At, Forks, values_in};
 ghost use Rattle.sp_code.specs.declared.instr.Instr.TheVariants as instr;
@@ -9,10 +9,10 @@ ghost use Rattle.sp_machine.specs.StackEntries.{entries_of};
 
 use crate::have;
 use crate::stack::Operand;
-use crate::state::{Interrupt, State, Stop};
+use crate::state::{Outcome, State, Stop};
 use sp_base::{Fault, Limits, List, Memory};
 use sp_cell::Cell;
-use sp_code::{Code, ForkTable};
+use sp_code::Code;
 
 /// How many values a range has, or `u64::MAX` where it has more.
 fn count_values(first: i64, last: i64) -> u64
@@ -23,51 +23,42 @@ fn count_values(first: i64, last: i64) -> u64
     last.abs_diff(first).saturating_add(1)
 }
 
-/// How many children a fork table has.
-fn count_children(table: &ForkTable) -> u64
-    ensures count { result ≡ length table.now.children }
-    ensures few { (pos 0 +ℤ pos result) ≤ℤ pos 9223372036854775808 }
-{
-    table.children.items().len() as u64
-}
-
 impl State {
     // Stops to open a channel.
-    pub(crate) fn open(&mut self, code: &Code, limits: &Limits) -> Result<Option<Interrupt>, Memory>
+    pub(crate) fn open(&mut self, code: &Code, limits: &Limits) -> Outcome
         requires next { self.old.pc + 1 < 4294967296 }
         requires safe { does (Some instr.Open) self.old code.now limits.now ≢ Stuck }
-        ensures came { IfOk result (λ s. CameBy (does (Some instr.Open) self.old code.now limits.now) self.old self.new
-            s) }
+        ensures came { CameBy (does (Some instr.Open) self.old code.now limits.now) self.old self.new result }
         ensures same { KeepsNumberAndInput self.old self.new }
     {
         match self.stack.pop_pointer() {
             Some(at) => {
-                have!(self.store.make_own(at.spot));
+                have!(self.store.make_own(at.spot), Outcome::Refused);
                 self.target = at;
                 self.pc += 1;
                 self.stopped = Stop::Open;
-                Ok(Some(Interrupt::Stop))
+                Outcome::Stop
             }
             None => unreachable!(),
         }
     }
 
     // Stops to send a message.
-    pub(crate) fn send(
-        &mut self,
-        message: u32,
-        code: &Code,
-        limits: &Limits,
-    ) -> Result<Option<Interrupt>, Memory>
+    pub(crate) fn send(&mut self, message: u32, code: &Code, limits: &Limits) -> Outcome
         requires next { self.old.pc + 1 < 4294967296 }
         requires safe { does (Some (instr.Send message)) self.old code.now limits.now ≢ Stuck }
-        ensures came { IfOk result (λ s. CameBy (does (Some (instr.Send message)) self.old code.now limits.now) self.old
-            self.new s) }
+        ensures came { CameBy (does (Some (instr.Send message)) self.old code.now limits.now) self.old self.new result }
         ensures same { KeepsNumberAndInput self.old self.new }
     {
         let cells = match self.stack.pop() {
-            Some(Operand::Number(value)) => have!(self.one_cell(Cell::Ordinal(value))),
-            Some(Operand::Channel(channel)) => have!(self.one_cell(Cell::Channel(channel))),
+            Some(Operand::Number(value)) => have!(
+                self.one_cell(Cell::Ordinal(value)),
+                Outcome::Refused
+            ),
+            Some(Operand::Channel(channel)) => have!(
+                self.one_cell(Cell::Channel(channel)),
+                Outcome::Refused
+            ),
             Some(Operand::Cells(cells)) => cells,
             _ => unreachable!(),
         };
@@ -79,7 +70,7 @@ impl State {
                     message,
                     cells,
                 };
-                Ok(Some(Interrupt::Stop))
+                Outcome::Stop
             }
             None => unreachable!(),
         }
@@ -95,26 +86,21 @@ impl State {
     }
 
     // Stops to receive a message.
-    pub(crate) fn receive(
-        &mut self,
-        message: u32,
-        code: &Code,
-        limits: &Limits,
-    ) -> Result<Option<Interrupt>, Memory>
+    pub(crate) fn receive(&mut self, message: u32, code: &Code, limits: &Limits) -> Outcome
         requires next { self.old.pc + 1 < 4294967296 }
         requires safe { does (Some (instr.Receive message)) self.old code.now limits.now ≢ Stuck }
-        ensures came { IfOk result (λ s. CameBy (does (Some (instr.Receive message)) self.old code.now limits.now)
-            self.old self.new s) }
+        ensures came { CameBy (does (Some (instr.Receive message)) self.old code.now limits.now) self.old self.new
+            result }
         ensures same { KeepsNumberAndInput self.old self.new }
     {
         match self.stack.pop_pointer() {
             Some(at) => match self.stack.pop_channel() {
                 Some(channel) => {
-                    have!(self.store.make_own(at.spot));
+                    have!(self.store.make_own(at.spot), Outcome::Refused);
                     self.target = at;
                     self.pc += 1;
                     self.stopped = Stop::Receive { channel, message };
-                    Ok(Some(Interrupt::Stop))
+                    Outcome::Stop
                 }
                 None => unreachable!(),
             },
@@ -123,27 +109,21 @@ impl State {
     }
 
     // Stops to start the children of a fork table.
-    pub(crate) fn fork(
-        &mut self,
-        table: u32,
-        code: &Code,
-        limits: &Limits,
-    ) -> Result<Option<Interrupt>, Memory>
+    pub(crate) fn fork(&mut self, table: u32, code: &Code, limits: &Limits) -> Outcome
         requires next { self.old.pc + 1 < 4294967296 }
         requires safe { does (Some (instr.Fork table)) self.old code.now limits.now ≢ Stuck }
-        ensures came { IfOk result (λ s. CameBy (does (Some (instr.Fork table)) self.old code.now limits.now) self.old
-            self.new s) }
+        ensures came { CameBy (does (Some (instr.Fork table)) self.old code.now limits.now) self.old self.new result }
         ensures same { KeepsNumberAndInput self.old self.new }
     {
         let most = limits.depth;
         match code.table(table) {
             Some(forks) => {
                 if self.depth >= most {
-                    return Ok(Some(Interrupt::Fault(Fault::F11)));
+                    return Outcome::Fault(Fault::F11);
                 }
-                let count = count_children(forks);
+                let count = forks.children.items().len() as u64;
                 self.stop_at_fork(table, 0, count);
-                Ok(Some(Interrupt::Stop))
+                Outcome::Stop
             }
             None => unreachable!(),
         }
@@ -169,16 +149,10 @@ impl State {
     }
 
     // Stops to start a child for each value of a range.
-    pub(crate) fn fork_all(
-        &mut self,
-        table: u32,
-        code: &Code,
-        limits: &Limits,
-    ) -> Result<Option<Interrupt>, Memory>
+    pub(crate) fn fork_all(&mut self, table: u32, code: &Code, limits: &Limits) -> Outcome
         requires next { self.old.pc + 1 < 4294967296 }
         requires safe { does (Some (instr.Forall table)) self.old code.now limits.now ≢ Stuck }
-        ensures came { IfOk result (λ s. CameBy (does (Some (instr.Forall table)) self.old code.now limits.now) self.old
-            self.new s) }
+        ensures came { CameBy (does (Some (instr.Forall table)) self.old code.now limits.now) self.old self.new result }
         ensures same { KeepsNumberAndInput self.old self.new }
     {
         let most = limits.depth;
@@ -187,7 +161,7 @@ impl State {
                 Some(first) => {
                     if last < first {
                         self.pc += 1;
-                        return Ok(None);
+                        return Outcome::On;
                     }
                     if self.depth >= most {
                         return self.fail_both(
@@ -198,21 +172,11 @@ impl State {
                     }
                     let count = count_values(first, last);
                     self.stop_at_fork(table, first, count);
-                    Ok(Some(Interrupt::Stop))
+                    Outcome::Stop
                 }
                 None => unreachable!(),
             },
             None => unreachable!(),
         }
-    }
-
-    // Stops at the end of its code.
-    pub(crate) fn end(&mut self, code: &Code, limits: &Limits) -> Result<Option<Interrupt>, Memory>
-        ensures came { IfOk result (λ s. CameBy (does (Some instr.End) self.old code.now limits.now) self.old self.new
-            s) }
-        ensures same { KeepsNumberAndInput self.old self.new }
-    {
-        self.stopped = Stop::End;
-        Ok(Some(Interrupt::Stop))
     }
 }

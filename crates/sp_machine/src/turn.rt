@@ -8,8 +8,7 @@ ghost use Rattle.sp_code.specs.PlainStore.{plain};
 ghost use Rattle.sp_code.specs.declared.instr.Instr.TheVariants as instr;
 ghost use Rattle.sp_code.specs.Sound.{HasDistinctBlocks};
 ghost use Rattle.sp_machine.specs.StackEntries.{entries_of};
-ghost use Rattle.sp_machine.specs.Outcomes.{result_of_outcome};
-ghost use Rattle.sp_machine.specs.Procs.{CameBy, KeepsNumberAndInput, next_of, stop_by, CanTurn, IsRankedFrom};
+ghost use Rattle.sp_machine.specs.Procs.{CameBy, KeepsNumberAndInput, next_of, CanTurn, IsRankedFrom};
 ghost use Rattle.sp_machine.specs.Procs.{IsTurnOf};
 ghost use Rattle.sp_machine.specs.Procs.{IsSafeThen, WentTwice, Proceeded, config_of, memory_of, code_run_of};
 
@@ -17,7 +16,7 @@ use crate::arithmetic::Conversion;
 use crate::have;
 use crate::io::{Item, Shown};
 use crate::stack::Operand;
-use crate::state::{Interrupt, Outcome, State, Stop, packed, unpacked};
+use crate::state::{Outcome, State, Stop};
 use sp_base::{Fault, Limits, Memory};
 use sp_cell::{Address, Cell};
 use sp_code::{Code, Instr};
@@ -53,11 +52,11 @@ impl State {
     /// A new instruction joins the list of `any_step`, which has all. It joins this one too only if loops run it often:
     /// each one more makes the turn longer.
     #[inline(always)]
-    fn step(&mut self, code: &Code, limits: &Limits) -> Result<Option<Interrupt>, Memory>
+    fn step(&mut self, code: &Code, limits: &Limits) -> Outcome
         requires blocks { HasDistinctBlocks code.now.layouts }
         requires formals { HaveFormals code.now.layouts }
         requires safe { next_of self.old code.now limits.now ≢ Stuck }
-        ensures came { IfOk result (λ s. CameBy (next_of self.old code.now limits.now) self.old self.new s) }
+        ensures came { CameBy (next_of self.old code.now limits.now) self.old self.new result }
         ensures same { KeepsNumberAndInput self.old self.new }
     {
         let Some(instr) = self.fetch(code) else {
@@ -81,34 +80,25 @@ impl State {
             Instr::Le => self.operate(BinaryOp::Le, code, limits),
             Instr::Gt => self.operate(BinaryOp::Gt, code, limits),
             Instr::Ge => self.operate(BinaryOp::Ge, code, limits),
-            Instr::Jump(to) => self.jump(to, code, limits),
+            Instr::Jump(to) => {
+                self.pc = to;
+                Outcome::On
+            }
             Instr::Jumpf(to) => self.jump_false(to, code, limits),
             Instr::Tick => self.tick(code, limits),
             Instr::Nextup { var, to } => self.go_on_loop(false, var, to, code, limits),
             Instr::Nextdown { var, to } => self.go_on_loop(true, var, to, code, limits),
-            _ => unpacked(self.other_step(code, limits)),
+            _ => self.any_step(code, limits),
         }
     }
 
-    /// The next instruction, whichever it is: a call from the turn, told in two bytes.
-    #[inline(never)]
-    fn other_step(&mut self, code: &Code, limits: &Limits) -> Outcome
-        requires blocks { HasDistinctBlocks code.now.layouts }
-        requires formals { HaveFormals code.now.layouts }
-        requires safe { next_of self.old code.now limits.now ≢ Stuck }
-        ensures came { IfOk (result_of_outcome result)
-            (λ s. CameBy (next_of self.old code.now limits.now) self.old self.new s) }
-        ensures same { KeepsNumberAndInput self.old self.new }
-    {
-        packed(self.any_step(code, limits))
-    }
-
     /// The next instruction, whichever it is: all of them stand here.
-    fn any_step(&mut self, code: &Code, limits: &Limits) -> Result<Option<Interrupt>, Memory>
+    #[inline(never)]
+    fn any_step(&mut self, code: &Code, limits: &Limits) -> Outcome
         requires blocks { HasDistinctBlocks code.now.layouts }
         requires formals { HaveFormals code.now.layouts }
         requires safe { next_of self.old code.now limits.now ≢ Stuck }
-        ensures came { IfOk result (λ s. CameBy (next_of self.old code.now limits.now) self.old self.new s) }
+        ensures came { CameBy (next_of self.old code.now limits.now) self.old self.new result }
         ensures same { KeepsNumberAndInput self.old self.new }
     {
         let Some(instr) = self.fetch(code) else {
@@ -142,13 +132,16 @@ impl State {
             Instr::Le => self.operate(BinaryOp::Le, code, limits),
             Instr::Gt => self.operate(BinaryOp::Gt, code, limits),
             Instr::Ge => self.operate(BinaryOp::Ge, code, limits),
-            Instr::Range { .. } => self.range(instr, code, limits),
-            Instr::Succ(_) => self.successor(instr, code, limits),
-            Instr::Pred(_) => self.predecessor(instr, code, limits),
-            Instr::Jump(to) => self.jump(to, code, limits),
+            Instr::Range { .. } => self.bounded(instr, code, limits),
+            Instr::Succ(_) => self.bounded(instr, code, limits),
+            Instr::Pred(_) => self.bounded(instr, code, limits),
+            Instr::Jump(to) => {
+                self.pc = to;
+                Outcome::On
+            }
             Instr::Jumpf(to) => self.jump_false(to, code, limits),
             Instr::Casej { value, to } => self.jump_equal(value, to, code, limits),
-            Instr::Nocase => Ok(Some(Interrupt::Fault(Fault::F9))),
+            Instr::Nocase => Outcome::Fault(Fault::F9),
             Instr::Tick => self.tick(code, limits),
             Instr::Assume => self.assume(code, limits),
             Instr::Forup { var, to } => self.begin_loop(false, var, to, code, limits),
@@ -177,7 +170,10 @@ impl State {
             Instr::Receive(message) => self.receive(message, code, limits),
             Instr::Fork(table) => self.fork(table, code, limits),
             Instr::Forall(table) => self.fork_all(table, code, limits),
-            Instr::End => self.end(code, limits),
+            Instr::End => {
+                self.stopped = Stop::End;
+                Outcome::Stop
+            }
         }
     }
 
@@ -237,35 +233,23 @@ impl State {
     /// The next instruction, or two of them at once.
     #[tactic(auto, using(crate::proofs::TurnSteps::once))]
     #[inline(always)]
-    fn proceed(&mut self, code: &Code, limits: &Limits) -> Result<Option<Interrupt>, Memory>
+    fn proceed(&mut self, code: &Code, limits: &Limits) -> Outcome
         requires blocks { HasDistinctBlocks code.now.layouts }
         requires formals { HaveFormals code.now.layouts }
         requires safe { next_of self.old code.now limits.now ≢ Stuck }
         requires then { IsSafeThen self.old code.now limits.now }
-        ensures came { IfOk result (λ s. Proceeded self.old code.now limits.now self.new s) }
+        ensures came { Proceeded self.old code.now limits.now self.new result }
         ensures same { KeepsNumberAndInput self.old self.new }
     {
         match self.fetch(code) {
             Some(Instr::Addr { up, var }) => {
-                if have!(self.push_loaded(up, var, code, limits)) {
-                    return Ok(None);
+                if have!(self.push_loaded(up, var, code, limits), Outcome::Refused) {
+                    return Outcome::On;
                 }
             }
             _ => {}
         }
         self.step(code, limits)
-    }
-
-    /// Why the turn ends that an instruction interrupted.
-    fn stop_by(&mut self, interrupt: Interrupt) -> Stop
-        ensures stop { stop_by self.old (Some interrupt) ≡ Some result }
-        ensures rest { self.new ≡ record self.old { stopped = self.new.stopped } }
-    {
-        match interrupt {
-            Interrupt::Pause => Stop::Pause,
-            Interrupt::Fault(fault) => Stop::Fault(fault),
-            Interrupt::Stop => mem::replace(&mut self.stopped, Stop::End),
-        }
     }
 
     /// Runs the process to its next stop.
@@ -282,9 +266,11 @@ impl State {
         }
         loop {
             match self.proceed(code, limits) {
-                Err(_) => return Stop::Memory,
-                Ok(Some(interrupt)) => return self.stop_by(interrupt),
-                Ok(None) => {}
+                Outcome::On => {}
+                Outcome::Pause => return Stop::Pause,
+                Outcome::Fault(fault) => return Stop::Fault(fault),
+                Outcome::Stop => return mem::replace(&mut self.stopped, Stop::End),
+                Outcome::Refused => return Stop::Memory,
             }
         }
     }

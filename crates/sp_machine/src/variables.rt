@@ -1,14 +1,14 @@
 //! The instructions on variables: addresses, loads, stores and copies.
 
-ghost use Rattle.std.specs.Prelude.{◌≡◌, ◌≢◌, ◌+◌, ◌*◌, ◌<◌, ◌≤◌, IfOk, MatchOption, Some};
+ghost use Rattle.std.specs.Prelude.{◌≡◌, ◌≢◌, ◌+◌, ◌*◌, ◌<◌, ◌≤◌, MatchOption, Some};
 ghost use Rattle.sp_code.specs.Machine.{Stuck};
 ghost use Rattle.sp_code.specs.declared.instr.Instr.TheVariants as instr;
 ghost use Rattle.sp_machine.specs.Procs.{does, CameBy, KeepsNumberAndInput};
 
 use crate::have;
 use crate::stack::Operand;
-use crate::state::{Interrupt, State, unpacked};
-use sp_base::{Fault, Limits, Memory};
+use crate::state::{Outcome, State};
+use sp_base::{Fault, Limits};
 use sp_cell::{Address, Cell};
 use sp_code::Code;
 
@@ -28,17 +28,10 @@ fn beyond(offset: u32, place: u64, size: u32) -> Option<u32>
 impl State {
     // Pushes the address of a variable.
     #[inline(always)]
-    pub(crate) fn address(
-        &mut self,
-        up: u32,
-        var: u32,
-        code: &Code,
-        limits: &Limits,
-    ) -> Result<Option<Interrupt>, Memory>
+    pub(crate) fn address(&mut self, up: u32, var: u32, code: &Code, limits: &Limits) -> Outcome
         requires next { self.old.pc + 1 < 4294967296 }
         requires safe { does (Some (instr.Addr up var)) self.old code.now limits.now ≢ Stuck }
-        ensures came { IfOk result (λ s. CameBy (does (Some (instr.Addr up var)) self.old code.now limits.now) self.old
-            self.new s) }
+        ensures came { CameBy (does (Some (instr.Addr up var)) self.old code.now limits.now) self.old self.new result }
         ensures same { KeepsNumberAndInput self.old self.new }
     {
         let Some(at) = self.frames.address(up, var) else {
@@ -49,17 +42,10 @@ impl State {
 
     // Pushes the address that a variable parameter stands for.
     #[inline(always)]
-    pub(crate) fn reference(
-        &mut self,
-        up: u32,
-        var: u32,
-        code: &Code,
-        limits: &Limits,
-    ) -> Result<Option<Interrupt>, Memory>
+    pub(crate) fn reference(&mut self, up: u32, var: u32, code: &Code, limits: &Limits) -> Outcome
         requires next { self.old.pc + 1 < 4294967296 }
         requires safe { does (Some (instr.Deref up var)) self.old code.now limits.now ≢ Stuck }
-        ensures came { IfOk result (λ s. CameBy (does (Some (instr.Deref up var)) self.old code.now limits.now) self.old
-            self.new s) }
+        ensures came { CameBy (does (Some (instr.Deref up var)) self.old code.now limits.now) self.old self.new result }
         ensures same { KeepsNumberAndInput self.old self.new }
     {
         let Some(at) = self.frames.reference(up, var) else {
@@ -77,11 +63,11 @@ impl State {
         size: u32,
         code: &Code,
         limits: &Limits,
-    ) -> Result<Option<Interrupt>, Memory>
+    ) -> Outcome
         requires next { self.old.pc + 1 < 4294967296 }
         requires safe { does (Some (instr.Index low high size)) self.old code.now limits.now ≢ Stuck }
-        ensures came { IfOk result (λ s. CameBy (does (Some (instr.Index low high size)) self.old code.now limits.now)
-            self.old self.new s) }
+        ensures came { CameBy (does (Some (instr.Index low high size)) self.old code.now limits.now) self.old
+            self.new result }
         ensures same { KeepsNumberAndInput self.old self.new }
     {
         let Some(n) = self.stack.pop_number() else {
@@ -91,7 +77,7 @@ impl State {
             unreachable!()
         };
         if n < low || high < n {
-            return unpacked(self.fail_number(n, Fault::F1));
+            return self.fail_number(n, Fault::F1);
         }
         let Some(offset) = beyond(at.offset, n.abs_diff(low), size) else {
             unreachable!()
@@ -99,20 +85,14 @@ impl State {
         let spot = at.spot;
         self.stack.put(Operand::Pointer(Address { spot, offset }));
         self.pc += 1;
-        Ok(None)
+        Outcome::On
     }
 
     // Selects what begins this number of cells further on.
-    pub(crate) fn field(
-        &mut self,
-        cells: u32,
-        code: &Code,
-        limits: &Limits,
-    ) -> Result<Option<Interrupt>, Memory>
+    pub(crate) fn field(&mut self, cells: u32, code: &Code, limits: &Limits) -> Outcome
         requires next { self.old.pc + 1 < 4294967296 }
         requires safe { does (Some (instr.Field cells)) self.old code.now limits.now ≢ Stuck }
-        ensures came { IfOk result (λ s. CameBy (does (Some (instr.Field cells)) self.old code.now limits.now) self.old
-            self.new s) }
+        ensures came { CameBy (does (Some (instr.Field cells)) self.old code.now limits.now) self.old self.new result }
         ensures same { KeepsNumberAndInput self.old self.new }
     {
         let Some(at) = self.stack.top_pointer() else {
@@ -124,16 +104,15 @@ impl State {
         let spot = at.spot;
         self.stack.put(Operand::Pointer(Address { spot, offset }));
         self.pc += 1;
-        Ok(None)
+        Outcome::On
     }
 
     // The ordinal at an address.
     #[inline(always)]
-    pub(crate) fn load(&mut self, code: &Code, limits: &Limits) -> Result<Option<Interrupt>, Memory>
+    pub(crate) fn load(&mut self, code: &Code, limits: &Limits) -> Outcome
         requires next { self.old.pc + 1 < 4294967296 }
         requires safe { does (Some instr.Load) self.old code.now limits.now ≢ Stuck }
-        ensures came { IfOk result (λ s. CameBy (does (Some instr.Load) self.old code.now limits.now) self.old self.new
-            s) }
+        ensures came { CameBy (does (Some instr.Load) self.old code.now limits.now) self.old self.new result }
         ensures same { KeepsNumberAndInput self.old self.new }
     {
         let Some(at) = self.stack.top_pointer() else {
@@ -143,22 +122,17 @@ impl State {
             Cell::Ordinal(value) => {
                 self.stack.put(Operand::Number(value));
                 self.pc += 1;
-                Ok(None)
+                Outcome::On
             }
-            Cell::Undefined | Cell::Channel(_) => Ok(Some(Interrupt::Fault(Fault::F4))),
+            Cell::Undefined | Cell::Channel(_) => Outcome::Fault(Fault::F4),
         }
     }
 
     // The channel at an address.
-    pub(crate) fn load_channel(
-        &mut self,
-        code: &Code,
-        limits: &Limits,
-    ) -> Result<Option<Interrupt>, Memory>
+    pub(crate) fn load_channel(&mut self, code: &Code, limits: &Limits) -> Outcome
         requires next { self.old.pc + 1 < 4294967296 }
         requires safe { does (Some instr.Loadc) self.old code.now limits.now ≢ Stuck }
-        ensures came { IfOk result (λ s. CameBy (does (Some instr.Loadc) self.old code.now limits.now) self.old self.new
-            s) }
+        ensures came { CameBy (does (Some instr.Loadc) self.old code.now limits.now) self.old self.new result }
         ensures same { KeepsNumberAndInput self.old self.new }
     {
         let Some(at) = self.stack.top_pointer() else {
@@ -168,23 +142,18 @@ impl State {
             Cell::Channel(channel) => {
                 self.stack.put(Operand::Channel(channel));
                 self.pc += 1;
-                Ok(None)
+                Outcome::On
             }
-            Cell::Undefined | Cell::Ordinal(_) => Ok(Some(Interrupt::Fault(Fault::F5))),
+            Cell::Undefined | Cell::Ordinal(_) => Outcome::Fault(Fault::F5),
         }
     }
 
     // Assigns an ordinal or a channel.
     #[inline(always)]
-    pub(crate) fn assign(
-        &mut self,
-        code: &Code,
-        limits: &Limits,
-    ) -> Result<Option<Interrupt>, Memory>
+    pub(crate) fn assign(&mut self, code: &Code, limits: &Limits) -> Outcome
         requires next { self.old.pc + 1 < 4294967296 }
         requires safe { does (Some instr.Store) self.old code.now limits.now ≢ Stuck }
-        ensures came { IfOk result (λ s. CameBy (does (Some instr.Store) self.old code.now limits.now) self.old self.new
-            s) }
+        ensures came { CameBy (does (Some instr.Store) self.old code.now limits.now) self.old self.new result }
         ensures same { KeepsNumberAndInput self.old self.new }
     {
         let cell = match self.stack.pop() {
@@ -195,22 +164,16 @@ impl State {
         let Some(at) = self.stack.pop_pointer() else {
             unreachable!()
         };
-        have!(self.store.store(at, cell));
+        have!(self.store.store(at, cell), Outcome::Refused);
         self.pc += 1;
-        Ok(None)
+        Outcome::On
     }
 
     // Assigns cells.
-    pub(crate) fn copy(
-        &mut self,
-        cells: u32,
-        code: &Code,
-        limits: &Limits,
-    ) -> Result<Option<Interrupt>, Memory>
+    pub(crate) fn copy(&mut self, cells: u32, code: &Code, limits: &Limits) -> Outcome
         requires next { self.old.pc + 1 < 4294967296 }
         requires safe { does (Some (instr.Copy cells)) self.old code.now limits.now ≢ Stuck }
-        ensures came { IfOk result (λ s. CameBy (does (Some (instr.Copy cells)) self.old code.now limits.now) self.old
-            self.new s) }
+        ensures came { CameBy (does (Some (instr.Copy cells)) self.old code.now limits.now) self.old self.new result }
         ensures same { KeepsNumberAndInput self.old self.new }
     {
         let Some(from) = self.stack.pop_pointer() else {
@@ -219,28 +182,22 @@ impl State {
         let Some(to) = self.stack.pop_pointer() else {
             unreachable!()
         };
-        have!(self.store.copy(to, from, cells));
+        have!(self.store.copy(to, from, cells), Outcome::Refused);
         self.pc += 1;
-        Ok(None)
+        Outcome::On
     }
 
     // The cells from an address on, as one operand.
-    pub(crate) fn pack(
-        &mut self,
-        cells: u32,
-        code: &Code,
-        limits: &Limits,
-    ) -> Result<Option<Interrupt>, Memory>
+    pub(crate) fn pack(&mut self, cells: u32, code: &Code, limits: &Limits) -> Outcome
         requires next { self.old.pc + 1 < 4294967296 }
         requires safe { does (Some (instr.Pack cells)) self.old code.now limits.now ≢ Stuck }
-        ensures came { IfOk result (λ s. CameBy (does (Some (instr.Pack cells)) self.old code.now limits.now) self.old
-            self.new s) }
+        ensures came { CameBy (does (Some (instr.Pack cells)) self.old code.now limits.now) self.old self.new result }
         ensures same { KeepsNumberAndInput self.old self.new }
     {
         let Some(at) = self.stack.pop_pointer() else {
             unreachable!()
         };
-        let taken = have!(self.store.cells(at, cells));
+        let taken = have!(self.store.cells(at, cells), Outcome::Refused);
         self.push_on(Operand::Cells(taken))
     }
 }

@@ -15,7 +15,7 @@ impl Proc {
     pub fn frames(&self) -> &Frames
         ensures { result.now ≡ self.now.frames }
     {
-        &self.state().frames
+        &self.state.frames
     }
 
     /// The numbers of the instructions at which its live calls return, the innermost first. The instruction of a call
@@ -23,7 +23,7 @@ impl Proc {
     pub fn returns(&self, alloc: Global) -> Result<List<u32>, Memory>
         ensures { IfOk result (λ xs. xs ≡ returns (entries_of self.now.stack)) }
     {
-        self.state().stack.returns(alloc)
+        self.state.stack.returns(alloc)
     }
 }
 

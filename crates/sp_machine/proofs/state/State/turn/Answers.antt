@@ -1,69 +1,71 @@
-use Rattle.std.proofs.Common.{suc, inl, inr, subst, sym, ◌∙◌}
-use Rattle.sp_machine.specs.Procs.{StepMatches, next_of, IsTurnOf, Proceeded}
-use Rattle.sp_machine.proofs.TurnSteps.{safe_next, safe_both, on_it, on_both, smaller, smaller_both, ends_it, came_some}
+use Rattle.std.proofs.Common.{suc, inl, inr, refl, Some, ap, sym, ◌∙◌}
+use Rattle.sp_machine.specs.declared.state.Outcome.TheVariants as outcome
+use Rattle.sp_machine.specs.declared.state.Stop.{Stop}
+use Rattle.sp_machine.specs.declared.state.Stop.TheVariants as stop
+use Rattle.sp_machine.proofs.TurnSteps.{safe_next, safe_both, on_it, on_both, smaller, smaller_both, ends_by}
 use Rattle.sp_machine.proofs.TurnSteps.{turned_with}
 use Rattle.sp_machine.proofs.state.State.turn.Goals as goal
 
 pub proceed-requires-clause-safe : goal.proceed-requires-clause-safe
-proceed-requires-clause-safe c = safe_next c.args.self.now c.args.code.now c.args.limits.now c.loop-interrupt.self
-    c.loop-interrupt.invariant.same.1 c.loop-interrupt.invariant.came.0 c.requires.safe c.loop-interrupt.invariant.begun
-    c.loop-interrupt.invariant.came.1
+proceed-requires-clause-safe c = safe_next c.args.self.now c.args.code.now c.args.limits.now c.loop-fault.self
+    c.loop-fault.invariant.same.1 c.loop-fault.invariant.came.0 c.requires.safe c.loop-fault.invariant.begun
+    c.loop-fault.invariant.came.1
 
 pub proceed-requires-clause-then : goal.proceed-requires-clause-then
-proceed-requires-clause-then c = safe_both c.args.self.now c.args.code.now c.args.limits.now c.loop-interrupt.self
-    c.loop-interrupt.invariant.same.1 c.loop-interrupt.invariant.came.0 c.requires.safe c.loop-interrupt.invariant.begun
-    c.loop-interrupt.invariant.came.1
+proceed-requires-clause-then c = safe_both c.args.self.now c.args.code.now c.args.limits.now c.loop-fault.self
+    c.loop-fault.invariant.same.1 c.loop-fault.invariant.came.0 c.requires.safe c.loop-fault.invariant.begun
+    c.loop-fault.invariant.came.1
 
-pub returns-in-Ok-Some-clause-turn : goal.returns-in-Ok-Some-clause-turn
-returns-in-Ok-Some-clause-turn c =
-    subst (λ y. IsTurnOf c.args.self.now c.args.code.now c.args.limits.now y c.stop_by.result)
-    (sym c.stop_by.ensures.rest)
-    (turned_with c.args.self.now c.args.code.now c.args.limits.now c.proceed.new.self c.stop_by.new.self.stopped
-    c.stop_by.result
-    (ends_it c.args.self.now c.args.code.now c.args.limits.now c.loop-interrupt.self c.loop-interrupt.invariant.same.1
-    c.proceed.new.self c.loop-interrupt.invariant.came.0 c.requires.safe c.loop-interrupt.invariant.begun
-    c.loop-interrupt.invariant.came.1 c.stop_by.result
-    (subst (λ s. StepMatches (next_of c.loop-interrupt.self c.args.code.now c.args.limits.now) c.loop-interrupt.self
-    c.proceed.new.self s)
-    c.stop_by.ensures.stop
-    (came_some c.loop-interrupt.self c.args.code.now c.args.limits.now c.proceed.new.self _
-    (subst (λ s. Proceeded c.loop-interrupt.self c.args.code.now c.args.limits.now c.proceed.new.self s)
-    c.in-Ok-Some.field-0-is c.in-Ok-Some.ensures.came)))))
+pub returns-in-Pause-clause-turn : goal.returns-in-Pause-clause-turn
+returns-in-Pause-clause-turn c = ends_by c.args.self.now c.args.code.now c.args.limits.now c.loop-fault.self
+    c.loop-fault.invariant.same.1 c.proceed.new.self c.loop-fault.invariant.came.0 c.requires.safe
+    c.loop-fault.invariant.begun c.loop-fault.invariant.came.1 outcome.Pause stop.Pause refl c.in-Pause.ensures.came
 
-pub loop-interrupt-smaller : goal.loop-interrupt-smaller
-loop-interrupt-smaller c = elim (subst
-    (λ s. Proceeded c.loop-interrupt.self c.args.code.now c.args.limits.now c.proceed.new.self s)
-    c.in-Ok-None.field-0-is c.in-Ok-None.ensures.came) [
-      | inl once ↦ smaller c.args.self.now c.args.code.now c.args.limits.now c.loop-interrupt.self
-          c.loop-interrupt.invariant.same.1 c.proceed.new.self c.loop-interrupt.invariant.came.0 c.requires.safe
-          c.loop-interrupt.invariant.begun c.loop-interrupt.invariant.came.1 c.requires.ranked once
-      | inr twice ↦ smaller_both c.args.self.now c.args.code.now c.args.limits.now c.loop-interrupt.self
-          c.loop-interrupt.invariant.same.1 c.proceed.new.self c.loop-interrupt.invariant.came.0 c.requires.safe
-          c.loop-interrupt.invariant.begun c.loop-interrupt.invariant.came.1 c.requires.ranked twice.1
-    ]
+pub returns-in-Fault-clause-turn : goal.returns-in-Fault-clause-turn
+returns-in-Fault-clause-turn c = ends_by c.args.self.now c.args.code.now c.args.limits.now c.loop-fault.self
+    c.loop-fault.invariant.same.1 c.proceed.new.self c.loop-fault.invariant.came.0 c.requires.safe
+    c.loop-fault.invariant.begun c.loop-fault.invariant.came.1 (outcome.Fault c.in-Fault.fault)
+    (stop.Fault c.in-Fault.fault) refl c.in-Fault.ensures.came
 
-pub loop-interrupt-preserved : goal.loop-interrupt-preserved
-loop-interrupt-preserved c = record {
+pub returns-in-Stop-clause-turn : goal.returns-in-Stop-clause-turn
+returns-in-Stop-clause-turn c =
+    turned_with c.args.self.now c.args.code.now c.args.limits.now c.proceed.new.self c.replace.new.dest
+    c.replace.result
+    (ends_by c.args.self.now c.args.code.now c.args.limits.now c.loop-fault.self c.loop-fault.invariant.same.1
+    c.proceed.new.self c.loop-fault.invariant.came.0 c.requires.safe c.loop-fault.invariant.begun
+    c.loop-fault.invariant.came.1 outcome.Stop c.replace.result
+    (ap (λ (s : Stop). Some (Some s)) (sym c.replace.ensures.value)) c.in-Stop.ensures.came)
+
+pub loop-fault-smaller : goal.loop-fault-smaller
+loop-fault-smaller c = elim c.in-On.ensures.came [
+  | inl once ↦ smaller c.args.self.now c.args.code.now c.args.limits.now c.loop-fault.self
+      c.loop-fault.invariant.same.1 c.proceed.new.self c.loop-fault.invariant.came.0 c.requires.safe
+      c.loop-fault.invariant.begun c.loop-fault.invariant.came.1 c.requires.ranked once
+  | inr twice ↦ smaller_both c.args.self.now c.args.code.now c.args.limits.now c.loop-fault.self
+      c.loop-fault.invariant.same.1 c.proceed.new.self c.loop-fault.invariant.came.0 c.requires.safe
+      c.loop-fault.invariant.begun c.loop-fault.invariant.came.1 c.requires.ranked twice.1
+]
+
+pub loop-fault-preserved : goal.loop-fault-preserved
+loop-fault-preserved c = record {
   same = (
-    c.proceed.ensures.same.0 ∙ c.loop-interrupt.invariant.same.0,
+    c.proceed.ensures.same.0 ∙ c.loop-fault.invariant.same.0,
     c.proceed.ensures.same.1
-        ∙ c.loop-interrupt.invariant.same.1,
+        ∙ c.loop-fault.invariant.same.1,
   );
-  begun = c.loop-interrupt.invariant.begun;
-  came = elim (subst
-      (λ s. Proceeded c.loop-interrupt.self c.args.code.now c.args.limits.now c.proceed.new.self s)
-      c.in-Ok-None.field-0-is c.in-Ok-None.ensures.came) [
-        | inl once ↦ (
-          suc c.loop-interrupt.invariant.came.0,
-          on_it c.args.self.now c.args.code.now c.args.limits.now c.loop-interrupt.self
-              c.loop-interrupt.invariant.same.1 c.proceed.new.self c.loop-interrupt.invariant.came.0 c.requires.safe
-              c.loop-interrupt.invariant.begun c.loop-interrupt.invariant.came.1 once,
-        )
-        | inr twice ↦ (
-          suc (suc c.loop-interrupt.invariant.came.0),
-          on_both c.args.self.now c.args.code.now c.args.limits.now c.loop-interrupt.self
-              c.loop-interrupt.invariant.same.1 c.proceed.new.self c.loop-interrupt.invariant.came.0 c.requires.safe
-              c.loop-interrupt.invariant.begun c.loop-interrupt.invariant.came.1 twice.1,
-        )
-      ];
+  begun = c.loop-fault.invariant.begun;
+  came = elim c.in-On.ensures.came [
+    | inl once ↦ (
+      suc c.loop-fault.invariant.came.0,
+      on_it c.args.self.now c.args.code.now c.args.limits.now c.loop-fault.self c.loop-fault.invariant.same.1
+          c.proceed.new.self c.loop-fault.invariant.came.0 c.requires.safe c.loop-fault.invariant.begun
+          c.loop-fault.invariant.came.1 once,
+    )
+    | inr twice ↦ (
+      suc (suc c.loop-fault.invariant.came.0),
+      on_both c.args.self.now c.args.code.now c.args.limits.now c.loop-fault.self c.loop-fault.invariant.same.1
+          c.proceed.new.self c.loop-fault.invariant.came.0 c.requires.safe c.loop-fault.invariant.begun
+          c.loop-fault.invariant.came.1 twice.1,
+    )
+  ];
 }

@@ -6,8 +6,8 @@ use Rattle.sp_code.specs.Budgets.{left_by, ticks_left}
 use Rattle.sp_machine.specs.Procs.{config_of, code_run_of, KeepsNumberAndInput}
 use Rattle.sp_machine.proofs.state.State.turn.Given as goal
 
-abbrev pub invariant-loop-interrupt : goal.invariant-loop-interrupt
-invariant-loop-interrupt l = record {
+abbrev pub invariant-loop-fault : goal.invariant-loop-fault
+invariant-loop-fault l = record {
   same : KeepsNumberAndInput l.fn.self l.self;
   begun : frames_fit (memory plain (code_run_of l.fn.self l.code l.limits)) l.code (config_of l.fn.self)
       ≡ Rattle.std.proofs.Common.true;
@@ -15,6 +15,6 @@ invariant-loop-interrupt l = record {
       (config_of l.self);
 }
 
-abbrev pub decreases-loop-interrupt : goal.decreases-loop-interrupt
-decreases-loop-interrupt l = left_by l.code.instrs (ticks_left (code_run_of l.fn.self l.code l.limits))
+abbrev pub decreases-loop-fault : goal.decreases-loop-fault
+decreases-loop-fault l = left_by l.code.instrs (ticks_left (code_run_of l.fn.self l.code l.limits))
     (config_of l.self)
