@@ -63,7 +63,9 @@ fn entry_in(code: &Code, table: u32, number: u64) -> Option<u32> {
 }
 
 fn reads_instructions(code: &Code) -> bool {
-    code.instr(6) == Some(Instr::Mul) && code.instr(9).is_none() && code.parts().instrs.len() == 9
+    matches!(code.instr(6), Some(Instr::Mul))
+        && code.instr(9).is_none()
+        && code.parts().instrs.len() == 9
 }
 
 fn reads_texts(code: &Code) -> bool {

@@ -4,7 +4,7 @@
 ///
 /// `up` counts static levels outward from the newest frame, and `var` is the number of a variable in its frame. `to`
 /// is the number of an instruction.
-#[derive(Clone, Copy, PartialEq, Eq)]
+#[derive(Clone, Copy)]
 pub enum Instr {
     /// Pushes an ordinal.
     Const(i64),
