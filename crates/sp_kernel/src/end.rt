@@ -50,16 +50,19 @@ impl Kernel {
     }
 
     // The first process ends.
-    fn end_root(&mut self, mut proc: Proc) -> Result<(), Proc>
+    fn end_root(&mut self, mut proc: Proc) -> Result<(), Handed>
         requires there { proc.number < length self.old.slots }
         ensures ok { OnOk result ((p : _) × EntersAs proc p
             × (self.new ≡ kernel_after_give proc.number event.End (slot.Here p st.Over) self.old)) }
         ensures err { OnErr result (self.new ≡ self.old) }
-        ensures returned { IfErr result (λ p. p ≡ proc) }
+        ensures returned { IfErr result (λ h. h ≡ record { proc = proc; stop = stop.End }) }
     {
         let number = proc.number();
         if self.note(number, Event::End).is_err() {
-            return Err(proc);
+            return Err(Handed {
+                proc,
+                stop: Stop::End,
+            });
         }
         proc.enter();
         self.place(number, Slot::Here(proc, State::Over));
@@ -102,18 +105,21 @@ impl Kernel {
     }
 
     // A child ends.
-    fn end_child(&mut self, proc: Proc, parent: u32) -> Result<(), Proc>
+    fn end_child(&mut self, proc: Proc, parent: u32) -> Result<(), Handed>
         requires there { (proc.number < length self.old.slots) × (parent < length self.old.slots) }
         requires apart { proc.number ≢ parent }
         requires joiner { IsJoiner (slice_get self.old.slots parent) proc }
         ensures ok { OnOk result ((t : _) × JoinedSlot (slice_get self.old.slots parent) proc t
             × (self.new ≡ ends_child proc.number parent t self.old)) }
         ensures err { OnErr result (self.new ≡ self.old) }
-        ensures returned { IfErr result (λ p. p ≡ proc) }
+        ensures returned { IfErr result (λ h. h ≡ record { proc = proc; stop = stop.End }) }
     {
         let number = proc.number();
         if self.note_end(number, parent).is_err() {
-            return Err(proc);
+            return Err(Handed {
+                proc,
+                stop: Stop::End,
+            });
         }
         self.place(number, Slot::Ended);
         self.rejoin(parent, proc);
@@ -130,20 +136,8 @@ impl Kernel {
         ensures returned { IfErr result (λ h. h ≡ record { proc = proc; stop = stop.End }) }
     {
         match self.parent(proc.number()) {
-            None => match self.end_root(proc) {
-                Ok(()) => Ok(()),
-                Err(proc) => Err(Handed {
-                    proc,
-                    stop: Stop::End,
-                }),
-            },
-            Some(parent) => match self.end_child(proc, parent) {
-                Ok(()) => Ok(()),
-                Err(proc) => Err(Handed {
-                    proc,
-                    stop: Stop::End,
-                }),
-            },
+            None => self.end_root(proc),
+            Some(parent) => self.end_child(proc, parent),
         }
     }
 }

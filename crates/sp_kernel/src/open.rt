@@ -30,7 +30,7 @@ impl Kernel {
 
     // A channel more, whose number goes to the process.
     #[tactic(auto, using(crate::proofs::ListEnds::last_gone))]
-    fn open_now(&mut self, mut proc: Proc) -> Result<(), Proc>
+    fn open_now(&mut self, mut proc: Proc) -> Result<(), Handed>
         requires there { proc.number < length self.old.slots }
         requires few { self.old.entries + 1 < 18446744073709551616 }
         requires channels { length self.old.channels < 4294967295 }
@@ -38,16 +38,22 @@ impl Kernel {
         ensures ok { OnOk result ((p : _) × EntersAt proc (length self.old.channels) p
             × (self.new ≡ kernel_after_open p self.old)) }
         ensures err { OnErr result (self.new ≡ self.old) }
-        ensures returned { IfErr result (λ p. p ≡ proc) }
+        ensures returned { IfErr result (λ h. h ≡ record { proc = proc; stop = stop.Open }) }
     {
         let number = proc.number();
         if self.note_ready(number, number, Event::Open).is_err() {
-            return Err(proc);
+            return Err(Handed {
+                proc,
+                stop: Stop::Open,
+            });
         }
         match self.channels.open(number) {
             Err(_) => {
                 self.unnote();
-                Err(proc)
+                Err(Handed {
+                    proc,
+                    stop: Stop::Open,
+                })
             }
             Ok(channel) => {
                 proc.enter();
@@ -87,12 +93,6 @@ impl Kernel {
                 Fault::F14,
             );
         }
-        match self.open_now(proc) {
-            Ok(()) => Ok(()),
-            Err(proc) => Err(Handed {
-                proc,
-                stop: Stop::Open,
-            }),
-        }
+        self.open_now(proc)
     }
 }

@@ -22,7 +22,7 @@ use sp_machine::{Answer, Proc};
 
 impl Kernel {
     // An offer to receive that finds nothing pending.
-    fn receive_first(&mut self, mut proc: Proc, channel: u32, message: u32) -> Result<(), Proc>
+    fn receive_first(&mut self, mut proc: Proc, channel: u32, message: u32) -> Result<(), Handed>
         requires there { proc.number < length self.old.slots }
         requires few { self.old.entries + 1 < 18446744073709551616 }
         requires channel { channel < length self.old.channels }
@@ -30,11 +30,11 @@ impl Kernel {
         ensures ok { OnOk result ((p : _) × EntersAs proc p
             × (self.new ≡ waits_to_receive p channel message self.old)) }
         ensures err { OnErr result (self.new ≡ self.old) }
-        ensures returned { IfErr result (λ p. p ≡ proc) }
+        ensures returned { IfErr result (λ h. h ≡ record { proc = proc; stop = stop.Receive channel message }) }
     {
         let number = proc.number();
         if self.note(number, Event::Receive(channel)).is_err() {
-            return Err(proc);
+            return Err(Handed::receiving(proc, channel, message));
         }
         let _ = self.channels.offer(Way::Receive, channel, number, message);
         proc.enter();
@@ -70,7 +70,7 @@ impl Kernel {
         channel: u32,
         other: u32,
         message: u32,
-    ) -> Result<(), Proc>
+    ) -> Result<(), Handed>
         requires there { (proc.number < length self.old.slots) × (other < length self.old.slots) }
         requires few { self.old.entries + 1 < 18446744073709551616 }
         requires channel { channel < length self.old.channels }
@@ -79,14 +79,14 @@ impl Kernel {
         requires sender { IsSender (slice_get self.old.slots other) proc }
         ensures ok { OnOk result (HasReceived self.old proc channel other self.new) }
         ensures err { OnErr result (self.new ≡ self.old) }
-        ensures returned { IfErr result (λ p. p ≡ proc) }
+        ensures returned { IfErr result (λ h. h ≡ record { proc = proc; stop = stop.Receive channel message }) }
     {
         let number = proc.number();
         if self
             .note_both(other, number, Event::Receive(channel))
             .is_err()
         {
-            return Err(proc);
+            return Err(Handed::receiving(proc, channel, message));
         }
         let _ = self.channels.offer(Way::Receive, channel, number, message);
         let cells = self.fetch(other, &proc);
@@ -117,20 +117,14 @@ impl Kernel {
             return self.fail(Handed::receiving(proc, channel, message), Fault::F15);
         }
         match self.channels.pending(channel) {
-            None => match self.receive_first(proc, channel, message) {
-                Ok(()) => Ok(()),
-                Err(proc) => Err(Handed::receiving(proc, channel, message)),
-            },
+            None => self.receive_first(proc, channel, message),
             Some(first) => match first.way {
                 Way::Receive => self.fail(Handed::receiving(proc, channel, message), Fault::F6),
                 Way::Send => {
                     if first.message != message {
                         return self.fail(Handed::receiving(proc, channel, message), Fault::F7);
                     }
-                    match self.receive_second(proc, channel, first.process, message) {
-                        Ok(()) => Ok(()),
-                        Err(proc) => Err(Handed::receiving(proc, channel, message)),
-                    }
+                    self.receive_second(proc, channel, first.process, message)
                 }
             },
         }

@@ -28,7 +28,7 @@ impl Kernel {
         channel: u32,
         message: u32,
         cells: List<Cell>,
-    ) -> Result<(), (Proc, List<Cell>)>
+    ) -> Result<(), Handed>
         requires there { proc.number < length self.old.slots }
         requires few { self.old.entries + 1 < 18446744073709551616 }
         requires channel { channel < length self.old.channels }
@@ -36,11 +36,11 @@ impl Kernel {
         ensures ok { OnOk result ((p : _) × EntersAs proc p
             × (self.new ≡ waits_to_send p channel message cells self.old)) }
         ensures err { OnErr result (self.new ≡ self.old) }
-        ensures returned { IfErr result (λ r. (r.0 ≡ proc) × (r.1 ≡ cells)) }
+        ensures returned { IfErr result (λ h. h ≡ record { proc = proc; stop = stop.Send channel message cells }) }
     {
         let number = proc.number();
         if self.note(number, Event::Send(channel)).is_err() {
-            return Err((proc, cells));
+            return Err(Handed::sending(proc, channel, message, cells));
         }
         let _ = self.channels.offer(Way::Send, channel, number, message);
         proc.enter();
@@ -76,7 +76,7 @@ impl Kernel {
         cells: List<Cell>,
         other: u32,
         message: u32,
-    ) -> Result<(), (Proc, List<Cell>)>
+    ) -> Result<(), Handed>
         requires there { (proc.number < length self.old.slots) × (other < length self.old.slots) }
         requires few { self.old.entries + 1 < 18446744073709551616 }
         requires channel { channel < length self.old.channels }
@@ -85,11 +85,11 @@ impl Kernel {
         requires receiver { IsReceiver (slice_get self.old.slots other) cells }
         ensures ok { OnOk result (HasSent self.old proc cells channel other self.new) }
         ensures err { OnErr result (self.new ≡ self.old) }
-        ensures returned { IfErr result (λ r. (r.0 ≡ proc) × (r.1 ≡ cells)) }
+        ensures returned { IfErr result (λ h. h ≡ record { proc = proc; stop = stop.Send channel message cells }) }
     {
         let number = proc.number();
         if self.note_both(other, number, Event::Send(channel)).is_err() {
-            return Err((proc, cells));
+            return Err(Handed::sending(proc, channel, message, cells));
         }
         let _ = self.channels.offer(Way::Send, channel, number, message);
         self.deliver(other, cells);
@@ -120,20 +120,14 @@ impl Kernel {
             return self.fail(Handed::sending(proc, channel, message, cells), Fault::F15);
         }
         match self.channels.pending(channel) {
-            None => match self.send_first(proc, channel, message, cells) {
-                Ok(()) => Ok(()),
-                Err((proc, cells)) => Err(Handed::sending(proc, channel, message, cells)),
-            },
+            None => self.send_first(proc, channel, message, cells),
             Some(first) => match first.way {
                 Way::Send => self.fail(Handed::sending(proc, channel, message, cells), Fault::F6),
                 Way::Receive => {
                     if first.message != message {
                         return self.fail(Handed::sending(proc, channel, message, cells), Fault::F7);
                     }
-                    match self.send_second(proc, channel, cells, first.process, message) {
-                        Ok(()) => Ok(()),
-                        Err((proc, cells)) => Err(Handed::sending(proc, channel, message, cells)),
-                    }
+                    self.send_second(proc, channel, cells, first.process, message)
                 }
             },
         }

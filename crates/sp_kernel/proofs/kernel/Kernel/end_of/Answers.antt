@@ -1,4 +1,5 @@
 use Rattle.std.proofs.Common.{◌≡◌, ℕ, Some, None, sym, ap, subst, refl, ◌∙◌}
+use Rattle.sp_base.proofs.Facts.{on_ok}
 use Rattle.sp_machine.specs.declared.state.State.{State as Proc}
 use Rattle.sp_machine.specs.declared.state.Stop.TheVariants as stop
 use Rattle.sp_kernel.specs.declared.slot.Slot.TheVariants as slot
@@ -43,10 +44,10 @@ end_child-requires-clause-joiner c =
     c.requires.fits c.in-Some.parent (child c.args.self.now c.requires.whole c.args._worker c.args.proc
     c.requires.fits c.number.result c.in-Some.parent c.parent.result c.number.ensures c.parent.ensures c.in-Some.is)
 
-pub returns-in-Ok-clause-ok : goal.returns-in-Ok-clause-ok
-returns-in-Ok-clause-ok c =
+pub returns-in-None-clause-ok : goal.returns-in-None-clause-ok
+returns-in-None-clause-ok c = on_ok c.end_root.result c.end_root.ensures.ok (λ done.
     let x : Kernel = c.args.self.now in
-    let (over, enters, kernel_is) = c.in-Ok.ensures.ok in
+    let (over, enters, kernel_is) = done in
     let (_, same_number, _, _) = enters in
     let none : (births x.journal.entries).birth c.args.proc.number ≡ None =
     no_birth _ (sym (c.requires.whole.parents.each c.args.proc.number)
@@ -56,13 +57,12 @@ returns-in-Ok-clause-ok c =
     (subst (λ n. IsAfterGive x c.args.proc.number (at_end c.args.proc)
     (kernel_after_give n event.End (slot.Here over st.Over) x))
     same_number (gave_root x c.requires.whole c.args.proc.number c.args._worker c.requires.fits.out
-    (at_end c.args.proc) refl c.requires.no_fault (refl, c.requires.fits.input) over enters none))
+    (at_end c.args.proc) refl c.requires.no_fault (refl, c.requires.fits.input) over enters none)))
 
-pub returns-in-Ok-end_child-clause-ok : goal.returns-in-Ok-end_child-clause-ok
-returns-in-Ok-end_child-clause-ok c =
+pub returns-in-Some-clause-ok : goal.returns-in-Some-clause-ok
+returns-in-Some-clause-ok c = on_ok c.end_child.result c.end_child.ensures.ok (λ done.
     let x : Kernel = c.args.self.now in
-    let done = c.in-Ok-end_child.ensures.ok in
     subst (IsAfterGive x c.args.proc.number (at_end c.args.proc)) (sym done.2)
     (gave_end x c.requires.whole c.args._worker (at_end c.args.proc) refl c.requires.no_fault c.requires.fits
     c.in-Some.parent (child x c.requires.whole c.args._worker c.args.proc c.requires.fits c.number.result
-    c.in-Some.parent c.parent.result c.number.ensures c.parent.ensures c.in-Some.is) done.0 done.1)
+    c.in-Some.parent c.parent.result c.number.ensures c.parent.ensures c.in-Some.is) done.0 done.1))

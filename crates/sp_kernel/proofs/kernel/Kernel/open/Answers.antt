@@ -1,5 +1,6 @@
 use Rattle.std.proofs.Common.{◌≡◌, ◌+◌, ◌<◌, ◌≤◌, ℕ, nat_lt, true, false, None, sym, subst, refl, length, arith}
 use Rattle.sp_base.specs.declared.fault.Fault.TheVariants as fault
+use Rattle.sp_base.proofs.Facts.{on_ok}
 use Rattle.sp_cell.specs.declared.cell.Cell.TheVariants as cell
 use Rattle.sp_code.specs.Machine as m
 use Rattle.sp_code.specs.Turns.{Stopped}
@@ -46,15 +47,14 @@ pub open_now-requires-clause-target : goal.open_now-requires-clause-target
 open_now-requires-clause-target c = open_takes (code_run_of c.args.self.now) (code_run_of c.args.self.now).code
     c.requires.fits.configuration c.args.proc c.requires.fits.turn (cell.Channel (length c.args.self.now.channels))
 
-pub returns-in-Ok-clause-ok : goal.returns-in-Ok-clause-ok
-returns-in-Ok-clause-ok c =
+pub returns-clause-ok : goal.returns-clause-ok
+returns-clause-ok c = on_ok c.open_now.result c.open_now.ensures.ok (λ done.
     let x : Kernel = c.args.self.now in
     let h : Handed = at_open c.args.proc in
     let fine : fault_of x.limits (system_of x) (Stopped (m.Opens c.args.proc.target) (config_of c.args.proc)) ≡ None =
     open_fine x.limits (system_of x) c.args.proc.target (config_of c.args.proc)
     (not_full x.limits.entries x.entries c.from.result c.from.ensures c.if-self-from.false)
     (few x c.requires.whole c.count.result c.count.ensures c.if-count-self.false) in
-    let done = c.in-Ok.ensures.ok in
     subst (IsAfterGive x c.args.proc.number h) (sym done.2)
     (gave_open x c.requires.whole c.args.proc.number c.args._worker c.requires.fits.out h refl c.requires.no_fault fine
-    done.0 done.1 refl c.requires.fits.input)
+    done.0 done.1 refl c.requires.fits.input))

@@ -1,5 +1,6 @@
 use Rattle.std.proofs.Common.{◌≡◌, ◌≢◌, ℕ, ◌==◌, Bool, true, false, Option, Some, None}
 use Rattle.std.proofs.Common.{slice_get, sym, ap, subst, refl, ◌∙◌, arith}
+use Rattle.sp_base.proofs.Facts.{on_ok}
 use Rattle.sp_base.specs.declared.fault.Fault.{Fault}
 use Rattle.sp_base.specs.declared.fault.Fault.TheVariants as fault
 use Rattle.sp_journal.specs.declared.entry.Way.TheVariants as way
@@ -94,21 +95,20 @@ receive_second-requires-clause-sender c =
     sender_fits x c.requires.whole c.args._worker (receives c.args.proc c.args.channel c.args.message) c.args.channel
     c.args.message refl c.requires.no_fault fine c.requires.fits c.in-Some.first here c.in-Send.is
 
-pub returns-in-Ok-clause-ok : goal.returns-in-Ok-clause-ok
-returns-in-Ok-clause-ok c =
+pub returns-in-None-clause-ok : goal.returns-in-None-clause-ok
+returns-in-None-clause-ok c = on_ok c.receive_first.result c.receive_first.ensures.ok (λ done.
     let x : Kernel = c.args.self.now in
     let h : Handed = receives c.args.proc c.args.channel c.args.message in
     let here : slice_get x.channels c.args.channel ≡ Some None =
     table_has x.channels c.args.channel None None c.requires.fits.offered (sym c.pending.ensures ∙ c.in-None.is) in
     let fine = fault_free x c.requires.whole c.args.channel c.args.message c.args.proc.target (config_of c.args.proc)
     (not_full x.limits.entries x.entries c.from.result c.from.ensures c.if-self-from.false) here in
-    let done = c.in-Ok.ensures.ok in
     subst (IsAfterGive x c.args.proc.number h) (sym done.2)
     (gave_first x c.requires.whole c.args.proc.number c.args._worker c.requires.fits.out h c.args.channel
-    c.args.message refl c.requires.no_fault fine refl c.requires.fits.input done.0 done.1 here)
+    c.args.message refl c.requires.no_fault fine refl c.requires.fits.input done.0 done.1 here))
 
-pub returns-in-Ok-receive_second-clause-ok : goal.returns-in-Ok-receive_second-clause-ok
-returns-in-Ok-receive_second-clause-ok c =
+pub returns-else-first-message-clause-ok : goal.returns-else-first-message-clause-ok
+returns-else-first-message-clause-ok c = on_ok c.receive_second.result c.receive_second.ensures.ok (λ done.
     let x : Kernel = c.args.self.now in
     let h : Handed = receives c.args.proc c.args.channel c.args.message in
     let here : slice_get x.channels c.args.channel ≡ Some (Some c.in-Some.first) =
@@ -122,8 +122,8 @@ returns-in-Ok-receive_second-clause-ok c =
     c.in-Send.is
     ∙ none_if (c.in-Some.first.message == c.args.message)
     (same_message c.in-Some.first.message c.args.message c.if-first-message.false) in
-    let (ready, sender, cells, sends, enters, kernel_is) = c.in-Ok-receive_second.ensures.ok in
+    let (ready, sender, cells, sends, enters, kernel_is) = done in
     subst (IsAfterGive x c.args.proc.number h) (sym kernel_is)
     (gave_met x c.requires.whole c.args.proc.number c.args._worker c.requires.fits.out h c.args.channel
     c.args.message refl c.requires.no_fault fine refl c.requires.fits.input c.in-Some.first.process
-    (here ∙ ap (λ (o : Pending). Some (Some o)) first_is) sender ready cells sends enters)
+    (here ∙ ap (λ (o : Pending). Some (Some o)) first_is) sender ready cells sends enters))
