@@ -179,25 +179,8 @@ fn call_fits(
     }
 }
 
-// Whether an instruction is a call that its operands do not fit.
-fn misfits(code: &Code, blocks: &Blocks, shapes: &Shapes, memo: &mut Memo, p: u32) -> bool
-    requires blocks { IsNumbered blocks.now.first code.now.layouts }
-    requires shapes { AreShapes code.now shapes.now }
-    requires known { AreFits code.now.layouts shapes.now.stacks memo.old }
-    ensures fails { result ≡ fails_at (call_fits code.now) code.now shapes.now p }
-    ensures known { result ≡ false → AreFits code.now.layouts shapes.now.stacks memo.new }
-{
-    match reached(shapes, p) {
-        None => false,
-        Some(n) => match code.instr(p) {
-            None => false,
-            Some(instr) => !call_fits(code.parts(), blocks, shapes, memo, instr, n),
-        },
-    }
-}
-
-// Whether it is one that repeats no earlier call.
-fn misfits_first(
+// Whether an instruction is a call that its operands do not fit, and repeats no earlier call.
+fn misfits(
     code: &Code,
     blocks: &Blocks,
     shapes: &Shapes,
@@ -212,9 +195,14 @@ fn misfits_first(
     ensures known { result ≡ false → AreFits code.now.layouts shapes.now.stacks memo.new }
 {
     if flag_at(repeats, p as usize) {
-        false
-    } else {
-        misfits(code, blocks, shapes, memo, p)
+        return false;
+    }
+    match reached(shapes, p) {
+        None => false,
+        Some(n) => match code.instr(p) {
+            None => false,
+            Some(instr) => !call_fits(code.parts(), blocks, shapes, memo, instr, n),
+        },
     }
 }
 
@@ -228,7 +216,7 @@ fn first_misfit(code: &Code, blocks: &Blocks, shapes: &Shapes, repeats: &List<bo
     let instrs = &code.parts().instrs;
     let mut memo = Memo::new(instrs.alloc());
     for p in 0..instrs.len() {
-        if misfits_first(code, blocks, shapes, repeats, &mut memo, p as u32) {
+        if misfits(code, blocks, shapes, repeats, &mut memo, p as u32) {
             return Some(p as u32);
         }
     }

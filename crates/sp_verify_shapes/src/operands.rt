@@ -128,21 +128,6 @@ fn take_many(stacks: &Stacks, count: usize, s: u32) -> Option<TakeResult>
     })
 }
 
-fn take_last(stacks: &Stacks, s: u32) -> Option<TakeResult>
-    requires stacks { IsStacks stacks.now }
-    requires there { IsListNumber stacks.now s }
-    ensures { IsTaken stacks.now (take takes_of.Last (list_of stacks.now s)) result }
-{
-    match stacks.top(s) {
-        None => Some(TakeResult {
-            variable: 0,
-            left: 0,
-            rest: s,
-        }),
-        Some(_) => None,
-    }
-}
-
 /// What is left of a list where an instruction takes what it takes; None where that is not there.
 pub(crate) fn take(stacks: &Stacks, takes: Takes, s: u32) -> Option<TakeResult>
     requires stacks { IsStacks stacks.now }
@@ -159,6 +144,13 @@ pub(crate) fn take(stacks: &Stacks, takes: Takes, s: u32) -> Option<TakeResult>
         Takes::Two(upper, lower) => take_two(stacks, upper, lower, s),
         Takes::Same => take_same(stacks, s),
         Takes::Many(count) => take_many(stacks, count, s),
-        Takes::Last => take_last(stacks, s),
+        Takes::Last => match stacks.top(s) {
+            None => Some(TakeResult {
+                variable: 0,
+                left: 0,
+                rest: s,
+            }),
+            Some(_) => None,
+        },
     }
 }

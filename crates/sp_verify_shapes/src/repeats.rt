@@ -72,32 +72,8 @@ const NO_CHILD: usize = 4_294_967_295;
 // What calls are known by: the block, the list and the owner.
 type Key = (u32, u32, u32, usize);
 
-// An earlier call that the one at p may repeat. If there is none, p is known from now on. It has no contract: whether p
-// does repeat it is seen afterwards.
-fn earlier_call(
-    code: &Code,
-    owners: &List<Owner>,
-    shapes: &Shapes,
-    known: &mut BTreeMap<Key, u32>,
-    p: u32,
-) -> Result<Option<u32>, Memory> {
-    let (Some(block), Some(list)) = (called_block(code, p), reached(shapes, p)) else {
-        return Ok(None);
-    };
-    let key = match owners.get(p as usize) {
-        None => return Ok(None),
-        Some(Owner::Child { at, child }) => (block, list, *at, *child),
-        Some(Owner::Block(b)) => (block, list, *b, NO_CHILD),
-        Some(_) => (block, list, 0, NO_CHILD),
-    };
-    let earlier = known.get(&key).copied();
-    if earlier.is_none() {
-        have!(known.insert(key, p));
-    }
-    Ok(earlier)
-}
-
-// Whether the instruction at p is a call that repeats an earlier one.
+// Whether the instruction at p is a call that repeats an earlier one. If none is known that it may repeat, it is known
+// from now on; whether it does repeat one is seen afterwards.
 fn repeats(
     code: &Code,
     owners: &List<Owner>,
@@ -107,8 +83,20 @@ fn repeats(
 ) -> Result<bool, Memory>
     ensures { IfOk result (λ b. b ≡ true → (q : ℕ) × Repeats code.now owners.now shapes.now p q) }
 {
-    match have!(earlier_call(code, owners, shapes, known, p)) {
-        None => Ok(false),
+    let (Some(block), Some(list)) = (called_block(code, p), reached(shapes, p)) else {
+        return Ok(false);
+    };
+    let key = match owners.get(p as usize) {
+        None => return Ok(false),
+        Some(Owner::Child { at, child }) => (block, list, *at, *child),
+        Some(Owner::Block(b)) => (block, list, *b, NO_CHILD),
+        Some(_) => (block, list, 0, NO_CHILD),
+    };
+    match known.get(&key).copied() {
+        None => {
+            have!(known.insert(key, p));
+            Ok(false)
+        }
         Some(q) => Ok(is_repeat(code, owners, shapes, p, q)),
     }
 }

@@ -7,7 +7,7 @@ ghost use Rattle.sp_verify_areas.specs.Only.{LiesOnlyIn};
 ghost use Rattle.sp_verify_rules.specs.Areas.{Area, instr_at};
 ghost use Rattle.sp_verify_rules.specs.Shapes.{instr_shapes};
 ghost use Rattle.sp_verify_shapes.specs.declared.stacks.Stacks.{Stacks};
-ghost use Rattle.sp_verify_shapes.specs.Plans.{by_plan, go_on, goes_with, left, with_top};
+ghost use Rattle.sp_verify_shapes.specs.Plans.{by_plan, go_on, left, with_top};
 ghost use Rattle.sp_verify_shapes.specs.Stacks.{Extends, IsListNumber, IsStacks, list_of};
 ghost use Rattle.sp_verify_shapes.specs.Steps.{IsStep};
 
@@ -113,21 +113,7 @@ fn top(stacks: &mut Stacks, shape: Option<Shape>, rest: u32) -> Result<u32, Memo
     }
 }
 
-// Leaves what is left, and goes on.
-fn leave(stacks: &mut Stacks, plan: Plan, p: u32, t: TakeResult) -> Result<Step, Memory>
-    requires stacks { IsStacks stacks.old }
-    requires there { IsListNumber stacks.old t.rest }
-    requires small { p < 1048576 }
-    ensures stacks { IsStacks stacks.new }
-    ensures extends { Extends stacks.old stacks.new }
-    ensures goes { IfOk result (λ step. IsStep stacks.new step
-        (goes_with plan p t.variable t.left (list_of stacks.old t.rest))) }
-{
-    let n = have!(top(stacks, left(plan.leaves, t), t.rest));
-    Ok(go_on(plan.goes, p, n, t.rest))
-}
-
-// Does what an instruction does to the shapes.
+// Does what an instruction does to the shapes, and goes on.
 fn carry_out(stacks: &mut Stacks, plan: Plan, p: u32, s: u32) -> Result<Step, Memory>
     requires stacks { IsStacks stacks.old }
     requires there { IsListNumber stacks.old s }
@@ -138,7 +124,10 @@ fn carry_out(stacks: &mut Stacks, plan: Plan, p: u32, s: u32) -> Result<Step, Me
 {
     match take(stacks, plan.takes, s) {
         None => Ok(Step::Wrong),
-        Some(t) => leave(stacks, plan, p, t),
+        Some(t) => {
+            let n = have!(top(stacks, left(plan.leaves, t), t.rest));
+            Ok(go_on(plan.goes, p, n, t.rest))
+        }
     }
 }
 

@@ -12,14 +12,14 @@ use Rattle.sp_verify_shapes.proofs.calls.first_misfit.Goals as goal
 pub loop-p-init : goal.loop-p-init
 loop-p-init c = (λ k l. absurd (omega (arith, l)), λ p l at k n e. absurd (c.new-memo.ensures p k n e))
 
-pub returns-then-misfits_first : goal.returns-then-misfits_first
-returns-then-misfits_first c =
+pub returns-then-misfits : goal.returns-then-misfits
+returns-then-misfits c =
     let code = c.args.code.now in
     let s = c.args.shapes.now in
     let p = c.loop-p.p in
     first_one (fails_at (call_fits code) code s) p
     (and_parts (not (flag_at c.args.repeats.now p)) (fails_at (call_fits code) code s p)
-    (sym c.misfits_first.ensures.fails ∙ c.if-misfits_first.true)).1
+    (sym c.misfits.ensures.fails ∙ c.if-misfits.true)).1
     c.loop-p.invariant.0
 
 pub loop-p-preserved : goal.loop-p-preserved
@@ -31,9 +31,9 @@ loop-p-preserved c =
       none_more P p (not_here P (flag_at c.args.repeats.now p) p
           (λ e. let r = c.requires.repeats.1 p e in
           (r.0, r.1.earlier, fails_again code s c.requires.repeats.0 p r.0 r.1))
-          c.loop-p.invariant.0 (sym c.misfits_first.ensures.fails ∙ c.if-misfits_first.false))
+          c.loop-p.invariant.0 (sym c.misfits.ensures.fails ∙ c.if-misfits.false))
           c.loop-p.invariant.0,
-      c.misfits_first.ensures.known c.if-misfits_first.false,
+      c.misfits.ensures.known c.if-misfits.false,
     )
 
 pub returns : goal.returns
