@@ -373,31 +373,41 @@ def in_turn(kinds, count):
     return [kinds[k % len(kinds)] for k in range(count)]
 
 
-def calls_of_lists(operands=100_000, calls=100_000, kinds=("reference 2",), unfit=False, writes=False):
-    """Accepted: n operands are pushed once, and each of n calls puts one of its own on top. The formals are of these
+def calls_of_lists(operands=100_000, calls=100_000, kinds=("reference 2",), unfit=False, writes=False, own=1,
+                   again=False, in_child=False):
+    """Accepted: n operands are pushed once, and each of n calls puts some of its own on top. The formals are of these
     kinds in turn, and no address has more cells than its own formal asks for. Or refused by V5: the operand of the last
-    call has too few cells. Writes: the block that is called writes a number."""
+    call has too few cells. Writes: the block that is called writes a number. Again: the topmost operand is the same for
+    all calls. In child: a child that is handed all variables calls."""
     kinds = in_turn(kinds, operands)
-    instrs = [f"addr 0 {k + 2}" if "reference" in kind else "const 1" for k, kind in enumerate(kinds)] + ["const 0"]
-    after = operands + 2 + calls
-    done = after + 3 * calls + 3
-    instrs += [f"casej {k} {after + 3 * k}" for k in range(calls)] + [f"jump {after + 3 * calls}"]
+    instrs = ["fork 0", "end"] if in_child else []
+    instrs += [f"addr 0 {k + 2}" if "reference" in kind else "const 1" for k, kind in enumerate(kinds)] + ["const 0"]
+    after, each = len(instrs) + calls + 1, own + 2
+    done = after + each * (calls + 1)
+    instrs += [f"casej {k} {after + each * k}" for k in range(calls)] + [f"jump {after + each * calls}"]
+
+    def pushed(call):
+        places = list(range(operands + 2 + own * call, operands + 2 + own * (call + 1)))
+        if again:
+            places[-1] = operands + own + 1
+        return [f"addr 0 {x}" for x in places]
+
     for k in range(calls):
-        instrs += [f"addr 0 {operands + 2 + k}", "call 1 0", f"jump {done}"]
+        instrs += [*pushed(k), "call 1 0", f"jump {done}"]
     body = ["const 1", "write int", "return"] if writes else ["return"]
-    instrs += ["nocase", f"addr 0 {operands + 2}", "call 1 0", "end", *body]
-    count = operands + calls
-    formals = range(count + 2, count + operands + 3)
-    sizes = [int(kind.split()[1]) for kind in kinds] + two_cells_each(calls, unfit)
+    instrs += ["nocase", *pushed(0), "call 1 0", "end", *body]
+    count = operands + own * calls
+    formals = range(count + 2, count + operands + own + 2)
+    sizes = [int(kind.split()[1]) for kind in kinds] + two_cells_each(own * calls, unfit)
     layouts = [layout(0, 0, "-", sizes, range(2, count + 2)),
-               layout(1, done + 1, 0, [1] * len(formals), formals, [*kinds, "reference 2"])]
-    return code(layouts, instrs)
+               layout(1, done + 1, 0, [1] * len(formals), formals, [*kinds, *["reference 2"] * own])]
+    return code(layouts, instrs, [child(0, 0, 2, range(2, count + 2))] if in_child else ())
 
 
-def calls_at_heights(operands=200_000, calls=100_000, kinds=("reference 2",), unfit=False, step=1):
+def calls_at_heights(operands=200_000, calls=100_000, kinds=("reference 2",), unfit=False, step=1, writes=False):
     """Accepted: operands are pushed one by one, and at each of n heights a call takes the topmost ones. The formals are
     of these kinds in turn, and the heights differ by this step. Or refused by V5: the topmost operand of the last call
-    has too few cells, or is no value."""
+    has too few cells, or is no value. Writes: the block that is called writes a number."""
     height, away = operands + step * calls, operands + (step + 2) * calls + 1
     drops = away + 2 * calls
     by_value = ["value" in kind for kind in in_turn(kinds, height)]
@@ -411,7 +421,7 @@ def calls_at_heights(operands=200_000, calls=100_000, kinds=("reference 2",), un
     instrs.append(f"jump {drops}")
     for k in range(calls):
         instrs += ["call 1 0", f"jump {drops + height - step * (k + 1)}"]
-    instrs += gone + ["end", "return"]
+    instrs += [*gone, "end", *(["const 1", "write int"] if writes else []), "return"]
     formals = range(height + 2, height + operands + 2)
     layouts = [layout(0, 0, "-", two_cells_each(height, unfit), range(2, height + 2)),
                layout(1, drops + height + 1, 0, [1] * operands, formals, in_turn(kinds, operands))]
@@ -456,6 +466,10 @@ FILES = {
     "passed_along": passed_along,
     "calls_of_lists": calls_of_lists,
     "calls_at_heights": calls_at_heights,
+    "calls_of_writer": lambda: calls_of_lists(writes=True),
+    "calls_of_two": lambda: calls_of_lists(own=2),
+    "calls_of_writer_of_two": lambda: calls_of_lists(own=2, writes=True),
+    "calls_at_steps": lambda: calls_at_heights(150_000, 70_000, step=2),
     "unfit_at_lists": lambda: calls_of_lists(unfit=True),
     "unfit_at_heights": lambda: calls_at_heights(kinds=("reference 1", "reference 2"), unfit=True),
     "unfit_values": lambda: calls_at_heights(kinds=("value 1",), unfit=True),
@@ -466,6 +480,8 @@ FILES = {
 # Files in which two sizes still multiply: they take more than 10 seconds, or more than 2 GB.
 OPEN = {
     "chain_of_passed": chain_of_passed,
-    "calls_of_writer": lambda: calls_of_lists(writes=True),
+    "calls_of_one_again": lambda: calls_of_lists(own=2, again=True),
+    "calls_in_child": lambda: calls_of_lists(in_child=True),
+    "writer_at_heights": lambda: calls_at_heights(writes=True),
     "unfit_mixed_at_heights": lambda: calls_at_heights(200_000, 50_000, ("reference 2", "value 1"), True, 2),
 }

@@ -170,6 +170,33 @@ module _ (l : Layout) (n : ℕ) (ss : List Shape) where
           (⊎_elim (λ y. let v : d ≡ j = y in omega (arith, v)) (λ y. omega (arith, y)) x)) ∙ i)))
           (less_same_or_more d j)
 
+  -- where the edges of those left are there, there are no more
+  pub deeper_known : (a b : List (List Edge)) (j : ℕ) (at : List Shape)
+      → ((d : ℕ) → slice_get at d ≡ slice_get ss (j + d))
+      → ((i : ℕ) (s : Shape) (e : Edge) → slice_get at i ≡ Some s → j + i < length l.formals
+      → deep_edge l n (j + i) s ≡ Some e → HasEdge b l.entry e)
+      → Links a b (IsDeeper l n ss j) → j < length l.formals + 1 → Links a b (IsDeeper l n ss (length l.formals))
+  deeper_known a b j at left known t h = record { size = t.size; kept = t.kept; has = has; only = only }
+    where
+      known_there : (d : ℕ) (s : Shape) (e : Edge) → j < d + 1 → d < length l.formals → slice_get ss d ≡ Some s
+          → deep_edge l n d s ≡ Some e → HasEdge b l.entry e
+      known_there d s e low z i w = known (d - j) s e (left (d - j) ∙ ap (slice_get ss) back ∙ i)
+          (subst (λ k. k < length l.formals) (sym back) z) (subst (λ k. deep_edge l n k s ≡ Some e) (sym back) w)
+        where
+          back : j + (d - j) ≡ d
+          back = omega (arith, low)
+
+      has : (m : ℕ) (e : Edge) → IsDeeper l n ss (length l.formals) m e → HasEdge b m e
+      has m e (q, (d, z, (s, i, w))) =
+          ⊎_elim (λ x. t.has m e (q, (d, x, (s, i, w))))
+          (λ x. subst (λ k. HasEdge b k e) (sym q) (known_there d s e
+          (⊎_elim (λ y. let v : d ≡ j = y in omega (arith, v)) (λ y. omega (arith, y)) x) z i w))
+          (less_same_or_more d j)
+
+      only : (m : ℕ) (e : Edge) → HasEdge b m e → HasEdge a m e ⊎ IsDeeper l n ss (length l.formals) m e
+      only m e i = ⊎_elim (λ o. inl o) (λ (q, (d, below, deep)). inr (q, (d, omega (arith, below, h), deep)))
+          (t.only m e i)
+
   -- the edges of all operands are those of formals and actual variables
   passed_is : (y k x left : ℕ) (v : Option ℕ) (f : Option Formal) (s : Shape) → v ≡ Some y
       → f ≡ Some (formal.Reference k) → s ≡ A x left → passed_by n v f s ≡ Some (edge.Passed n y x)

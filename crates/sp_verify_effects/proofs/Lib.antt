@@ -19,6 +19,7 @@ mod Beyond
 mod BlockVariables
 mod SideEffectLaws
 mod WalkLaws
+mod LinkedLaws
 mod WindowLaws
 mod Actuals
 mod CallTests

@@ -8,8 +8,8 @@ use Rattle.std.specs.Ordering.{is_eq, nat_cmp}
 use Rattle.std.specs.BTreeMap.{BTreeMap, get, is_at}
 use Rattle.std.proofs.lemmas.Bool.{or_parts}
 use Rattle.std.proofs.lemmas.Option.{none-some, same_Some}
-use Rattle.sp_verify_rules.specs.Shapes.{Shape, O, C, L, A}
-use Rattle.sp_verify_rules.specs.Touches.{topmost_variable, addresses}
+use Rattle.sp_verify_rules.specs.Shapes.{Shape, A}
+use Rattle.sp_verify_rules.specs.Touches.{topmost_variable}
 use Rattle.sp_verify_shapes.specs.declared.stacks.Stacks.{Stacks}
 use Rattle.sp_verify_shapes.specs.Stacks.{list_of}
 use Rattle.sp_verify_effects.specs.Walks.{AreWalks, NoneOfTop, walk_key}
@@ -31,23 +31,6 @@ any_split P (x ∷ xs) ys e =
 -- ---- operands
 
 module _ (P : ℕ → ℕ → Bool) (m : ℕ) where
-  one_variable : (x y n left : ℕ) → A y n ≡ A x left → P m y ≡ false → P m x ≡ false
-  one_variable x y n left e h = let s : y ≡ x = cc e in subst (λ z. P m z ≡ false) s h
-
-  pub none_of_addresses : (k : ℕ) (ss : List Shape) → list_any (P m) (addresses k ss) ≡ false → NoneOfTop P m k ss
-  none_of_addresses zero ss e i x left l g = absurd (omega (arith, l))
-  none_of_addresses (suc k) [] e i x left l g = absurd (none-some (A x left) g)
-  none_of_addresses (suc k) (A y n ∷ ss) e zero x left l g = one_variable x y n left (same_Some (A y n) (A x left) g)
-      (or_parts (P m y) (list_any (P m) (addresses k ss)) e).0
-  none_of_addresses (suc k) (A y n ∷ ss) e (suc i) x left l g = none_of_addresses k ss
-      (or_parts (P m y) (list_any (P m) (addresses k ss)) e).1 i x left (omega (arith, l)) g
-  none_of_addresses (suc k) (O ∷ ss) e zero x left l g = absurd (cc g)
-  none_of_addresses (suc k) (O ∷ ss) e (suc i) x left l g = none_of_addresses k ss e i x left (omega (arith, l)) g
-  none_of_addresses (suc k) (C ∷ ss) e zero x left l g = absurd (cc g)
-  none_of_addresses (suc k) (C ∷ ss) e (suc i) x left l g = none_of_addresses k ss e i x left (omega (arith, l)) g
-  none_of_addresses (suc k) (L n ∷ ss) e zero x left l g = absurd (cc g)
-  none_of_addresses (suc k) (L n ∷ ss) e (suc i) x left l g = none_of_addresses k ss e i x left (omega (arith, l)) g
-
   pub none_of_none : (k : ℕ) (ss : List Shape) → ss ≡ [] → NoneOfTop P m k ss
   none_of_none k ss e i x left l g = absurd (none-some (A x left) (ap (λ (z : List Shape). slice_get z i) (sym e) ∙ g))
 

@@ -10,6 +10,7 @@ pub mod Befores
 pub mod Variables
 pub mod SideEffects
 pub mod Walks
+pub mod Linked
 pub mod Windows
 pub mod Calls
 pub mod Turns

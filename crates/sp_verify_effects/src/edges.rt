@@ -3,18 +3,20 @@
 ghost use Rattle.std.specs.Prelude.{◌≡◌, ℕ, ◌+◌, ◌<◌, ◌-◌, OnOk, IfOk, Some, true, length, slice_get};
 ghost use Rattle.sp_verify_areas.specs.Only.{LiesOnlyIn};
 ghost use Rattle.sp_code.specs.declared.code.ChildTable.{ChildTable};
-ghost use Rattle.sp_code.specs.declared.code.Layout.{Layout};
+ghost use Rattle.sp_code.specs.declared.code.Layout.{Layout as LayoutOf};
 ghost use Rattle.sp_code.specs.Machine.{layout_of};
 ghost use Rattle.sp_verify_effects.specs.PassContexts.{IsPassContext};
 ghost use Rattle.sp_verify_effects.specs.declared.edges.Edge.{Edge as EdgeOf};
 ghost use Rattle.sp_verify_effects.specs.Edges.{AreEdges, CalledAt, EdgeAt, HasEdge, HasEdges, IsCall, IsDeeper, Links};
 ghost use Rattle.sp_verify_effects.specs.Edges.{OneStarts, PutsEdge, StartWithin, StartedAt, deep_edge, passed_by};
+ghost use Rattle.sp_verify_effects.specs.Linked.{AreLinked, AreLinkedOf};
 ghost use Rattle.sp_verify_rules.specs.Areas.{Area, entry};
 ghost use Rattle.sp_verify_shapes.specs.Stacks.{IsListNumber, IsStacks, list_of, shape_of};
 
 use crate::acts::acts_of;
 use crate::areas::{area_at, table_of};
 use crate::have;
+use crate::linked::{Linked, is_linked, none_linked, put_links};
 use crate::pass_context::PassContext;
 use sp_base::{List, Memory};
 use sp_code::{ChildTable, Code, Formal, Layout};
@@ -136,10 +138,12 @@ fn link_deep(
     }
 }
 
-// Puts those of all operands of a call.
+// Puts those of all operands of a call, down to a list whose edges are there.
 fn link_operands(
     rows: &mut List<List<Edge>>,
+    linked: &Linked,
     layout: &Layout,
+    block: u32,
     to: u32,
     stacks: &Stacks,
     stack: u32,
@@ -147,11 +151,15 @@ fn link_operands(
     requires there { layout.now.entry < length rows.old }
     requires stacks { IsStacks stacks.now }
     requires held { IsListNumber stacks.now stack }
+    requires linked { AreLinkedOf stacks.now rows.old layout.now block to linked.now }
     ensures { OnOk result (Links rows.old rows.new
         (IsDeeper layout.now to (list_of stacks.now stack) (length layout.now.formals))) }
 {
     let mut at = stack;
     for depth in 0..layout.formals.len() {
+        if is_linked(linked, block, to, at, depth) {
+            return Ok(());
+        }
         let (shape, rest) = match stacks.top(at) {
             None => return Ok(()),
             Some(top) => top,
@@ -165,8 +173,10 @@ fn link_operands(
 // Puts those of a call: those of its operands if the block does something.
 fn link_call(
     rows: &mut List<List<Edge>>,
+    linked: &mut Linked,
     acts: bool,
     layout: &Layout,
+    block: u32,
     to: u32,
     stacks: &Stacks,
     stack: u32,
@@ -174,11 +184,16 @@ fn link_call(
     requires there { layout.now.entry < length rows.old }
     requires stacks { IsStacks stacks.now }
     requires held { IsListNumber stacks.now stack }
-    ensures { OnOk result (Links rows.old rows.new (IsCall acts layout.now to (list_of stacks.now stack))) }
+    requires linked { AreLinkedOf stacks.now rows.old layout.now block to linked.old }
+    ensures edges { OnOk result (Links rows.old rows.new (IsCall acts layout.now to (list_of stacks.now stack))) }
+    ensures linked { OnOk result ((ls : List LayoutOf) → layout_of ls block ≡ Some layout.now
+        → AreLinked ls stacks.now rows.old linked.old → AreLinked ls stacks.now rows.new linked.new) }
 {
     have!(link(rows, layout.entry, Edge::Called { to }));
     if acts {
-        link_operands(rows, layout, to, stacks, stack)
+        have!(link_operands(rows, linked, layout, block, to, stacks, stack));
+        have!(put_links(linked, layout, block, to, stacks, stack));
+        Ok(())
     } else {
         Ok(())
     }
@@ -189,13 +204,16 @@ fn link_called(
     g: &PassContext,
     acts: &List<bool>,
     rows: &mut List<List<Edge>>,
+    linked: &mut Linked,
     to: u32,
     p: u32,
 ) -> Result<(), Memory>
     requires known { IsPassContext g.now }
     requires lies { (a : Area) × LiesOnlyIn g.now.code.now p a × (entry g.now.code.now a ≡ to) }
-    requires there { (b : ℕ) (l : Layout) → layout_of g.now.code.now.layouts b ≡ Some l → l.entry < length rows.old }
-    ensures { OnOk result (Links rows.old rows.new (CalledAt g.now.code.now acts.now p)) }
+    requires there { (b : ℕ) (l : LayoutOf) → layout_of g.now.code.now.layouts b ≡ Some l → l.entry < length rows.old }
+    requires linked { AreLinked g.now.code.now.layouts g.now.shapes.now.stacks rows.old linked.old }
+    ensures edges { OnOk result (Links rows.old rows.new (CalledAt g.now.code.now acts.now p)) }
+    ensures linked { OnOk result (AreLinked g.now.code.now.layouts g.now.shapes.now.stacks rows.new linked.new) }
 {
     let stack = match reached(g.shapes, p) {
         None => return Ok(()),
@@ -209,7 +227,16 @@ fn link_called(
         None => Ok(()),
         Some(layout) => {
             let acts = flag_at(acts, layout.entry as usize);
-            link_call(rows, acts, layout, to, &g.shapes.stacks, stack)
+            link_call(
+                rows,
+                linked,
+                acts,
+                layout,
+                block,
+                to,
+                &g.shapes.stacks,
+                stack,
+            )
         }
     }
 }
@@ -248,18 +275,21 @@ fn link_at(
     g: &PassContext,
     acts: &List<bool>,
     rows: &mut List<List<Edge>>,
+    linked: &mut Linked,
     p: u32,
 ) -> Result<(), Memory>
     requires known { IsPassContext g.now }
     requires there { p < length g.now.code.now.instrs }
     requires size { length rows.old ≡ length g.now.code.now.instrs }
-    ensures { OnOk result (Links rows.old rows.new (EdgeAt g.now.code.now acts.now p)) }
+    requires linked { AreLinked g.now.code.now.layouts g.now.shapes.now.stacks rows.old linked.old }
+    ensures edges { OnOk result (Links rows.old rows.new (EdgeAt g.now.code.now acts.now p)) }
+    ensures linked { OnOk result (AreLinked g.now.code.now.layouts g.now.shapes.now.stacks rows.new linked.new) }
 {
     let to = match area_at(g, p) {
         None => return Ok(()),
         Some(to) => to,
     };
-    have!(link_called(g, acts, rows, to, p));
+    have!(link_called(g, acts, rows, linked, to, p));
     link_started(g.code, rows, to, p)
 }
 
@@ -279,17 +309,20 @@ fn link_next(
     g: &PassContext,
     acts: &List<bool>,
     rows: &mut List<List<Edge>>,
+    linked: &mut Linked,
     p: u32,
 ) -> Result<(), Memory>
     requires known { IsPassContext g.now }
     requires there { p < length g.now.code.now.instrs }
     requires before { HasEdges g.now.code.now acts.now p rows.old }
-    ensures { OnOk result (HasEdges g.now.code.now acts.now (p + 1) rows.new) }
+    requires linked { AreLinked g.now.code.now.layouts g.now.shapes.now.stacks rows.old linked.old }
+    ensures edges { OnOk result (HasEdges g.now.code.now acts.now (p + 1) rows.new) }
+    ensures linked { OnOk result (AreLinked g.now.code.now.layouts g.now.shapes.now.stacks rows.new linked.new) }
 {
     if flag_at(g.repeats, p as usize) {
         Ok(())
     } else {
-        link_at(g, acts, rows, p)
+        link_at(g, acts, rows, linked, p)
     }
 }
 
@@ -301,8 +334,9 @@ fn link_all(g: &PassContext, acts: &List<bool>) -> Result<List<List<Edge>>, Memo
     let instrs = &g.code.parts().instrs;
     let count = instrs.len();
     let mut rows = have!(empty_rows(instrs.alloc(), count));
+    let mut linked = none_linked(instrs.alloc());
     for p in 0..count {
-        have!(link_next(g, acts, &mut rows, p as u32));
+        have!(link_next(g, acts, &mut rows, &mut linked, p as u32));
     }
     Ok(rows)
 }

@@ -29,8 +29,9 @@
 //!   variables by reference, and the rules ask no more of it, only what is done to the variables which calls pass to it
 //!   is asked about. `common.rt` finds that with no contract, and `asked_areas.rt` looks whether it is right.
 //! - Many calls may have many operands: nothing may take time for each pair of them. `acts.rt` finds blocks that do
-//!   nothing at all: no effect goes on from there, so edges of formals are not needed. `walks.rt` keeps which operands
-//!   of lists were gone over for which blocks, and `windows.rt` of which lists the topmost variables differ.
+//!   nothing at all: no effect goes on from there, so edges of formals are not needed. `linked.rt` keeps of which lists
+//!   these edges are there, `walks.rt` which operands of lists were gone over for which blocks, and `windows.rt` of
+//!   which lists the topmost variables differ.
 //! - `facts.rt` is a set of facts about areas (`specs/Facts.antt`), `places.rt` and `own.rt` are what instructions do
 //!   themselves, `edges.rt` and `closure.rt` how facts go from area to area until nothing is new, `effects.rt` makes a
 //!   table of them, with the variables of blocks (`variables.rt`).
@@ -57,6 +58,7 @@ pub mod edges;
 pub mod effects;
 pub mod facts;
 pub mod inside;
+pub mod linked;
 pub mod outflow;
 pub mod own;
 pub mod pass_context;

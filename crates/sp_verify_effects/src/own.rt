@@ -81,8 +81,8 @@ fn push_found(list: &mut List<u32>, found: Option<Found>) -> Result<(), Memory>
     }
 }
 
-/// Those of the topmost operands, so many.
-pub(crate) fn push_addresses(
+// Those of the topmost operands, so many.
+fn push_addresses(
     list: &mut List<u32>,
     stacks: &Stacks,
     stack: u32,

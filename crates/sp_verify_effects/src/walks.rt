@@ -8,7 +8,7 @@ ghost use Rattle.sp_verify_shapes.specs.declared.stacks.Stacks.{Stacks as Stacks
 ghost use Rattle.sp_verify_shapes.specs.Stacks.{IsListNumber, IsStacks, list_of};
 
 use crate::have;
-use crate::own::{push_addresses, push_shape};
+use crate::own::push_shape;
 use sp_base::{List, Memory};
 use sp_verify_shapes::stacks::Stacks;
 use std::alloc::Global;
@@ -16,6 +16,9 @@ use std::collections::BTreeMap;
 
 // Fewer operands are gone over again: that is fast.
 const FEW: usize = 8;
+
+// It is kept of one list in so many on the way down.
+const EACH: usize = 16;
 
 /// How many of the topmost operands were gone over, by the block and the list.
 pub(crate) type Walks = BTreeMap<u64, usize>;
@@ -34,36 +37,22 @@ fn walk_key(entry: u32, list: u32) -> u64
     entry as u64 * 4_294_967_296 + list as u64
 }
 
-// Whether so many of a list were gone over.
-fn has_walk(walks: &Walks, entry: u32, list: u32, count: usize) -> bool
+fn is_due(depth: usize) -> bool {
+    depth % EACH == 0
+}
+
+// Whether it is kept that so many of a list, which is so deep among the operands, were gone over.
+fn has_walk(walks: &Walks, entry: u32, list: u32, depth: usize, count: usize) -> bool
     ensures { result ≡ true → (st : StacksOf) (P : ℕ → ℕ → Bool) → AreWalks st walks.now P
         → NoneOfTop P entry count (list_of st list) }
 {
+    if !is_due(depth) {
+        return false;
+    }
     let key = walk_key(entry, list);
     match walks.get(&key).copied() {
         None => false,
         Some(most) => count <= most,
-    }
-}
-
-// Puts the variables of the topmost operands, so many, unless these were gone over.
-fn put_left(
-    left: &mut List<u32>,
-    walks: &Walks,
-    stacks: &Stacks,
-    entry: u32,
-    list: u32,
-    count: usize,
-) -> Result<(), Memory>
-    requires stacks { IsStacks stacks.now }
-    requires there { IsListNumber stacks.now list }
-    ensures { OnOk result ((P : ℕ → ℕ → Bool) → AreWalks stacks.now walks.now P → list_any (P entry) left.new ≡ false
-        → (list_any (P entry) left.old ≡ false) × NoneOfTop P entry count (list_of stacks.now list)) }
-{
-    if has_walk(walks, entry, list, count) {
-        Ok(())
-    } else {
-        push_addresses(left, stacks, list, count)
     }
 }
 
@@ -82,30 +71,35 @@ pub(crate) fn addresses_left(
         → NoneOfTop P entry count (list_of stacks.now list)) }
 {
     let mut left = List::new(alloc);
-    if count == 0 || has_walk(walks, entry, list, count) {
-        return Ok(left);
-    }
-    match stacks.top(list) {
-        None => Ok(left),
-        Some((shape, below)) => {
-            have!(push_shape(&mut left, shape));
-            have!(put_left(&mut left, walks, stacks, entry, below, count - 1));
-            Ok(left)
+    let mut at = list;
+    for depth in 0..count {
+        if has_walk(walks, entry, at, depth, count - depth) {
+            return Ok(left);
+        }
+        match stacks.top(at) {
+            None => return Ok(left),
+            Some((shape, below)) => {
+                have!(push_shape(&mut left, shape));
+                at = below;
+            }
         }
     }
+    Ok(left)
 }
 
-// Puts that so many of a list were gone over.
-fn put(walks: &mut Walks, entry: u32, list: u32, count: usize) -> Result<(), Memory>
+// Puts that so many of a list, which is so deep among the operands, were gone over, if it is kept of this one.
+fn put(walks: &mut Walks, entry: u32, list: u32, depth: usize, count: usize) -> Result<(), Memory>
     ensures { OnOk result ((st : StacksOf) (P : ℕ → ℕ → Bool) → AreWalks st walks.old P
         → NoneOfTop P entry count (list_of st list) → AreWalks st walks.new P) }
 {
-    let key = walk_key(entry, list);
-    have!(walks.insert(key, count));
+    if is_due(depth) {
+        let key = walk_key(entry, list);
+        have!(walks.insert(key, count));
+    }
     Ok(())
 }
 
-/// Puts that so many of the topmost operands were gone over for a block, and all of these but the topmost one.
+/// Puts that so many of the topmost operands were gone over for a block.
 pub(crate) fn put_walk(
     walks: &mut Walks,
     stacks: &Stacks,
@@ -121,9 +115,18 @@ pub(crate) fn put_walk(
     if count < FEW {
         return Ok(());
     }
-    have!(put(walks, entry, list, count));
-    match stacks.top(list) {
-        None => Ok(()),
-        Some((_shape, below)) => put(walks, entry, below, count - 1),
+    let mut at = list;
+    for depth in 0..count {
+        if has_walk(walks, entry, at, depth, count - depth) {
+            return Ok(());
+        }
+        have!(put(walks, entry, at, depth, count - depth));
+        match stacks.top(at) {
+            None => return Ok(()),
+            Some((_shape, below)) => {
+                at = below;
+            }
+        }
     }
+    Ok(())
 }

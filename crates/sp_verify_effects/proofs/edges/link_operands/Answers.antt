@@ -1,7 +1,19 @@
 use Rattle.std.proofs.Common.{◌<◌, length, subst, arith}
 use Rattle.sp_verify_shapes.specs.Stacks.{list_of, shape_of}
-use Rattle.sp_verify_effects.proofs.EdgeRows.{deeper_more, deeper_end, below_more, none_below}
+use Rattle.sp_verify_effects.proofs.EdgeRows.{deeper_more, deeper_end, deeper_known, below_more, none_below}
 use Rattle.sp_verify_effects.proofs.edges.link_operands.Goals as goal
+
+pub returns-then-is_linked : goal.returns-then-is_linked
+returns-then-is_linked c =
+    let st = c.args.stacks.now in
+    let l = c.args.layout.now in
+    let j = c.loop-depth.depth in
+    let links = c.loop-depth.invariant.2 in
+    let inside : j < length l.formals = subst (λ n. j < n) c.len-depth-end.ensures c.loop-depth-test.true in
+    deeper_known l c.args.to (list_of st c.args.stack) c.args.rows.now c.loop-depth.rows j (list_of st c.loop-depth.at)
+    c.loop-depth.invariant.1
+    (λ i s e at within edge. links.kept l.entry e (c.requires.linked c.loop-depth.at j
+    (c.is_linked.ensures c.if-is_linked.true) i s e at within edge)) links (omega (arith, inside))
 
 pub returns-in-None : goal.returns-in-None
 returns-in-None c =

@@ -5,8 +5,8 @@ use Rattle.std.specs.BTreeMap.{get, is_at}
 use Rattle.sp_verify_effects.proofs.WalkLaws.{walk_put}
 use Rattle.sp_verify_effects.proofs.walks.put.Goals as goal
 
-pub returns : goal.returns
-returns c = λ st P h none.
+pub returns-in-Ok : goal.returns-in-Ok
+returns-in-Ok c = λ st P h none.
     let old = c.args.walks.now in
     let new = c.insert.new.self in
     walk_put st P old new c.args.entry c.args.list c.args.count (let r = c.ranges.entry.fits in omega (arith, r))
