@@ -354,13 +354,24 @@ def chain_beyond_answer(blocks=190_000):
 
 
 def chain_of_passed(blocks=100_000):
-    """V7: a block that takes n variables by reference is above the chain, which stores these."""
+    """Refused by V7: a block that takes n variables by reference is above the chain, which stores these."""
     passed = [f"addr 0 {k + 2}" for k in range(blocks)]
     instrs, layouts = chain_of_stores(blocks + 4, blocks)
     formals = range(blocks + 2, 2 * blocks + 2)
     layouts[:0] = [layout(0, 0, "-", [1] * blocks, range(2, blocks + 2)),
                    layout(1, blocks + 2, 0, [1] * blocks, formals, ["reference 1"] * blocks)]
     return code(layouts, [*passed, "call 1 0", "end", "call 2 1", "return", *instrs])
+
+
+def chain_of_owner(blocks=30_000):
+    """Accepted: a block that has n variables passes each to a block that calls it again, and is above the chain,
+    which stores these. No store comes to that block: the variables are those of the one that it calls."""
+    passes = [word for k in range(blocks) for word in (f"addr 0 {k}", "call 2 0")]
+    begins = 2 + len(passes) + 2
+    instrs, layouts = chain_of_stores(begins + 2, blocks, parent=1, place=0, number=3)
+    layouts[:0] = [layout(0, 0, "-"), layout(1, 2, 0, [1] * blocks, range(2, blocks + 2)),
+                   layout(2, begins, 1, [1], [blocks + 2], ["reference 1"])]
+    return code(layouts, ["call 1 0", "end", *passes, "call 3 0", "return", "call 1 2", "return", *instrs])
 
 
 def two_cells_each(count, unfit):
@@ -441,6 +452,7 @@ FILES = {
     "chain_inside": chain_inside,
     "chain_by_reference": chain_by_reference,
     "chain_beyond_answer": chain_beyond_answer,
+    "chain_of_passed": chain_of_passed,
     "ring_of_blocks": ring_of_blocks,
     "operands_one_block": lambda: operands_of_calls(200_000, 280_000, 1),
     "operands_of_blocks": lambda: operands_of_calls(4_000, 3_000, 900),
@@ -479,7 +491,7 @@ FILES = {
 
 # Files in which two sizes still multiply: they take more than 10 seconds, or more than 2 GB.
 OPEN = {
-    "chain_of_passed": chain_of_passed,
+    "chain_of_owner": chain_of_owner,
     "calls_of_one_again": lambda: calls_of_lists(own=2, again=True),
     "calls_in_child": lambda: calls_of_lists(in_child=True),
     "writer_at_heights": lambda: calls_at_heights(writes=True),

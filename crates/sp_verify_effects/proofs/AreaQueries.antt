@@ -142,14 +142,17 @@ module _ (k : Asked) (m : ℕ) (e : Edge) where
 pub all_tables : (o : Option ℕ) (k : Asked) (fs : List ForkTable) → k.all ≡ true → AsksTables o k fs
 all_tables o k fs all t tb e j ch s l d b = all_asked k ch.entry d all
 
-pub all_asks : (c : Parts) (k : Asked) → k.all ≡ true → k.side_effect ≡ None → Asks c k
-all_asks c k all none = record {
+pub all_asks : (c : Parts) (k : Asked) → k.all ≡ true → k.known.clash ≡ None → k.known.side_effect ≡ None → Asks c k
+all_asks c k all clash side_effect = record {
   tables = all_tables None k c.forks all;
   layouts = λ j l e r d b. all_asked k l.entry d all;
-  calls = λ a p b up ss l is call j x f outside.
+  calls = λ a p b up ss l is call below j x f outside.
       (all_asked k l.entry (effect.Stores x) all, all_asked k l.entry (effect.Loads x) all);
   inside = λ p a n l e. or_left k.all (flag_at k.blocks n) all;
-  side_effect = λ p e. absurd (none-some p (sym none ∙ e));
+  known = record {
+    clash = λ p e. absurd (none-some p (sym clash ∙ e));
+    side_effect = λ p e. absurd (none-some p (sym side_effect ∙ e));
+  };
 }
 
 pub all_follow : (rows : List (List Edge)) (k : Asked) → k.all ≡ true → FollowsEdges rows k

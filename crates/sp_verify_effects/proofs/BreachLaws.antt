@@ -18,7 +18,7 @@ use Rattle.sp_verify_rules.specs.Verdict.{BreaksV6, HasStop}
 use Rattle.sp_verify_areas.specs.declared.owners.Owner.{Owner}
 use Rattle.sp_verify_areas.specs.LeastPlaces.{IsLeast, Upto, earlier_of}
 use Rattle.sp_verify_areas.specs.Owners.{AreOwners}
-use Rattle.sp_verify_areas.proofs.Leasts.{all}
+use Rattle.sp_verify_areas.proofs.Leasts.{all, least_of_same}
 use Rattle.sp_verify_effects.specs.declared.effects.EffectRow.{EffectRow}
 use Rattle.sp_verify_effects.specs.declared.effects.Effects.{Effects}
 use Rattle.sp_verify_effects.specs.declared.facts.Effect.{Effect}
@@ -56,6 +56,23 @@ module _ (P Q : ℕ → Type 0) (n : ℕ) (known : Q n) (found : (p : ℕ) → p
         same_or_less (less_same_or_more m n) (λ l. Prim.grind (arith, e, l)),
         λ p l q. before p l (Prim.grind (arith, e, l)) q,
       )
+
+none_known : (o : Option ℕ) → earlier_of o None ≡ o
+none_known None = refl
+none_known (Some p) = refl
+
+-- the same if one is known
+pub least_or_known : (P Q : ℕ → Type 0) (known : Option ℕ) → ((n : ℕ) → known ≡ Some n → Q n)
+    → ((p : ℕ) → is_below known p ≡ true → P p → Q p) → ((p : ℕ) → is_below known p ≡ true → Q p → P p)
+    → (o : Option ℕ) → IsLeast P o → IsLeast Q (earlier_of o known)
+least_or_known P Q known is found finds o h = go known refl
+  where
+    go : (u : Option ℕ) → known ≡ u → IsLeast Q (earlier_of o u)
+    go None s = subst (IsLeast Q) (sym (none_known o))
+        (least_of_same P Q o (λ p. found p (ap (λ z. is_below z p) s)) (λ p. finds p (ap (λ z. is_below z p) s)) h)
+    go (Some n) s = known_or_before P Q n (is n s)
+        (λ p l. found p (ap (λ z. is_below z p) s ∙ below_bound p n l))
+        (λ p l. finds p (ap (λ z. is_below z p) s ∙ below_bound p n l)) o h
 
 -- ---- V6
 

@@ -1,6 +1,6 @@
 -- Rule V7 at a call: what the test finds is what the rule says.
 use Rattle.std.proofs.Common.{◌≡◌, ◌⊎◌, ◌≢◌, inl, inr, ⊎_elim, refl, sym, ap, subst, ◌∙◌, ℕ, zero, suc, ◌-◌, ◌<◌}
-use Rattle.std.proofs.Common.{◌≤◌, List, [], ◌∷◌, ◌++◌, Option, Some, None, Bool, true, false, ◌&&◌, length, arith}
+use Rattle.std.proofs.Common.{List, [], ◌∷◌, ◌++◌, Option, Some, None, Bool, true, false, ◌&&◌, length, arith}
 use Rattle.std.specs.Prelude.{not, slice_get, ◌↔◌}
 use Rattle.std.specs.List.{list_any}
 use Rattle.std.proofs.lemmas.Option.{slice_get_within, none-some, same_Some}
@@ -33,7 +33,7 @@ use Rattle.sp_verify_shapes.specs.Stacks.{list_of}
 use Rattle.sp_verify_shapes.proofs.ReachLaws.{reached_there, stands}
 use Rattle.sp_verify_effects.specs.declared.effects.Effects.{Effects}
 use Rattle.sp_verify_effects.specs.declared.asked_areas.Asked.{Asked}
-use Rattle.sp_verify_effects.specs.AskedAreas.{AsksCalls, is_asked}
+use Rattle.sp_verify_effects.specs.AskedAreas.{AsksCalls, is_asked, is_below}
 use Rattle.sp_verify_effects.specs.AskedCalls.{lacks_actual, lacks_at, lacks_operands}
 use Rattle.sp_verify_effects.specs.declared.facts.Effect.{Effect}
 use Rattle.sp_verify_effects.specs.declared.facts.Effect.TheVariants as effect
@@ -83,7 +83,7 @@ module _ (l : Layout) (ss : List Shape) where
   abbrev pub IsActualAt : ℕ → ℕ → Type 0
   IsActualAt i x = actual_at l.formals ss i ≡ Some x
 
-  at_is : (i x : ℕ) → i < length l.formals → IsActualAt i x → IsActual l ss (length l.formals - 1 - i) x
+  pub at_is : (i x : ℕ) → i < length l.formals → IsActualAt i x → IsActual l ss (length l.formals - 1 - i) x
   at_is i x h e =
       let r = given_some (slice_get l.formals (length l.formals - 1 - i))
       (λ f. on_option None (slice_get ss i) (actual_of f)) x e in
@@ -116,7 +116,7 @@ module _ (l : Layout) (ss : List Shape) where
   listed_different None = tt
   listed_different (Some y) = ((λ h. h), tt)
 
-  member_at : (n x : ℕ) → IsMember x (actuals l.formals ss n) → (i : ℕ) × (i < n) × IsActualAt i x
+  pub member_at : (n x : ℕ) → IsMember x (actuals l.formals ss n) → (i : ℕ) × (i < n) × IsActualAt i x
   member_at zero x h = absurd h
   member_at (suc n) x h =
       ⊎_elim (λ k. let r = member_at n x k in let m = r.1 in (r.0, omega (arith, m), r.2))
@@ -384,7 +384,7 @@ call_within c e s shapes p h =
     omega (arith, l, z)
 
 module _ (c : Parts) (e : Effects) (are : AreEffects c e) (kept : (p : ℕ) → BreaksV1 c p → ⊥) (s : Shapes)
-    (shapes : AreShapes c s) (p : ℕ) where
+    (shapes : AreShapes c s) (p : ℕ) (below : is_below e.asked.known.clash p ≡ true) where
   abbrev pub by_block : ℕ → ℕ → Bool
   by_block n b = on_option false (layout_of c.layouts b) (λ l. call_clashes e l (list_of s.stacks n))
 
@@ -409,7 +409,7 @@ module _ (c : Parts) (e : Effects) (are : AreEffects c e) (kept : (p : ℕ) → 
         record { reached = comes; call = call.1; layout = z.1 },
         clash_rule c e are kept z.0 b z.1 (list_of s.stacks n)
             (are.asks.calls a p b call.0 (list_of s.stacks n) z.0 is_area
-            (record { reached = comes; call = call.1; layout = z.1 })) z.2,
+            (record { reached = comes; call = call.1; layout = z.1 }) below) z.2,
       )
 
   pub call_finds : CallBreaks c p → CallFails c e s p
@@ -417,7 +417,7 @@ module _ (c : Parts) (e : Effects) (are : AreEffects c e) (kept : (p : ℕ) → 
       let k = shapes.all a p ss (there, is.reached) in
       let n = k.0 in
       let clash = rule_clash c e are kept l b is.layout (list_of s.stacks n)
-      (subst (AsksActuals e.asked l) (sym k.2) (are.asks.calls a p b up ss l there is))
+      (subst (AsksActuals e.asked l) (sym k.2) (are.asks.calls a p b up ss l there is below))
       (subst (λ (z : List Shape). fork.BreaksV7 c (Does c) (HasStop c) l b z) (sym k.2) h) in
       given_at false (reached_at s p) by_stack n (reached_there s p n k.1)
       ∙ given_at false (called_block (instr_at c p)) (by_block n) b (ap called_block is.call)
@@ -447,9 +447,10 @@ module _ (k : Asked) (ks : List (ℕ × ℕ)) (m : ℕ) where
       go false false l z w = absurd (cc w)
 
 pub calls_asked : (c : Parts) → ((p : ℕ) → BreaksV1 c p → ⊥) → (s : Shapes) → AreShapes c s → (k : Asked)
-    → (ks : List (ℕ × ℕ)) → AreOwn c ks → (n : ℕ) → length c.instrs ≤ n
+    → (ks : List (ℕ × ℕ)) → AreOwn c ks → (n : ℕ)
+    → ((q : ℕ) → q < length c.instrs → is_below k.known.clash q ≡ true → q < n)
     → ((q : ℕ) → q < n → lacks_at c k ks s q ≡ false) → AsksCalls c k
-calls_asked c kept s shapes k ks own n size none a p b up ss l there call j x f outside =
+calls_asked c kept s shapes k ks own n all none a p b up ss l there call below j x f outside =
     let r = shapes.all a p ss (there, call.reached) in
     let stack = r.0 in
     let within = slice_get_within c.instrs p (i.Call b up) call.call in
@@ -457,7 +458,7 @@ calls_asked c kept s shapes k ks own n size none a p b up ss l there call j x f 
     (reached_there s p stack r.1)
     ∙ given_at false (called_block (instr_at c p)) (by stack) b (ap called_block call.call)
     ∙ given_at false (layout_of c.layouts b) (λ m. lacks_operands k ks m (list_of s.stacks stack)) l call.layout in
-    let none_here = sym lacks ∙ none p (omega (arith, within, size)) in
+    let none_here = sym lacks ∙ none p (all p within below) in
     let actual = subst (λ (z : List Shape). IsActual l z j x) (sym r.2) f in
     let y = is_at l (list_of s.stacks stack) j x actual in
     let h = y.0 in

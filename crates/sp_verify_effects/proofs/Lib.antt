@@ -23,5 +23,6 @@ mod LinkedLaws
 mod WindowLaws
 mod Actuals
 mod CallTests
+mod ClashLaws
 mod Inward
 mod V7Passes

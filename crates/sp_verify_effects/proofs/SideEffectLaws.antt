@@ -16,7 +16,6 @@ use Rattle.sp_verify_rules.specs.Verdict.{BreaksV8, HasStop}
 use Rattle.sp_verify_areas.specs.declared.owners.Owner.{Owner}
 use Rattle.sp_verify_areas.specs.LeastPlaces.{IsLeast, Upto, earlier_of}
 use Rattle.sp_verify_areas.specs.Owners.{AreOwners}
-use Rattle.sp_verify_areas.proofs.Leasts.{least_of_same}
 use Rattle.sp_verify_effects.specs.declared.effects.EffectRow.{EffectRow}
 use Rattle.sp_verify_effects.specs.declared.effects.Effects.{Effects}
 use Rattle.sp_verify_effects.specs.declared.asked_areas.Asked.{Asked}
@@ -30,7 +29,7 @@ use Rattle.sp_verify_effects.specs.FactClosure.{IsDone, IsEffectOf}
 use Rattle.sp_verify_effects.specs.SideEffects.{HasSideEffects, LayoutHasSideEffects, has_side_effects, is_side_effect}
 use Rattle.sp_verify_effects.specs.Variables.{AreOwn, goes_out, owns}
 use Rattle.sp_verify_effects.proofs.BlockVariables.{in_own, layout_here, one_layout, out_from, out_is}
-use Rattle.sp_verify_effects.proofs.BreachLaws.{below_bound, known_or_before}
+use Rattle.sp_verify_effects.proofs.BreachLaws.{least_or_known}
 use Rattle.sp_verify_effects.proofs.Exact.{one_area}
 
 -- ---- one layout
@@ -97,15 +96,15 @@ module _ (c : Parts) (e : Effects) (are : AreEffects c e) (kept : (p : ℕ) → 
     from_rule (a, inr s) = (a, inr ((effects_of.stops (q effect.Stops (λ z. z))).1 s))
 
   abbrev IsBefore : ℕ → Type 0
-  IsBefore p = is_below e.asked.side_effect p ≡ true
+  IsBefore p = is_below e.asked.known.side_effect p ≡ true
 
   -- what a block that answers does outside itself is asked about
   asks : (j : ℕ) (l : Layout) → slice_get c.layouts j ≡ Some l → l.answer ≡ true → IsBefore l.entry
       → AsksBody c e.asked l
   asks j l is a b = asked_body c e.asked l (layout_here c kept j l is)
       (are.asks.layouts j l is
-      (or_left (l.answer && is_below e.asked.side_effect l.entry) (has_block e.asked l.entry)
-      (and_from l.answer (is_below e.asked.side_effect l.entry) a b)))
+      (or_left (l.answer && is_below e.asked.known.side_effect l.entry) (has_block e.asked l.entry)
+      (and_from l.answer (is_below e.asked.known.side_effect l.entry) a b)))
 
   answers : (l : Layout) (o : Option EffectRow) → HasSideEffects l o → l.answer ≡ true
   answers l None h = absurd h
@@ -133,21 +132,9 @@ module _ (c : Parts) (e : Effects) (are : AreEffects c e) (kept : (p : ℕ) → 
         holds = (l, is, at, subst (HasSideEffects l) (sym r.1) (from_rule l q r.0 r.2 h));
       }
 
-  none_known : (o : Option ℕ) → earlier_of o None ≡ o
-  none_known None = refl
-  none_known (Some p) = refl
-
   -- the first one that is found, or the one that is known
-  pub v8_least : (o : Option ℕ) → IsLeast IsFound o → IsLeast (BreaksV8 c) (earlier_of o e.asked.side_effect)
-  v8_least o h = go e.asked.side_effect refl
-    where
-      go : (u : Option ℕ) → e.asked.side_effect ≡ u → IsLeast (BreaksV8 c) (earlier_of o u)
-      go None s = subst (IsLeast (BreaksV8 c)) (sym (none_known o))
-          (least_of_same IsFound (BreaksV8 c) o (λ p. found p (ap (λ z. is_below z p) s))
-          (λ p. finds p (ap (λ z. is_below z p) s)) h)
-      go (Some n) s = known_or_before IsFound (BreaksV8 c) n (are.asks.side_effect n s)
-          (λ p l. found p (ap (λ z. is_below z p) s ∙ below_bound p n l))
-          (λ p l. finds p (ap (λ z. is_below z p) s ∙ below_bound p n l)) o h
+  pub v8_least : (o : Option ℕ) → IsLeast IsFound o → IsLeast (BreaksV8 c) (earlier_of o e.asked.known.side_effect)
+  v8_least = least_or_known IsFound (BreaksV8 c) e.asked.known.side_effect are.asks.known.side_effect found finds
 
 -- ---- what one fact shows
 

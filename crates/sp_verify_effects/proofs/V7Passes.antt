@@ -1,5 +1,5 @@
 -- Rule V7: what the passes find is broken, and what is broken they find.
-use Rattle.std.proofs.Common.{◌≡◌, inl, inr, ⊎_elim, refl, sym, ap, subst, ◌∙◌, ℕ, ◌<◌, List, length, Option, Some}
+use Rattle.std.proofs.Common.{◌≡◌, ◌⊎◌, inl, inr, ⊎_elim, refl, sym, ap, subst, ◌∙◌, ℕ, ◌<◌, List, length, Option, Some}
 use Rattle.std.proofs.Common.{None, Bool, true, false, ◌&&◌, ◌||◌, if◌then◌else◌, ◌==◌, arith, eqb-true}
 use Rattle.std.specs.Prelude.{slice_get, ◌↔◌}
 use Rattle.std.specs.BTreeMap.{BTreeMap}
@@ -30,7 +30,7 @@ use Rattle.sp_verify_areas.specs.Blocks.{IsNumbered, number_from, number_of}
 use Rattle.sp_verify_areas.specs.LeastPlaces.{IsLeast, Upto, earlier_of}
 use Rattle.sp_verify_areas.specs.Owners.{entry_at}
 use Rattle.sp_verify_areas.proofs.BlockLaws.{place_some}
-use Rattle.sp_verify_areas.proofs.Leasts.{all, both, least_of_same}
+use Rattle.sp_verify_areas.proofs.Leasts.{both}
 use Rattle.sp_verify_shapes.specs.declared.shapes.Shapes.{Shapes}
 use Rattle.sp_verify_shapes.specs.Shapes.{AreShapes}
 use Rattle.sp_verify_shapes.specs.Stacks.{list_of}
@@ -43,10 +43,11 @@ use Rattle.sp_verify_effects.specs.Calls.{CallFails}
 use Rattle.sp_verify_effects.specs.Effects.{AreEffects, IsRowOf}
 use Rattle.sp_verify_effects.specs.Turns.{AreInside, LayoutTurns, SomeCalls, Turns, inside_of, is_inside, turns}
 use Rattle.sp_verify_effects.specs.Variables.{AreOwn, goes_out}
+use Rattle.sp_verify_effects.proofs.BreachLaws.{least_or_known}
 use Rattle.sp_verify_effects.proofs.Inward.{inside_is, is_inside_here}
 use Rattle.sp_verify_effects.proofs.SideEffectLaws.{AsksBody, asked_body, body_row}
 use Rattle.sp_verify_effects.proofs.BlockVariables.{layout_here, one_layout, out_from, out_is}
-use Rattle.sp_verify_effects.proofs.CallTests.{CallBreaks, call_found, call_finds, place_there}
+use Rattle.sp_verify_effects.proofs.CallTests.{call_found, call_finds, place_there}
 
 -- ---- one layout
 
@@ -208,7 +209,7 @@ module _ (c : Parts) (k : KeepsCodeRules c) (kept : (p : ℕ) → BreaksV1 c p �
             let same_place = place_some c.layouts b j (sym (numbered b) ∙ number_is) in
             let ls = c.layouts in
             are.asks.layouts j l is
-            (or_right (l.answer && is_below e.asked.side_effect l.entry) (has_block e.asked l.entry)
+            (or_right (l.answer && is_below e.asked.known.side_effect l.entry) (has_block e.asked l.entry)
             (are.asks.inside h.position q.area l.entry q.lies
             (ap (inside_entry (homes c q.area) ls) call_is
             ∙ ap (λ t. if t then entry_at (layout_of ls b) else None) inward ∙ ap entry_at (sym same_place ∙ is))))
@@ -238,13 +239,25 @@ module _ (c : Parts) (k : KeepsCodeRules c) (kept : (p : ℕ) → BreaksV1 c p �
         );
       }
 
-  pub v7_least : (a b : Option ℕ) → IsLeast (CallFails c e s) a
-      → IsLeast (Upto (LayoutTurns e flags c.layouts) (length c.layouts)) b → IsLeast (BreaksV7 c) (earlier_of a b)
-  v7_least a b h g =
-      both (CallBreaks c) (TurnBreaks c) a b
-      (least_of_same (CallFails c e s) (CallBreaks c) a (λ p. call_found c e are kept s shapes p)
-      (λ p. call_finds c e are kept s shapes p) h)
-      (all (LayoutTurns e flags c.layouts) (TurnBreaks c) (length c.layouts) b turn_found turn_finds g)
+  abbrev pub SomeTurns : ℕ → Type 0
+  SomeTurns = Upto (LayoutTurns e flags c.layouts) (length c.layouts)
+
+  abbrev pub IsBefore : ℕ → Type 0
+  IsBefore p = is_below e.asked.known.clash p ≡ true
+
+  found : (p : ℕ) → IsBefore p → CallFails c e s p ⊎ SomeTurns p → BreaksV7 c p
+  found p below (inl h) = inl (call_found c e are kept s shapes p below h)
+  found p below (inr u) = inr (turn_found u.item p u.holds)
+
+  finds : (p : ℕ) → IsBefore p → BreaksV7 c p → CallFails c e s p ⊎ SomeTurns p
+  finds p below (inl h) = inl (call_finds c e are kept s shapes p below h)
+  finds p below (inr h) = inr (turn_finds p h)
+
+  -- the first one that is found, or the one that is known
+  pub v7_least : (a b : Option ℕ) → IsLeast (CallFails c e s) a → IsLeast SomeTurns b
+      → IsLeast (BreaksV7 c) (earlier_of (earlier_of a b) e.asked.known.clash)
+  v7_least a b h g = least_or_known (λ p. CallFails c e s p ⊎ SomeTurns p) (BreaksV7 c) e.asked.known.clash
+      are.asks.known.clash found finds (earlier_of a b) (both (CallFails c e s) SomeTurns a b h g)
 
 -- ---- code that keeps V1 to V5
 

@@ -16,12 +16,13 @@ use Rattle.sp_verify_rules.specs.Areas.{Area, homes, instr_at, on_option}
 use Rattle.sp_verify_rules.specs.Effects.{IsActual, IsCalled}
 use Rattle.sp_verify_rules.specs.Reach.{IsArea}
 use Rattle.sp_verify_rules.specs.Shapes.{Shape}
-use Rattle.sp_verify_rules.specs.Verdict.{BreaksV8}
+use Rattle.sp_verify_rules.specs.Verdict.{BreaksV7, BreaksV8}
 use Rattle.sp_verify_areas.specs.Alone.{flag_at}
 use Rattle.sp_verify_areas.specs.Only.{LiesOnlyIn}
 use Rattle.sp_verify_areas.specs.Owners.{entry_at}
 use Rattle.sp_verify_effects.specs.declared.allowance.Allowance.{Allowance}
 use Rattle.sp_verify_effects.specs.declared.asked_areas.Asked.{Asked}
+use Rattle.sp_verify_effects.specs.declared.asked_areas.Known.{Known}
 use Rattle.sp_verify_effects.specs.declared.edges.Edge.{Edge}
 use Rattle.sp_verify_effects.specs.declared.edges.Edge.TheVariants as edge
 use Rattle.sp_verify_effects.specs.declared.facts.Effect.{Effect}
@@ -58,7 +59,7 @@ is_below (Some n) p = nat_lt p n
 
 -- the block answers and begins before one that is known to have a side effect, or the flags have it
 abbrev pub is_asked_block : Asked → Layout → Bool
-is_asked_block k l = (l.answer && is_below k.side_effect l.entry) || has_block k l.entry
+is_asked_block k l = (l.answer && is_below k.known.side_effect l.entry) || has_block k l.entry
 
 -- what a child is not handed is asked about it; so if it begins below a bound, for the children of a table, and of all
 -- tables
@@ -91,10 +92,11 @@ inside_entry hs ls (Some (i.Call b up)) = if is_inside hs b up then entry_at (la
 inside_entry hs ls o = None
 
 module _ (c : Parts) where
-  -- what a called block does to a variable that the call passes by reference is asked about, unless it is its own
+  -- what a called block does to a variable that the call passes by reference is asked about, unless it is its own, or
+  -- a clash is known that does not come after the call
   abbrev pub AsksCalls : Asked → Type 0
   AsksCalls k = (a : Area) (p b up : ℕ) (ss : List Shape) (l : Layout) → IsArea c a → IsCalled c a p b up ss l
-      → (j x : ℕ) → IsActual l ss j x → (IsMember x l.variables → ⊥)
+      → is_below k.known.clash p ≡ true → (j x : ℕ) → IsActual l ss j x → (IsMember x l.variables → ⊥)
       → (is_asked k l.entry (effect.Stores x) ≡ true) × (is_asked k l.entry (effect.Loads x) ≡ true)
 
   -- the flags have the block that the instruction at p calls inside itself
@@ -102,11 +104,15 @@ module _ (c : Parts) where
   AsksInsideAt k p = (a : Area) (n : ℕ) → LiesOnlyIn c p a
       → inside_entry (homes c a) c.layouts (instr_at c p) ≡ Some n → has_block k n ≡ true
 
+  -- what is known to be broken is broken
+  pub record AreKnown (known : Known) : Type 0 where
+    pub clash : (p : ℕ) → known.clash ≡ Some p → BreaksV7 c p
+    pub side_effect : (p : ℕ) → known.side_effect ≡ Some p → BreaksV8 c p
+
   -- all that the rules ask about is asked about
   pub record Asks (k : Asked) : Type 0 where
     pub tables : AsksTables None k c.forks
     pub layouts : AsksLayouts k c.layouts
     pub calls : AsksCalls k
     pub inside : (p : ℕ) → AsksInsideAt k p
-    -- the side effect that is known is one
-    pub side_effect : (p : ℕ) → k.side_effect ≡ Some p → BreaksV8 c p
+    pub known : AreKnown k.known

@@ -4,6 +4,7 @@
 use Rattle.std.specs.Prelude.{◌≡◌, ℕ, zero, suc, ◌-◌, List, [], ◌∷◌, ◌++◌, Option, Some, None, Bool, true, false, ◌&&◌}
 use Rattle.std.specs.Prelude.{◌||◌, not, slice_get, length}
 use Rattle.std.specs.List.{list_any}
+use Rattle.sp_tree.specs.Interference.{IsMember}
 use Rattle.sp_code.specs.declared.instr.Instr.{Instr}
 use Rattle.sp_code.specs.declared.code.Formal.{Formal}
 use Rattle.sp_code.specs.declared.code.Formal.TheVariants as formal
@@ -17,8 +18,10 @@ use Rattle.sp_verify_shapes.specs.declared.stacks.Stacks.{Stacks}
 use Rattle.sp_verify_shapes.specs.ReachRules.{reached_at}
 use Rattle.sp_verify_shapes.specs.Stacks.{list_of}
 use Rattle.sp_verify_effects.specs.declared.effects.Effects.{Effects}
+use Rattle.sp_verify_effects.specs.declared.facts.Fact.{Fact}
 use Rattle.sp_verify_shapes.specs.Repeats.{called_block}
 use Rattle.sp_verify_effects.specs.Effects.{touches}
+use Rattle.sp_verify_effects.specs.Facts.{touched}
 use Rattle.sp_verify_effects.specs.Variables.{owns}
 use Rattle.sp_verify_effects.specs.Sets.{all_new}
 
@@ -58,6 +61,14 @@ meets_outer e entry xs = list_any (is_outer e entry) xs
 abbrev pub call_clashes : Effects → Layout → List Shape → Bool
 call_clashes e l ss = not (all_new [] (actuals l.formals ss (length l.formals)))
     || meets_outer e l.entry (actuals l.formals ss (length l.formals))
+
+-- the block does this to a variable that the call passes by reference, and that is not its own
+pub record Meets (ks : List (ℕ × ℕ)) (l : Layout) (ss : List Shape) (f : Fact) : Type 0 where
+  pub begins : l.entry ≡ f.area
+  pub variable : ℕ
+  pub does : touched f.effect ≡ Some variable
+  pub outside : owns ks l.entry variable ≡ false
+  pub among : IsMember variable (actuals l.formals ss (length l.formals))
 
 -- the instruction is a call that clashes, with the list of shapes of this number (None: nothing arrives there)
 abbrev pub clashes_at : Effects → List Layout → Stacks → Option ℕ → Option Instr → Bool

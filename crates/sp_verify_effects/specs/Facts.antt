@@ -1,8 +1,8 @@
 -- None of this belongs to what the program promises: it is for contracts between crates.
 -- Facts about areas of code, in the order in which they are found: an area, by its first instruction, stores a
 -- variable, loads one, or comes to a stop.
-use Rattle.std.specs.Prelude.{◌≡◌, ◌⊎◌, ℕ, ◌==◌, ◌&&◌, ◌++◌, List, [], ◌∷◌, Some, Bool, true, false, if◌then◌else◌}
-use Rattle.std.specs.Prelude.{slice_get}
+use Rattle.std.specs.Prelude.{◌≡◌, ◌⊎◌, ℕ, ◌==◌, ◌&&◌, ◌++◌, List, [], ◌∷◌, Option, Some, None, Bool, true, false}
+use Rattle.std.specs.Prelude.{slice_get, if◌then◌else◌}
 use Rattle.std.specs.List.{list_any}
 use Rattle.std.specs.declared.cmp.Ordering.{Ordering}
 use Rattle.std.specs.Ordering.{nat_cmp, ordering_then, is_eq}
@@ -21,6 +21,12 @@ same_effect d e = false
 
 abbrev pub same_fact : Fact → Fact → Bool
 same_fact f g = (f.area == g.area) && same_effect f.effect g.effect
+
+-- the variable that is stored or loaded
+abbrev pub touched : Effect → Option ℕ
+touched (effect.Stores x) = Some x
+touched (effect.Loads x) = Some x
+touched effect.Stops = None
 
 -- the fact is among these
 abbrev pub has_fact : List Fact → Fact → Bool

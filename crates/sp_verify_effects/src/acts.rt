@@ -19,7 +19,8 @@ use sp_code::{Code, Instr};
 use sp_verify_areas::flags::{mark, no_flags};
 use sp_verify_shapes::repeats::called_block;
 
-fn is_nowhere(at: Place) -> bool
+/// Whether no variables are there.
+pub(crate) fn is_nowhere(at: Place) -> bool
     ensures { result ≡ true → at ≡ place.Nowhere }
 {
     match at {

@@ -1,11 +1,11 @@
 //! The areas that rules V6 to V8 ask about, and what they ask about each. Nothing else is followed: where the rules ask
 //! about little, code of many blocks and variables takes no time and no memory for each pair of them.
 
-ghost use Rattle.std.specs.Prelude.{◌≡◌, ◌<◌, ℕ, IfOk, None, Some, length, true};
+ghost use Rattle.std.specs.Prelude.{◌≡◌, ℕ, ◌<◌, ◌≤◌, IfOk, None, Some, length, true};
 ghost use Rattle.std.specs.Option.{option_copied};
 ghost use Rattle.sp_verify_areas.specs.Only.{LiesOnlyIn};
 ghost use Rattle.sp_verify_effects.specs.Allowances.{Fits, FitsBlock, allows_some};
-ghost use Rattle.sp_verify_effects.specs.AskedAreas.{Asks, AsksBelow, AsksChild, AsksChildren, AsksInsideAt};
+ghost use Rattle.sp_verify_effects.specs.AskedAreas.{AreKnown, Asks, AsksBelow, AsksChild, AsksChildren, AsksInsideAt};
 ghost use Rattle.sp_verify_effects.specs.AskedAreas.{AsksLayout, AsksLayouts, AsksOutside, AsksTables, allowance_at};
 ghost use Rattle.sp_verify_effects.specs.AskedAreas.{has_block, inside_entry, is_asked, is_asked_block, is_below};
 ghost use Rattle.sp_verify_effects.specs.AskedAreas.{is_marked, target};
@@ -13,12 +13,11 @@ ghost use Rattle.sp_verify_effects.specs.FactClosure.{FollowsEdges, FollowsRow, 
 ghost use Rattle.sp_verify_effects.specs.PassContexts.{IsPassContext};
 ghost use Rattle.sp_verify_effects.specs.Variables.{AreOwn};
 ghost use Rattle.sp_verify_rules.specs.Areas.{Area, homes as homes_of, instr_at};
-ghost use Rattle.sp_verify_rules.specs.Verdict.{BreaksV8};
 
 use crate::allowance::{Allowance, allows, fits, fits_block, passes_within};
 use crate::asked_calls::asks_calls;
 use crate::callers::{Groups, flag_groups, groups_of};
-use crate::common::{Common, common_of};
+use crate::common::{Common, common_of, no_common};
 use crate::edges::{Edge, edge_at};
 use crate::facts::Effect;
 use crate::have;
@@ -30,6 +29,15 @@ use sp_code::{ChildTable, ForkTable, Instr, Layout, Parts};
 use sp_verify_areas::flags::{flag_at, mark, no_flags};
 use std::alloc::Global;
 use std::collections::BTreeSet;
+
+/// Instructions at which rules are known to be broken before all effects are.
+#[derive(Clone, Copy)]
+pub struct Known {
+    /// V7: a call.
+    pub clash: Option<u32>,
+    /// V8: the first instruction of a block.
+    pub side_effect: Option<u32>,
+}
 
 /// Areas by their first instructions, and what of each is asked about.
 #[derive(Drop)]
@@ -44,9 +52,8 @@ pub struct Asked {
     pub allowances: List<Allowance>,
     /// Of each instruction, whether a block begins there of which the rules ask what it does outside itself.
     pub blocks: List<bool>,
-    /// The first instruction of a block that is known to have a side effect, if there is one: of the blocks that answer
-    /// only those that begin before it are asked about.
-    pub side_effect: Option<u32>,
+    /// What is known to be broken: of calls, and of blocks that answer, only those before it are asked about.
+    pub known: Known,
 }
 
 impl Asked {
@@ -105,41 +112,52 @@ impl Asked {
     }
 }
 
+// Nothing.
+fn none_known() -> Known
+    ensures clash { result.clash ≡ None }
+    ensures side_effect { result.side_effect ≡ None }
+{
+    Known {
+        clash: None,
+        side_effect: None,
+    }
+}
+
+// Areas by their flags, with these allowances.
+fn asked_by(flags: List<bool>, common: Common, blocks: List<bool>, known: Known) -> Asked
+    ensures { result.known ≡ known }
+{
+    let Common {
+        numbers,
+        allowances,
+    } = common;
+    Asked {
+        all: false,
+        flags,
+        numbers,
+        allowances,
+        blocks,
+        known,
+    }
+}
+
 // All areas.
 fn every_area(asked: Asked) -> Asked
     ensures all { result.all ≡ true }
-    ensures none { result.side_effect ≡ None }
+    ensures clash { result.known.clash ≡ None }
+    ensures side_effect { result.known.side_effect ≡ None }
 {
-    let Asked {
-        all: _,
-        flags,
-        numbers,
-        allowances,
-        blocks,
-        side_effect: _,
-    } = asked;
-    Asked {
-        all: true,
-        flags,
-        numbers,
-        allowances,
-        blocks,
-        side_effect: None,
-    }
+    let mut every = asked;
+    every.all = true;
+    every.known = none_known();
+    every
 }
 
 /// One area alone, of so many instructions.
 pub(crate) fn area_alone(alloc: Global, count: usize, entry: u32) -> Result<Asked, Memory> {
     let mut flags = have!(no_flags(alloc, count));
     mark(&mut flags, entry as usize);
-    Ok(Asked {
-        all: false,
-        flags,
-        numbers: List::new(alloc),
-        allowances: List::new(alloc),
-        blocks: List::new(alloc),
-        side_effect: None,
-    })
+    Ok(asked_by(flags, no_common(alloc), List::new(alloc), none_known()))
 }
 
 /// Where an edge leads.
@@ -186,6 +204,20 @@ fn inside_entry_at(g: &PassContext, p: u32) -> Option<u32>
     match g.code.instr(p) {
         None => None,
         Some(instr) => inside_entry(g, p, instr),
+    }
+}
+
+/// How many of so many instructions are below a bound, if there is one.
+pub(crate) fn count_below(count: usize, bound: Option<u32>) -> usize
+    ensures within { result ≤ count }
+    ensures all { (p : ℕ) → p < count → is_below bound p ≡ true → p < result }
+{
+    match bound {
+        None => count,
+        Some(bound) => {
+            let bound = bound as usize;
+            if bound < count { bound } else { count }
+        }
     }
 }
 
@@ -301,7 +333,7 @@ fn asks_tables(asked: &Asked, bound: Option<u32>, tables: &[ForkTable]) -> Resul
 fn is_asked_block(asked: &Asked, l: &Layout) -> bool
     ensures { result ≡ is_asked_block asked.now l.now }
 {
-    (l.answer && is_below(asked.side_effect, l.entry)) || asked.has_block(l.entry as usize)
+    (l.answer && is_below(asked.known.side_effect, l.entry)) || asked.has_block(l.entry as usize)
 }
 
 // Whether all that the area of a block may do, it does to variables of the block.
@@ -431,7 +463,7 @@ fn follows_edges(asked: &Asked, rows: &[List<Edge>]) -> bool
 fn asks(g: &PassContext, asked: &Asked, own: &BTreeSet<(u32, u32)>) -> Result<bool, Memory>
     requires known { IsPassContext g.now }
     requires own { AreOwn g.now.code.now own.now.keys }
-    requires side_effect { (p : ℕ) → asked.now.side_effect ≡ Some p → BreaksV8 g.now.code.now p }
+    requires broken { AreKnown g.now.code.now asked.now.known }
     ensures { IfOk result (λ b. b ≡ true → Asks g.now.code.now asked.now) }
 {
     let parts = g.code.parts();
@@ -457,26 +489,16 @@ fn find_by(
     bound: Option<u32>,
     blocks: List<bool>,
     passed: &Passed,
-    side_effect: Option<u32>,
+    known: Known,
 ) -> Result<Asked, Memory>
-    ensures { IfOk result (λ asked. asked.side_effect ≡ side_effect) }
+    ensures { IfOk result (λ asked. asked.known ≡ known) }
 {
     let mut flags = have!(List::from_slice(blocks.alloc(), blocks.items()));
     mark_tables(&mut flags, bound, parts.forks.items());
     mark_passed(&mut flags, passed);
     flag_groups(rows, groups, &mut flags);
-    let Common {
-        numbers,
-        allowances,
-    } = have!(common_of(parts, rows, groups, &flags, bound, &blocks, passed));
-    Ok(Asked {
-        all: false,
-        flags,
-        numbers,
-        allowances,
-        blocks,
-        side_effect,
-    })
+    let common = have!(common_of(parts, rows, groups, &flags, bound, &blocks, passed));
+    Ok(asked_by(flags, common, blocks, known))
 }
 
 // What rules ask about, and what leads to it along the edges.
@@ -484,31 +506,31 @@ fn find_asked(
     g: &PassContext,
     rows: &List<List<Edge>>,
     own: &BTreeSet<(u32, u32)>,
-    side_effect: Option<u32>,
+    known: Known,
 ) -> Result<Asked, Memory>
     requires known { IsPassContext g.now }
-    ensures { IfOk result (λ asked. asked.side_effect ≡ side_effect) }
+    ensures { IfOk result (λ asked. asked.known ≡ known) }
 {
     let parts = g.code.parts();
     let mut blocks = have!(no_flags(parts.instrs.alloc(), parts.instrs.len()));
-    mark_blocks(g, &mut blocks, side_effect);
+    mark_blocks(g, &mut blocks, known.side_effect);
     let groups = have!(groups_of(rows));
-    let passed = have!(passed_of(g, own, &blocks));
-    find_by(parts, rows, &groups, None, blocks, &passed, side_effect)
+    let passed = have!(passed_of(g, own, &blocks, known.clash));
+    find_by(parts, rows, &groups, None, blocks, &passed, known)
 }
 
-/// What V6 asks about the children that begin below a bound, and what leads to it along the edges; nothing here is
-/// checked.
+/// What V6 asks about the children that begin below a bound, and V7 about variables that are passed, and what leads to
+/// it along the edges; nothing here is checked.
 pub(crate) fn find_below(
     g: &PassContext,
     rows: &List<List<Edge>>,
     groups: &Groups,
     bound: Option<u32>,
+    passed: &Passed,
 ) -> Result<Asked, Memory> {
     let parts = g.code.parts();
     let blocks = have!(no_flags(parts.instrs.alloc(), parts.instrs.len()));
-    let passed = none_passed(parts.instrs.alloc());
-    find_by(parts, rows, groups, bound, blocks, &passed, None)
+    find_by(parts, rows, groups, bound, blocks, passed, none_known())
 }
 
 /// The same, checked.
@@ -521,7 +543,8 @@ pub(crate) fn asked_below(
     ensures asks { IfOk result (λ asked. AsksTables bound asked g.now.code.now.forks) }
     ensures follows { IfOk result (FollowsEdges rows.now) }
 {
-    let some = have!(find_below(g, rows, groups, bound));
+    let passed = none_passed(g.code.parts().instrs.alloc());
+    let some = have!(find_below(g, rows, groups, bound, &passed));
     let asks = have!(asks_tables(&some, bound, g.code.parts().forks.items()));
     if asks {
         if follows_edges(&some, rows.items()) {
@@ -531,20 +554,20 @@ pub(crate) fn asked_below(
     Ok(every_area(some))
 }
 
-/// What rules ask about, and what leads to it along these edges, where this block is known to have a side effect.
+/// What rules ask about, and what leads to it along these edges, where this is known to be broken.
 pub(crate) fn asked_of(
     g: &PassContext,
     rows: &List<List<Edge>>,
     own: &BTreeSet<(u32, u32)>,
-    side_effect: Option<u32>,
+    known: Known,
 ) -> Result<Asked, Memory>
     requires known { IsPassContext g.now }
     requires own { AreOwn g.now.code.now own.now.keys }
-    requires side_effect { (p : ℕ) → side_effect ≡ Some p → BreaksV8 g.now.code.now p }
+    requires broken { AreKnown g.now.code.now known }
     ensures asks { IfOk result (Asks g.now.code.now) }
     ensures follows { IfOk result (FollowsEdges rows.now) }
 {
-    let some = have!(find_asked(g, rows, own, side_effect));
+    let some = have!(find_asked(g, rows, own, known));
     let asks = have!(asks(g, &some, own));
     if asks {
         if follows_edges(&some, rows.items()) {

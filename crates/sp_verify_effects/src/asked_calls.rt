@@ -10,7 +10,7 @@ ghost use Rattle.sp_verify_effects.specs.PassContexts.{IsPassContext};
 ghost use Rattle.sp_verify_effects.specs.Variables.{AreOwn};
 ghost use Rattle.sp_verify_effects.specs.Walks.{AreWalks};
 
-use crate::asked_areas::Asked;
+use crate::asked_areas::{Asked, count_below};
 use crate::facts::Effect;
 use crate::have;
 use crate::pass_context::PassContext;
@@ -120,7 +120,7 @@ fn lacks_first(
     }
 }
 
-/// Whether that is asked about at all calls.
+/// Whether that is asked about at all calls before the one that is known to clash.
 pub(crate) fn asks_calls(
     g: &PassContext,
     asked: &Asked,
@@ -132,7 +132,7 @@ pub(crate) fn asks_calls(
 {
     let instrs = &g.code.parts().instrs;
     let mut walks = no_walks(instrs.alloc());
-    let count = instrs.len();
+    let count = count_below(instrs.len(), asked.known.clash);
     for p in 0..count {
         let lacks = have!(lacks_first(g, asked, own, &mut walks, p as u32));
         if lacks {

@@ -12,18 +12,21 @@ ghost use Rattle.sp_verify_effects.specs.Variables.{AreOwn};
 ghost use Rattle.sp_verify_rules.specs.Verdict.{BreaksV6};
 
 use crate::areas::child_at;
-use crate::asked_areas::{Asked, asked_below, find_below};
+use crate::asked_areas::{Asked, area_alone, asked_below, find_below};
 use crate::callers::{Groups, groups_of};
 use crate::child_effects::{fails_alone, first_in};
 use crate::closure::{fact_along, is_own};
 use crate::edges::{Edge, edge_at, edges_of};
 use crate::effects::effects_of;
 use crate::facts::{Effect, Fact, Facts};
+use crate::halving::{Halving, earlier, halving_of, last_asked, later};
 use crate::have;
 use crate::own::tell_own;
 use crate::pass_context::PassContext;
+use crate::passed::none_passed;
+use crate::trails::Way;
 use crate::variables::own_of;
-use crate::ways::{Ground, Places, Way, places_of, way_from};
+use crate::ways::{Ground, Places, place_of, places_of, way_from};
 use sp_base::{List, Memory};
 use sp_code::ChildTable;
 use sp_verify_areas::least::{least, place_if};
@@ -67,8 +70,8 @@ fn step(
     }
 }
 
-/// What it becomes along one edge after the other.
-pub(crate) fn walk(
+// What it becomes along one edge after the other.
+fn walk(
     g: &PassContext,
     rows: &List<List<Edge>>,
     own: &BTreeSet<(u32, u32)>,
@@ -89,6 +92,27 @@ pub(crate) fn walk(
         };
     }
     Some(fact)
+}
+
+/// What is done at the end of a way, if the area where that begins does so itself.
+pub(crate) fn end_of(
+    g: &PassContext,
+    rows: &List<List<Edge>>,
+    own: &BTreeSet<(u32, u32)>,
+    way: &Way,
+) -> Result<Option<Fact>, Memory>
+    requires known { IsPassContext g.now }
+    requires edges { AreEdges g.now.code.now rows.now }
+    requires own { AreOwn g.now.code.now own.now.keys }
+    ensures { IfOk result (λ o. (f : FactOf) → o ≡ Some f → IsDone g.now.code.now f) }
+{
+    let instrs = &g.code.parts().instrs;
+    let asked = have!(area_alone(instrs.alloc(), instrs.len(), way.start.area));
+    let told = have!(told_of(g, &asked));
+    if !told.has(way.start) {
+        return Ok(None);
+    }
+    Ok(walk(g, rows, own, way.start, way.edges.items()))
 }
 
 // The variable that is stored, if one is; and the one that is loaded.
@@ -145,6 +169,7 @@ fn breach_on(
     g: &PassContext,
     rows: &List<List<Edge>>,
     own: &BTreeSet<(u32, u32)>,
+    places: &Places,
     told: &Facts,
     way: &Way,
 ) -> Result<Option<u32>, Memory>
@@ -159,7 +184,10 @@ fn breach_on(
     }
     match walk(g, rows, own, way.start, way.edges.items()) {
         None => Ok(None),
-        Some(fact) => breach_of(g, way.end.0, way.end.1, fact),
+        Some(fact) => {
+            let (t, k) = place_of(places, fact.area);
+            breach_of(g, t, k, fact)
+        }
     }
 }
 
@@ -178,20 +206,22 @@ fn breach_below(
     ensures { IfOk result (λ o. (p : ℕ) → o ≡ Some p → BreaksV6 g.now.code.now p) }
 {
     let parts = g.code.parts();
-    let asked = have!(find_below(g, rows, groups, bound));
+    let passed = none_passed(parts.instrs.alloc());
+    let asked = have!(find_below(g, rows, groups, bound, &passed));
     let told = have!(told_of(g, &asked));
     let ground = Ground {
         rows,
         own,
         forks: &parts.forks,
         places,
+        passed: &passed,
         asked: &asked,
         bound,
     };
     let way = have!(way_from(parts.instrs.alloc(), &ground, &told));
     match way {
         None => Ok(None),
-        Some(way) => breach_on(g, rows, own, &told, &way),
+        Some(way) => breach_on(g, rows, own, places, &told, &way),
     }
 }
 
@@ -202,41 +232,6 @@ fn entries_of(alloc: Global, places: &Places) -> Result<List<u32>, Memory> {
         have!(entries.push(*entry));
     }
     Ok(entries)
-}
-
-// How many of them are less than p.
-fn count_below(entries: &List<u32>, p: u32) -> usize {
-    let mut count = 0_usize;
-    for entry in entries.items() {
-        if *entry < p {
-            count = count.saturating_add(1);
-        }
-    }
-    count
-}
-
-// A breach, the numbers of the children among which a child may be that breaks V6 earlier, and whether all of these are
-// asked about next, or half of them. Mostly the first breach is the least one, and asking about all before it shows
-// that; in turn with halving few rounds are enough.
-#[derive(Clone, Copy)]
-struct Halving {
-    first: u32,
-    low: usize,
-    high: usize,
-    is_whole: bool,
-}
-
-// The number of the last one that is asked about, and a bound right after it: of all, or of the first half.
-fn last_asked(entries: &List<u32>, halving: Halving) -> (usize, Option<u32>) {
-    let number = if halving.is_whole {
-        halving.high.saturating_sub(1)
-    } else {
-        (halving.low / 2).saturating_add(halving.high / 2)
-    };
-    match entries.get(number) {
-        None => (number, None),
-        Some(entry) => (number, Some(entry.saturating_add(1))),
-    }
 }
 
 // Asks about some of these children, and goes on with what is left.
@@ -258,18 +253,8 @@ fn halve(
     let (number, bound) = last_asked(entries, halving);
     let found = have!(breach_below(g, rows, own, groups, places, bound));
     match found {
-        None => Ok(Halving {
-            first: halving.first,
-            low: number.saturating_add(1),
-            high: halving.high,
-            is_whole: !halving.is_whole,
-        }),
-        Some(q) => Ok(Halving {
-            first: q,
-            low: halving.low,
-            high: count_below(entries, q),
-            is_whole: !halving.is_whole,
-        }),
+        None => Ok(later(halving, number)),
+        Some(q) => Ok(earlier(entries, halving, q)),
     }
 }
 
@@ -289,12 +274,7 @@ fn least_breach(
     ensures { IfOk result (BreaksV6 g.now.code.now) }
 {
     let entries = have!(entries_of(g.code.parts().instrs.alloc(), places));
-    let mut halving = Halving {
-        first: p,
-        low: 0,
-        high: count_below(&entries, p),
-        is_whole: true,
-    };
+    let mut halving = halving_of(&entries, p);
     for _round in 0..64 {
         if halving.low >= halving.high {
             return Ok(halving.first);

@@ -66,8 +66,8 @@ fn put(xs: &mut List<u32>, x: Option<u32>) -> Result<(), Memory>
     Ok(())
 }
 
-// The variables of the operands for the reference formals, the topmost first.
-fn actuals(
+/// The variables of the operands for the reference formals, the topmost first.
+pub(crate) fn actuals(
     alloc: Global,
     stacks: &Stacks,
     stack: u32,

@@ -24,6 +24,14 @@ pub(crate) struct Common {
     pub allowances: List<Allowance>,
 }
 
+/// None.
+pub(crate) fn no_common(alloc: Global) -> Common {
+    Common {
+        numbers: List::new(alloc),
+        allowances: List::new(alloc),
+    }
+}
+
 // Gives the area that begins at m the number of what this one and its own have in common.
 fn put_number(
     alloc: Global,

@@ -2,6 +2,7 @@
 
 ghost use Rattle.std.specs.Prelude.{◌≡◌, ℕ, IfOk, OnOk, length, slice_get};
 ghost use Rattle.sp_verify_effects.specs.PassContexts.{IsPassContext};
+ghost use Rattle.sp_verify_effects.specs.AskedAreas.{AreKnown};
 ghost use Rattle.sp_verify_effects.specs.Edges.{AreEdges};
 ghost use Rattle.sp_verify_effects.specs.Effects.{AddsEffect, AreEffects, AreFound, AreRows, RowsHave, WritesFact};
 ghost use Rattle.sp_verify_effects.specs.Effects.{touches};
@@ -10,7 +11,8 @@ ghost use Rattle.sp_verify_effects.specs.Variables.{AreOwn};
 ghost use Rattle.sp_verify_effects.specs.declared.facts.Effect.{Effect as EffectOf};
 ghost use Rattle.std.specs.Option.{option_copied};
 
-use crate::asked_areas::{Asked, asked_of};
+use crate::asked_areas::{Asked, Known, asked_of};
+use crate::clash::known_clash;
 use crate::closure::facts_of;
 use crate::edges::{Edge, edges_of};
 use crate::facts::{Effect, Fact, Facts};
@@ -162,6 +164,22 @@ pub(crate) fn effects_of(
     })
 }
 
+// What is found to be broken before all effects are known.
+fn known_breaches(
+    g: &PassContext,
+    edges: &List<List<Edge>>,
+    own: &BTreeSet<(u32, u32)>,
+) -> Result<Known, Memory>
+    requires known { IsPassContext g.now }
+    requires edges { AreEdges g.now.code.now edges.now }
+    requires own { AreOwn g.now.code.now own.now.keys }
+    ensures { IfOk result (AreKnown g.now.code.now) }
+{
+    let clash = have!(known_clash(g, edges, own));
+    let side_effect = have!(known_side_effect(g, edges, own));
+    Ok(Known { clash, side_effect })
+}
+
 /// What the code of each block and child does that a rule asks about. The only other answer is want of memory.
 pub fn find_effects(g: &PassContext) -> Result<Effects, Memory>
     requires known { IsPassContext g.now }
@@ -169,8 +187,8 @@ pub fn find_effects(g: &PassContext) -> Result<Effects, Memory>
 {
     let own = have!(own_of(g.code));
     let edges = have!(edges_of(g));
-    let side_effect = have!(known_side_effect(g, &edges, &own));
-    let asked = have!(asked_of(g, &edges, &own, side_effect));
+    let known = have!(known_breaches(g, &edges, &own));
+    let asked = have!(asked_of(g, &edges, &own, known));
     let effects = have!(effects_of(g, asked, &edges, own));
     Ok(effects)
 }

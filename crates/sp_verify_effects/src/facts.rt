@@ -4,7 +4,7 @@ ghost use Rattle.std.specs.Prelude.{◌≡◌, ℕ, ◌<◌, ◌||◌, ◌++◌,
 ghost use Rattle.sp_verify_effects.specs.declared.facts.Effect.{Effect as EffectOf};
 ghost use Rattle.sp_verify_effects.specs.declared.facts.Fact.{Fact as FactOf};
 ghost use Rattle.sp_verify_effects.specs.Facts.{in_sets, index_has, sets_have, same_fact, same_effect, has_fact};
-ghost use Rattle.sp_verify_effects.specs.Facts.{with_fact};
+ghost use Rattle.sp_verify_effects.specs.Facts.{touched, with_fact};
 
 use crate::have;
 use sp_base::{List, Memory};
@@ -22,6 +22,17 @@ pub enum Effect {
     Loads(u32),
     /// It comes to a stop other than a fault.
     Stops,
+}
+
+/// The variable that is stored or loaded.
+pub(crate) fn touched(effect: Effect) -> Option<u32>
+    ensures { result ≡ touched effect }
+{
+    match effect {
+        Effect::Stores(x) => Some(x),
+        Effect::Loads(x) => Some(x),
+        Effect::Stops => None,
+    }
 }
 
 /// What one area does.

@@ -36,7 +36,9 @@
 //!   themselves, `edges.rt` and `closure.rt` how facts go from area to area until nothing is new, `effects.rt` makes a
 //!   table of them, with the variables of blocks (`variables.rt`).
 //! - `ways.rt` finds with no contract how something comes to a child that is not handed it, and `breach.rt` goes that
-//!   way again. So do `outflow.rt` and `side_effects.rt` for a block that answers and stores outside itself.
+//!   way again. So do `clash_ways.rt` and `clash.rt` for a block that does something to a variable which a call passes
+//!   to it, `outflow.rt` and `side_effects.rt` for one that answers and stores outside itself. `trails.rt` has the
+//!   ways, and `halving.rt` which places are asked about next, to find the first breach.
 //! - `child_effects.rt` is V6; `clash.rt` is V7, with `calls.rt` (a call) and `inside.rt` (a block that is called
 //!   inside itself); `side_effects.rt` is V8. `sets.rt` serves them.
 #![tactic(auto)]
@@ -51,12 +53,14 @@ pub mod callers;
 pub mod calls;
 pub mod child_effects;
 pub mod clash;
+pub mod clash_ways;
 pub mod classes;
 pub mod closure;
 pub mod common;
 pub mod edges;
 pub mod effects;
 pub mod facts;
+pub mod halving;
 pub mod inside;
 pub mod linked;
 pub mod outflow;
@@ -66,6 +70,7 @@ pub mod passed;
 pub mod places;
 pub mod sets;
 pub mod side_effects;
+pub mod trails;
 pub mod variables;
 pub mod walks;
 pub mod ways;

@@ -6,6 +6,7 @@
 ghost use Rattle.std.specs.Prelude.{◌<◌, length};
 ghost use Rattle.sp_verify_effects.specs.PassContexts.{IsPassContext};
 
+use crate::acts::is_nowhere;
 use crate::areas::area_at;
 use crate::asked_areas::target;
 use crate::callers::{NONE, no_numbers, number_from, number_of, set_number};
@@ -14,7 +15,8 @@ use crate::facts::{Effect, Fact};
 use crate::have;
 use crate::own::variables_at;
 use crate::pass_context::PassContext;
-use crate::places::{Place, is_stop, stored_place};
+use crate::places::{is_stop, stored_place};
+use crate::trails::{START, Step, Way, trail_to};
 use sp_base::{List, Memory};
 use sp_code::{Instr, Layout};
 use sp_verify_areas::blocks::Blocks;
@@ -23,13 +25,10 @@ use sp_verify_shapes::reach::reached;
 use std::alloc::Global;
 use std::collections::{BTreeMap, BTreeSet};
 
-/// A way from what an area does itself to the block of a layout.
+/// A way from what an area does itself to the block of a layout, and the place of the layout.
 #[derive(Drop)]
 pub(crate) struct Outflow {
-    pub start: Fact,
-    /// Of each step, the number of the edge among those of the area.
-    pub edges: List<u32>,
-    /// The place of the layout.
+    pub way: Way,
     pub place: u32,
 }
 
@@ -42,14 +41,13 @@ struct Levels {
 }
 
 // Of each area, the outermost level on which it does something, the variable that it stores there (no number is a
-// stop), and the edge on which that came to it, with the area from which it leads. Areas that are come to have flags;
-// those whose edges are not followed yet are open.
+// stop), and the step on which that came to it. Areas that are come to have flags; those whose edges are not followed
+// yet are open.
 #[derive(Drop)]
 struct Search {
     levels: List<u32>,
     variables: List<u32>,
-    froms: List<u32>,
-    edges: List<u32>,
+    steps: List<Step>,
     known: List<bool>,
     open: List<u32>,
 }
@@ -135,14 +133,12 @@ fn levels_of(alloc: Global, g: &PassContext) -> Result<Levels, Memory> {
 fn search_of(alloc: Global, count: usize) -> Result<Search, Memory> {
     let levels = have!(no_numbers(alloc, count));
     let variables = have!(no_numbers(alloc, count));
-    let froms = have!(no_numbers(alloc, count));
-    let edges = have!(no_numbers(alloc, count));
+    let steps = List::of(have!(vec![in alloc; START; count]));
     let known = have!(no_flags(alloc, count));
     Ok(Search {
         levels,
         variables,
-        froms,
-        edges,
+        steps,
         known,
         open: List::new(alloc),
     })
@@ -196,10 +192,7 @@ fn note_at(
 
 // Whether an instruction may store something or be a stop.
 fn does_something(instr: Instr) -> bool {
-    match stored_place(instr) {
-        Place::Nowhere => is_stop(instr),
-        _ => true,
-    }
+    is_stop(instr) || !is_nowhere(stored_place(instr))
 }
 
 // The same in whichever area it lies.
@@ -245,20 +238,19 @@ fn goes_along(edge: Edge, home: u32, level: u32) -> bool {
     }
 }
 
+// Sets the step to an area.
+fn set_step(steps: &mut List<Step>, m: usize, step: Step) {
+    if m < steps.len() {
+        let _old = steps.replace(m, step);
+    }
+}
+
 // Something comes to an area along an edge from another one, or is done there.
-fn come(
-    search: &mut Search,
-    m: u32,
-    level: u32,
-    variable: u32,
-    from: u32,
-    edge: u32,
-) -> Result<(), Memory> {
+fn come(search: &mut Search, m: u32, level: u32, variable: u32, step: Step) -> Result<(), Memory> {
     let at = m as usize;
     set_number(&mut search.levels, at, level);
     set_number(&mut search.variables, at, variable);
-    set_number(&mut search.froms, at, from);
-    set_number(&mut search.edges, at, edge);
+    set_step(&mut search.steps, at, step);
     mark(&mut search.known, at);
     have!(search.open.push(m));
     Ok(())
@@ -281,7 +273,8 @@ fn follow(
     for (number, edge) in row.items().iter().enumerate() {
         let to = target(*edge);
         if goes_along(*edge, home, level) && !flag_at(&search.known, to as usize) {
-            have!(come(search, to, level, variable, m, number_from(number)));
+            let edge = number_from(number);
+            have!(come(search, to, level, variable, Step { from: m, edge }));
         }
     }
     Ok(())
@@ -323,7 +316,7 @@ fn spread(
         let (level, m) = *pair;
         if !flag_at(&search.known, m as usize) {
             let variable = number_of(&search.variables, m as usize);
-            have!(come(search, m, level, variable, NONE, NONE));
+            have!(come(search, m, level, variable, START));
             have!(follow_all(rows, levels, search));
         }
     }
@@ -349,20 +342,6 @@ fn first_outward(levels: &Levels, search: &Search, layouts: &[Layout]) -> Option
     first
 }
 
-// The area from which something came to this one, and the numbers of the edges on the way, the last one first.
-fn go_back(search: &Search, back: &mut List<u32>, entry: u32) -> Result<u32, Memory> {
-    let mut at = entry;
-    for _step in 0..search.froms.len() {
-        let from = number_of(&search.froms, at as usize);
-        if from == NONE {
-            return Ok(at);
-        }
-        have!(back.push(number_of(&search.edges, at as usize)));
-        at = from;
-    }
-    Ok(at)
-}
-
 // What an area does on the level that was found, if it does it itself.
 fn effect_at(search: &Search, area: u32) -> Effect {
     let variable = number_of(&search.variables, area as usize);
@@ -374,22 +353,16 @@ fn effect_at(search: &Search, area: u32) -> Effect {
 }
 
 // The way to a block.
-fn way_to(alloc: Global, search: &Search, entry: u32, place: u32) -> Result<Outflow, Memory> {
-    let mut back = List::new(alloc);
-    let area = have!(go_back(search, &mut back, entry));
-    let mut edges = List::new(alloc);
-    for _edge in 0..back.len() {
-        if let Some(edge) = back.pop() {
-            have!(edges.push(edge));
-        }
-    }
-    Ok(Outflow {
-        start: Fact {
-            area,
-            effect: effect_at(search, area),
-        },
+fn way_to(alloc: Global, search: &Search, entry: u32) -> Result<Way, Memory> {
+    let (area, edges) = have!(trail_to(alloc, &search.steps, entry));
+    let effect = effect_at(search, area);
+    Ok(Way {
+        start: Fact { area, effect },
         edges,
-        place,
+        end: Fact {
+            area: entry,
+            effect,
+        },
     })
 }
 
@@ -422,8 +395,8 @@ pub(crate) fn outflow_of(
     match first_outward(&levels, &search, parts.layouts.items()) {
         None => Ok(None),
         Some((entry, place)) => {
-            let way = have!(way_to(alloc, &search, entry, place));
-            Ok(Some(way))
+            let way = have!(way_to(alloc, &search, entry));
+            Ok(Some(Outflow { way, place }))
         }
     }
 }

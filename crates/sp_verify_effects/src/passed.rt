@@ -4,6 +4,7 @@
 ghost use Rattle.sp_verify_effects.specs.PassContexts.{IsPassContext};
 ghost use Rattle.sp_verify_shapes.specs.Stacks.{IsListNumber};
 
+use crate::asked_areas::count_below;
 use crate::have;
 use crate::pass_context::PassContext;
 use crate::variables::owns;
@@ -104,12 +105,13 @@ fn put_operands(
     put(own, passed, l.entry, xs.items())
 }
 
-/// Those of all calls. There are flags of blocks of which the rules ask what they do outside themselves: they are left
-/// out.
+/// Those of all calls below a bound. There are flags of blocks of which the rules ask what they do outside themselves:
+/// they are left out.
 pub(crate) fn passed_of(
     g: &PassContext,
     own: &BTreeSet<(u32, u32)>,
     blocks: &List<bool>,
+    bound: Option<u32>,
 ) -> Result<Passed, Memory>
     requires known { IsPassContext g.now }
 {
@@ -119,7 +121,7 @@ pub(crate) fn passed_of(
         return Ok(passed);
     }
     let mut walks = no_walks(parts.instrs.alloc());
-    for p in 0..parts.instrs.len() {
+    for p in 0..count_below(parts.instrs.len(), bound) {
         if !flag_at(g.repeats, p) {
             have!(put_call(g, own, &mut passed, &mut walks, p as u32));
         }

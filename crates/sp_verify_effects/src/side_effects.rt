@@ -11,8 +11,7 @@ ghost use Rattle.sp_verify_effects.specs.PassContexts.{IsPassContext};
 ghost use Rattle.sp_verify_effects.specs.SideEffects.{has_side_effects, is_side_effect};
 ghost use Rattle.sp_verify_effects.specs.Variables.{AreOwn};
 
-use crate::asked_areas::area_alone;
-use crate::breach::{told_of, walk};
+use crate::breach::end_of;
 use crate::edges::Edge;
 use crate::effects::{EffectRow, Effects};
 use crate::facts::{Effect, Fact};
@@ -80,22 +79,17 @@ fn side_effect_on(
     g: &PassContext,
     rows: &List<List<Edge>>,
     own: &BTreeSet<(u32, u32)>,
-    way: &Outflow,
+    outflow: &Outflow,
 ) -> Result<Option<u32>, Memory>
     requires known { IsPassContext g.now }
     requires edges { AreEdges g.now.code.now rows.now }
     requires own { AreOwn g.now.code.now own.now.keys }
     ensures { IfOk result (λ o. (p : ℕ) → o ≡ Some p → BreaksV8 g.now.code.now p) }
 {
-    let instrs = &g.code.parts().instrs;
-    let asked = have!(area_alone(instrs.alloc(), instrs.len(), way.start.area));
-    let told = have!(told_of(g, &asked));
-    if !told.has(way.start) {
-        return Ok(None);
-    }
-    match walk(g, rows, own, way.start, way.edges.items()) {
+    let end = have!(end_of(g, rows, own, &outflow.way));
+    match end {
         None => Ok(None),
-        Some(fact) => Ok(side_effect_of(g, own, way.place, fact)),
+        Some(fact) => Ok(side_effect_of(g, own, outflow.place, fact)),
     }
 }
 
@@ -110,10 +104,10 @@ pub(crate) fn known_side_effect(
     requires own { AreOwn g.now.code.now own.now.keys }
     ensures { IfOk result (λ o. (p : ℕ) → o ≡ Some p → BreaksV8 g.now.code.now p) }
 {
-    let way = have!(outflow_of(g, rows));
-    match way {
+    let found = have!(outflow_of(g, rows));
+    match found {
         None => Ok(None),
-        Some(way) => side_effect_on(g, rows, own, &way),
+        Some(outflow) => side_effect_on(g, rows, own, &outflow),
     }
 }
 
@@ -128,5 +122,5 @@ pub fn first_side_effect(g: &PassContext, effects: &Effects) -> Option<u32>
     for l in g.code.parts().layouts.items() {
         first = least(first, place_if(has_side_effects(effects, l), l.entry));
     }
-    least(first, effects.asked.side_effect)
+    least(first, effects.asked.known.side_effect)
 }

@@ -1,14 +1,16 @@
-//! Finds a way on which something comes to a child that is not handed it. It starts from what areas do themselves that
-//! the allowances of rule V6 do not have, and goes along the edges. Nothing here has a contract: `breach.rt` goes the
-//! way again.
+//! Finds a way on which something comes to a child that is not handed it, or to a block to which a call passes the
+//! variable. It starts from what areas do themselves that the allowances do not have, and goes along the edges. Nothing
+//! here has a contract: `breach.rt` and `clash.rt` go the way again.
 
 use crate::areas::child_at;
 use crate::asked_areas::{Asked, is_below};
 use crate::callers::{NONE, number_from};
 use crate::closure::{fact_along, is_index, is_own};
 use crate::edges::Edge;
-use crate::facts::{Effect, Fact, Facts};
+use crate::facts::{Effect, Fact, Facts, touched};
 use crate::have;
+use crate::passed::Passed;
+use crate::trails::{START, Step, Way, trail_to};
 use sp_base::{List, Memory};
 use sp_code::{ChildTable, ForkTable};
 use std::alloc::Global;
@@ -23,45 +25,29 @@ const STEPS_OF_A_FACT: usize = 8;
 /// The places of children in their tables, by first instructions.
 pub(crate) type Places = BTreeMap<u32, (u32, u32)>;
 
-/// A way from what an area does itself to a child.
-#[derive(Drop)]
-pub(crate) struct Way {
-    pub start: Fact,
-    /// Of each step, the number of the edge among those of the area.
-    pub edges: List<u32>,
-    /// The number of the table, and that of the child in it.
-    pub end: (u32, u32),
-}
-
-/// What a search goes by: edges, the variables of blocks, fork tables, the places of children, what is asked about
-/// which areas, and the bound below which the child begins, if there is one.
+/// What a search goes by: edges, the variables of blocks, fork tables, the places of children that end it, the
+/// variables that are passed to blocks and end it there, what is asked about which areas, and the bound below which the
+/// child begins, if there is one.
 #[derive(Clone, Copy)]
 pub(crate) struct Ground<'a> {
     pub rows: &'a List<List<Edge>>,
     pub own: &'a BTreeSet<(u32, u32)>,
     pub forks: &'a List<ForkTable>,
     pub places: &'a Places,
+    pub passed: &'a Passed,
     pub asked: &'a Asked,
     pub bound: Option<u32>,
 }
 
-// The fact before another one, by its number, and the edge between them.
-#[derive(Clone, Copy)]
-struct Step {
-    from: u32,
-    edge: u32,
-}
-
-// A fact at a child that is not handed it: its number, the first instruction and the place of the child.
+// A fact that ends the search, and its number.
 #[derive(Clone, Copy)]
 struct End {
     number: u32,
-    entry: u32,
-    place: (u32, u32),
+    fact: Fact,
 }
 
 // The facts that were come to, the step to each one, the numbers of those that are not followed yet, the steps that are
-// left, and the end with the least first instruction.
+// left, and the end in the area with the least first instruction.
 #[derive(Drop)]
 struct Search {
     facts: Facts,
@@ -78,9 +64,22 @@ fn place_children(places: &mut Places, t: usize, children: &[ChildTable]) -> Res
     Ok(())
 }
 
+/// The places of no children.
+pub(crate) fn no_places(alloc: Global) -> Places {
+    BTreeMap::new(alloc)
+}
+
+/// The place of the child that begins there; no place, if there is none.
+pub(crate) fn place_of(places: &Places, entry: u32) -> (u32, u32) {
+    match places.get(&entry) {
+        None => (NONE, NONE),
+        Some(place) => *place,
+    }
+}
+
 /// The places of all children.
 pub(crate) fn places_of(alloc: Global, forks: &[ForkTable]) -> Result<Places, Memory> {
-    let mut places = BTreeMap::new(alloc);
+    let mut places = no_places(alloc);
     for (t, table) in forks.iter().enumerate() {
         have!(place_children(&mut places, t, table.children.items()));
     }
@@ -139,53 +138,42 @@ fn is_beyond(child: &ChildTable, effect: Effect) -> bool {
     }
 }
 
-// The place of the child of a fact, if there is one that is not handed it.
-fn end_of(ground: &Ground, search: &mut Search, fact: Fact) -> Option<(u32, u32)> {
+// Whether a fact is at a child that is not handed it.
+fn ends_at_child(ground: &Ground, search: &mut Search, fact: Fact) -> bool {
     if !is_below(ground.bound, fact.area) {
-        return None;
+        return false;
     }
-    let place = match ground.places.get(&fact.area) {
-        None => return None,
-        Some(place) => *place,
-    };
-    match child_at(ground.forks, place.0, place.1) {
-        None => None,
+    let (t, k) = place_of(ground.places, fact.area);
+    match child_at(ground.forks, t, k) {
+        None => false,
         Some(child) => {
             take(search, child.moved.len());
             take(search, child.shared.len());
-            if is_beyond(child, fact.effect) {
-                Some(place)
-            } else {
-                None
-            }
+            is_beyond(child, fact.effect)
         }
+    }
+}
+
+// Whether it is at a block to which the variable is passed.
+fn ends_at_block(ground: &Ground, fact: Fact) -> bool {
+    match ground.passed.get(&fact.area) {
+        None => false,
+        Some(set) => match touched(fact.effect) {
+            None => false,
+            Some(x) => set.contains(&x),
+        },
     }
 }
 
 // The way to an end.
 fn way_to(alloc: Global, search: &Search, end: End) -> Result<Option<Way>, Memory> {
-    let mut back = List::new(alloc);
-    let mut at = end.number;
-    for _step in 0..search.steps.len() {
-        if let Some(step) = search.steps.get(at as usize) {
-            if step.from != NONE {
-                have!(back.push(step.edge));
-                at = step.from;
-            }
-        }
-    }
-    let mut edges = List::new(alloc);
-    for _edge in 0..back.len() {
-        if let Some(edge) = back.pop() {
-            have!(edges.push(edge));
-        }
-    }
-    match search.facts.at(at as usize) {
+    let (first, edges) = have!(trail_to(alloc, &search.steps, end.number));
+    match search.facts.at(first as usize) {
         None => Ok(None),
         Some(start) => Ok(Some(Way {
             start,
             edges,
-            end: end.place,
+            end: end.fact,
         })),
     }
 }
@@ -194,7 +182,7 @@ fn way_to(alloc: Global, search: &Search, end: End) -> Result<Option<Way>, Memor
 fn note(search: &mut Search, end: End) {
     let is_less = match search.least {
         None => true,
-        Some(least) => end.entry < least.entry,
+        Some(least) => end.fact.area < least.fact.area,
     };
     if is_less {
         search.least = Some(end);
@@ -207,20 +195,11 @@ fn follow(ground: &Ground, search: &mut Search, number: u32) -> Result<(), Memor
         None => return Ok(()),
         Some(fact) => fact,
     };
-    match end_of(ground, search, fact) {
-        None => go_on(ground, search, number, fact),
-        Some(place) => {
-            let entry = fact.area;
-            note(
-                search,
-                End {
-                    number,
-                    entry,
-                    place,
-                },
-            );
-            Ok(())
-        }
+    if ends_at_child(ground, search, fact) || ends_at_block(ground, fact) {
+        note(search, End { number, fact });
+        Ok(())
+    } else {
+        go_on(ground, search, number, fact)
     }
 }
 
@@ -239,8 +218,8 @@ fn follow_all(ground: &Ground, search: &mut Search) -> Result<(), Memory> {
     Ok(())
 }
 
-/// A way from one of these facts to a child that is not handed what comes to it, if there is one that is found in so
-/// many steps: the least such child for the first fact that comes to one.
+/// A way from one of these facts to an end, if there is one that is found in so many steps: to the area that begins
+/// first, for the first fact that comes to one.
 pub(crate) fn way_from(
     alloc: Global,
     ground: &Ground,
@@ -253,13 +232,9 @@ pub(crate) fn way_from(
         left: MOST_STEPS,
         least: None,
     };
-    let none = Step {
-        from: NONE,
-        edge: NONE,
-    };
     for k in 0..told.len() {
         if let Some(start) = told.at(k) {
-            have!(come_once(ground, &mut search, start, none));
+            have!(come_once(ground, &mut search, start, START));
         }
         have!(follow_all(ground, &mut search));
         if let Some(end) = search.least {

@@ -1,5 +1,7 @@
-use Rattle.std.proofs.Common.{List, subst, sym, ◌∙◌}
+use Rattle.std.proofs.Common.{List, subst, sym}
+use Rattle.sp_verify_effects.specs.declared.asked_areas.Known.{Known}
 use Rattle.sp_verify_effects.specs.declared.edges.Edge.{Edge}
+use Rattle.sp_verify_effects.specs.AskedAreas.{AreKnown}
 use Rattle.sp_verify_effects.specs.FactClosure.{FollowsEdges}
 use Rattle.sp_verify_effects.proofs.AreaQueries.{all_asks, all_follow}
 use Rattle.sp_verify_effects.proofs.asked_areas.asked_of.Goals as goal
@@ -11,10 +13,12 @@ returns-then-follows_edges-clause-follows c =
 
 pub returns-clause-asks : goal.returns-clause-asks
 returns-clause-asks c =
-    all_asks c.args.g.now.code.now c.every_area.result c.every_area.ensures.all c.every_area.ensures.none
+    let every = c.every_area.ensures in
+    all_asks c.args.g.now.code.now c.every_area.result every.all every.clash every.side_effect
 
 pub returns-clause-follows : goal.returns-clause-follows
 returns-clause-follows c = all_follow c.args.rows.now c.every_area.result c.every_area.ensures.all
 
-pub asks-requires-clause-side_effect : goal.asks-requires-clause-side_effect
-asks-requires-clause-side_effect c = λ p e. c.requires.side_effect p (sym c.in-Ok.ensures ∙ e)
+pub asks-requires-clause-broken : goal.asks-requires-clause-broken
+asks-requires-clause-broken c = subst (λ (z : Known). AreKnown c.args.g.now.code.now z) (sym c.in-Ok.ensures)
+    c.requires.broken

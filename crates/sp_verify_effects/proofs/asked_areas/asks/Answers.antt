@@ -17,5 +17,5 @@ returns-then-calls c = λ t.
           (c.in-Ok-asks_layouts.ensures c.if-layouts.true);
       calls = c.in-Ok-asks_calls.ensures c.if-calls.true;
       inside = c.asks_inside.ensures t;
-      side_effect = c.requires.side_effect;
+      known = c.requires.broken;
     }

@@ -1,4 +1,4 @@
-use Rattle.std.proofs.Common.{◌≡◌, ◌∙◌, length, ap, arith}
+use Rattle.std.proofs.Common.{◌≡◌, ◌<◌, ◌∙◌, length, ap, arith}
 use Rattle.sp_code.specs.declared.code.Parts.{Parts}
 use Rattle.sp_verify_areas.specs.Alone.{flag_at}
 use Rattle.sp_verify_shapes.proofs.CallRepeats.{none_more, not_here}
@@ -39,7 +39,11 @@ pub returns : goal.returns
 returns c = λ t.
     let g = c.args.g.now in
     let code = g.code.now in
-    let m : c.len-count.result ≡ length code.instrs = c.len-count.ensures
+    let m : c.len.result ≡ length code.instrs = c.len.ensures
     ∙ ap (λ (z : Parts). length z.instrs) c.parts.ensures.same in
     calls_asked code c.requires.known.kept g.shapes.now c.requires.known.shapes c.args.asked.now c.args.own.now.keys
-    c.requires.own c.loop-p.p (let e = c.loop-p.auto.p-end in omega (arith, m, e)) c.loop-p.invariant.1
+    c.requires.own c.loop-p.p
+    (λ q within below.
+    let end : q < c.count_below-count.result = c.count_below-count.ensures.all q (omega (arith, m, within)) below in
+    omega (arith, end))
+    c.loop-p.invariant.1
