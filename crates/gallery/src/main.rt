@@ -28,7 +28,7 @@ use std::io;
 use table::make_table;
 
 // The files of rows.
-const ROWS: [&str; 11] = [
+static ROWS: [&str; 11] = [
     "rows/words.txt",
     "rows/refusals.txt",
     "rows/texts.txt",
@@ -45,7 +45,7 @@ const ROWS: [&str; 11] = [
 /// Writes a line for each run of the table, and for each file of rows.
 fn main(rt: HostRuntime) -> io::Result<()> {
     make_table(&rt, &rt, "table.txt")?;
-    for name in ROWS {
+    for name in ROWS.as_slice() {
         make_rows(&rt, &rt, name)?;
     }
     Ok(())

@@ -1,8 +1,9 @@
 //! The calls of a file of rows.
 
-use crate::call::{AS_EXPECTED, Expected, call};
+use crate::call::{AS_EXPECTED, Expected, NO_MEMORY, call};
 use crate::row::{Row, bytes_of};
-use std::alloc::{AllocError, Global};
+use sp_base::Writer;
+use std::alloc::Global;
 use std::sync::Wait;
 use std::thread::Threads;
 use std::{fs, io};
@@ -13,18 +14,17 @@ pub fn make_rows<R: Threads + Wait + Sync>(
     threads: &R,
     name: &str,
 ) -> io::Result<()> {
-    let alloc = rt.alloc();
     let rows = fs::read_to_string(rt, name)?;
-    let mut row = Row::new(alloc);
-    let mut written = Vec::new(alloc);
+    let mut row = Row::new(rt.alloc());
+    let mut written = Writer::new(rt.alloc());
     let mut good = 0u32;
     for line in rows.lines() {
         let (word, rest) = line.split_once(' ').unwrap_or((line, ""));
         if word == "keep" {
-            row.journal = Vec::from_slice(alloc, written.as_slice())?;
+            row.keep(written.items.as_slice());
         } else if word == "notes" {
             for words in row.calls.split(';') {
-                let found = make_call(alloc, threads, &row, words, rest, &mut written)?;
+                let found = make_call(rt.alloc(), threads, &row, words, rest, &mut written);
                 if found == AS_EXPECTED {
                     good = good.saturating_add(1);
                 } else {
@@ -32,7 +32,7 @@ pub fn make_rows<R: Threads + Wait + Sync>(
                 }
             }
         } else {
-            row.set(alloc, word, rest)?;
+            row.set(word, rest);
         }
     }
     println!(rt; "{name}: {good} calls as expected")?;
@@ -46,32 +46,29 @@ fn make_call<R: Threads + Wait + Sync>(
     row: &Row,
     words: &str,
     notes: &str,
-    written: &mut Vec<u8>,
-) -> Result<&'static str, AllocError> {
-    let notes = bytes_of(alloc, notes)?;
-    let mut library = row.library(alloc)?;
-    let input = Vec::from_slice(alloc, row.input.as_slice())?;
-    let all = words_of(alloc, words)?;
-    let given = call(alloc, threads, all.as_slice(), &mut library, input)?;
-    let output = match &row.output {
-        Some(output) => Some(output.as_slice()),
-        None => None,
+    written: &mut Writer<u8>,
+) -> &'static str {
+    let Ok(mut library) = row.library() else {
+        return NO_MEMORY;
     };
+    let Ok(input) = row.input() else {
+        return NO_MEMORY;
+    };
+    let Ok(given) = call(alloc, threads, words, "", &mut library, input) else {
+        return NO_MEMORY;
+    };
+    written.items.clear();
+    written.extend(given.output.bytes());
+    let output = bytes_of(alloc, row.output.as_str());
+    let notes = bytes_of(alloc, notes);
+    if written.is_lost || output.is_lost || notes.is_lost {
+        return NO_MEMORY;
+    }
     let expected = Expected {
         status: row.status.as_str(),
-        output,
-        notes: notes.as_slice(),
+        output: output.items.as_slice(),
+        is_any: row.output.as_str() == "*",
+        notes: notes.items.as_slice(),
     };
-    let command = words.split_whitespace().next().unwrap_or("");
-    written.clear();
-    written.extend_from_slice(given.output.as_slice())?;
-    Ok(given.beside(command, &expected))
-}
-
-fn words_of(alloc: Global, words: &str) -> Result<Vec<String>, AllocError> {
-    let mut all = Vec::new(alloc);
-    for word in words.split_whitespace() {
-        all.push(String::from_str(alloc, word)?)?;
-    }
-    Ok(all)
+    given.beside(words, &expected)
 }

@@ -1,15 +1,17 @@
 //! The runs of a table: a name, a status and words on each line, with input, output and notes in files of that name.
 
-use crate::call::{Expected, call};
+use crate::call::{Expected, NO_MEMORY, call};
 use sp_outside::FileLibrary;
-use std::alloc::{AllocError, Global};
 use std::io::ErrorKind;
 use std::sync::Wait;
 use std::thread::Threads;
 use std::{fs, io};
 
 // A run of which the table names no number of workers is made with each of these.
-const WORKERS: [&str; 3] = ["--workers=1", "--workers=2", "--workers=8"];
+static WORKERS: [&str; 3] = [" --workers=1", " --workers=2", " --workers=8"];
+
+// Any other line is made as it is written.
+static AS_WRITTEN: [&str; 1] = [""];
 
 /// Writes a line for each run of the table.
 pub fn make_table<R: Threads + Wait + Sync>(
@@ -32,32 +34,26 @@ fn make_runs<R: Threads + Wait + Sync>(
     threads: &R,
     line: &str,
 ) -> io::Result<()> {
-    let alloc = rt.alloc();
-    let parts: Vec<&str> = line.split_whitespace().collect(alloc)?;
-    let [name, status, words @ ..] = parts.as_slice() else {
-        return Ok(());
+    let (name, rest) = split_word(line);
+    let (status, words) = split_word(rest);
+    let all_workers = if words.starts_with("run ") && !words.contains("--workers") {
+        WORKERS.as_slice()
+    } else {
+        AS_WRITTEN.as_slice()
     };
-    if words.first() != Some(&"run") || words.contains(&"--workers") {
-        let words = words_of(alloc, words)?;
-        let found = make_run(rt, threads, name, status, words.as_slice())?;
-        println!(rt; "{name}: {found}")?;
-        return Ok(());
-    }
-    for workers in WORKERS {
-        let mut words = words_of(alloc, words)?;
-        words.push(String::from_str(alloc, workers)?)?;
-        let found = make_run(rt, threads, name, status, words.as_slice())?;
-        println!(rt; "{name} {workers}: {found}")?;
+    for workers in all_workers {
+        let found = make_run(rt, threads, name, status, words, workers)?;
+        println!(rt; "{name}{workers}: {found}")?;
     }
     Ok(())
 }
 
-fn words_of(alloc: Global, words: &[&str]) -> Result<Vec<String>, AllocError> {
-    let mut all = Vec::new(alloc);
-    for word in words {
-        all.push(String::from_str(alloc, word)?)?;
+// The first word of a line, and what stands behind the blanks after it.
+fn split_word(line: &str) -> (&str, &str) {
+    match line.split_once(' ') {
+        Some((word, rest)) => (word, rest.trim_start()),
+        None => (line, ""),
     }
-    Ok(all)
 }
 
 // Makes a run and says what is not as expected.
@@ -66,23 +62,23 @@ fn make_run<R: Threads + Wait + Sync>(
     threads: &R,
     name: &str,
     status: &str,
-    words: &[String],
+    words: &str,
+    workers: &str,
 ) -> io::Result<&'static str> {
     let mut library = FileLibrary::new(rt);
     let input = held(rt, name, "in")?;
     let output = held(rt, name, "out")?;
     let notes = held(rt, name, "notes")?;
-    let given = call(rt.alloc(), threads, words, &mut library, input)?;
     let expected = Expected {
         status,
-        output: Some(output.as_slice()),
+        output: output.as_slice(),
+        is_any: false,
         notes: notes.as_slice(),
     };
-    let command = match words.first() {
-        Some(word) => word.as_str(),
-        None => "",
-    };
-    Ok(given.beside(command, &expected))
+    match call(rt.alloc(), threads, words, workers, &mut library, input) {
+        Ok(given) => Ok(given.beside(words, &expected)),
+        Err(_) => Ok(NO_MEMORY),
+    }
 }
 
 // The bytes of a file; none where it is not there.
