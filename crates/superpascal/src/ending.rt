@@ -9,20 +9,14 @@ use sp_codefile::VRule;
 use sp_execute::{Ran, ReplayError};
 use sp_kernel::Closed;
 
-/// What a call gives; where memory is refused to it, the function around ends so, with `failure` where its error is of
-/// another type. One match, where `?` is two generic calls, which cost the proof more.
+/// What a call gives that can only be refused memory; where it is, the function around ends so. One match, where `?` is
+/// two generic calls, which cost the proof more.
 #[macro_export]
 macro_rules! have {
     ($call:expr) => {
         match $call {
             Ok(value) => value,
-            Err(_) => return Err(Memory),
-        }
-    };
-    ($call:expr, $failure:expr) => {
-        match $call {
-            Ok(value) => value,
-            Err(_) => return Err($failure),
+            Err(_) => return Err(Ending::OutOfMemory),
         }
     };
 }

@@ -44,8 +44,12 @@ fn run_file<R: Threads + Wait + Sync, G: Gate>(
     verified_code_is_sound();
     accepted_programs_are_ready();
     a_text_is_of_one_code();
-    let code = have!(Arc::new(host.alloc, code));
-    let input = have!(Arc::new(host.alloc, input));
+    let Ok(code) = Arc::new(host.alloc, code) else {
+        return Err(Memory);
+    };
+    let Ok(input) = Arc::new(host.alloc, input) else {
+        return Err(Memory);
+    };
     run_code_file(host.rt, host.alloc, code, input, workers, limits, host.gate)
 }
 
@@ -54,7 +58,7 @@ fn tell_execution(alloc: Global, closed: Closed) -> Result<Answer, Ending>
     requires { HasLines closed.end }
     ensures { TellsExecution closed result }
 {
-    let notes = have!(end_lines(alloc, closed.end()), Ending::OutOfMemory);
+    let notes = have!(end_lines(alloc, closed.end()));
     Ok(Answer {
         ending: ending_of(closed.end()),
         ran: None,
@@ -79,9 +83,6 @@ pub(crate) fn exec_file<R: Threads + Wait + Sync, L: Library, I: Source, G: Gate
 {
     let code = prepare_file(host.alloc, library, &asked.file)?;
     let input = read_input(host.alloc, input)?;
-    let closed = have!(
-        run_file(host, code, input, asked.workers, &asked.limits),
-        Ending::OutOfMemory
-    );
+    let closed = have!(run_file(host, code, input, asked.workers, &asked.limits));
     tell_execution(host.alloc, closed)
 }

@@ -1,19 +1,19 @@
 //! What is told of a run and of a replay: their ends, notes and outputs.
 
 ghost use Rattle.std.specs.Prelude.{◌≡◌, ◌++◌, IfOk, codes};
+ghost use Rattle.sp_base.specs.Adds.{Adds};
 ghost use Rattle.sp_execute.specs.Witnesses.{IsReadyRun};
-ghost use Rattle.sp_print.specs.OutcomeLines.{HasLines};
+ghost use Rattle.sp_print.specs.OutcomeLines.{HasLines, end_text};
 ghost use Rattle.sp_report.specs.WatcherReports.{AreFresh, reports};
 ghost use Rattle.superpascal.specs.AnswerParts.{HasEndLines, IsTellable, lines_of_replay};
 ghost use Rattle.superpascal.specs.Replays.{ending_of_replay};
 ghost use Rattle.superpascal.specs.Runs.{end_lines, ending_of, generated_output, is_journal, run_notes, witness_text};
 
 use crate::ending::Ending;
-use crate::have;
 use sp_base::{Memory, Show, Writer};
 use sp_execute::{Ran, witness};
 use sp_journal::{End, print_journal};
-use sp_print::verdict_line;
+use sp_print::{end_lines, verdict_line};
 use sp_report::{Watcher, tell};
 use std::alloc::Global;
 
@@ -35,34 +35,47 @@ fn is_journal(show: Show) -> bool
     matches!(show, Show::Journal)
 }
 
-/// The lines of the end and of the verdict.
-pub(crate) fn end_lines(alloc: Global, ran: &Ran) -> Result<Vec<u8>, Memory>
-    requires { HasLines ran.now.closed.end }
-    ensures { IfOk result (λ text. text.items ≡ end_lines ran.now) }
+// Puts the lines of an end.
+fn put_end(out: &mut Writer<u8>, alloc: Global, end: &End)
+    requires { HasLines end.now }
+    ensures { Adds out.old out.new (end_text end.now) }
 {
-    let end = have!(sp_print::end_lines(alloc, ran.closed.end()));
-    let verdict = have!(verdict_line(alloc, &ran.verdict));
-    let mut out = Writer::behind(end);
-    out.extend(verdict.as_slice());
-    out.finish()
+    match end_lines(alloc, end) {
+        Ok(lines) => out.extend(lines.as_slice()),
+        Err(_) => out.lose(),
+    }
 }
 
-// The end, the verdict and the chosen reports.
-fn told_notes(
+/// Puts the lines of the end and of the verdict.
+pub(crate) fn put_end_lines(out: &mut Writer<u8>, alloc: Global, ran: &Ran)
+    requires { HasLines ran.now.closed.end }
+    ensures { Adds out.old out.new (end_lines ran.now) }
+{
+    put_end(out, alloc, ran.closed.end());
+    match verdict_line(alloc, &ran.verdict) {
+        Ok(line) => out.extend(line.as_slice()),
+        Err(_) => out.lose(),
+    }
+}
+
+// Puts the end, the verdict and the chosen reports.
+fn put_told(
+    out: &mut Writer<u8>,
     alloc: Global,
     watchers: Vec<Box<dyn Watcher>>,
     show: Show,
     ran: &Ran,
-) -> Result<Vec<u8>, Memory>
+)
     requires fresh { AreFresh told watchers.items }
     requires tellable { IsTellable ran.now }
-    ensures { IfOk result (λ notes. notes.items
-        ≡ end_lines ran.now ++ reports text title watchers.items show ran.now.closed.journal.entries) }
+    ensures { Adds out.old out.new
+        (end_lines ran.now ++ reports text title watchers.items show ran.now.closed.journal.entries) }
 {
-    let mut notes = have!(end_lines(alloc, ran));
-    let reports = have!(tell(alloc, watchers, ran.closed.journal(), show));
-    have!(notes.extend_from_slice(reports.as_slice()));
-    Ok(notes)
+    put_end_lines(out, alloc, ran);
+    match tell(alloc, watchers, ran.closed.journal(), show) {
+        Ok(reports) => out.extend(reports.as_slice()),
+        Err(_) => out.lose(),
+    }
 }
 
 /// The notes of `run`: the journal, or the end, the verdict and the chosen reports.
@@ -80,7 +93,9 @@ pub(crate) fn run_notes(
     if is_journal(show) {
         return print_journal(alloc, ran.closed.journal());
     }
-    told_notes(alloc, watchers, show, ran)
+    let mut out = Writer::new(alloc);
+    put_told(&mut out, alloc, watchers, show, ran);
+    out.finish()
 }
 
 /// The text of the witness of the run's race; where there is no race, nothing.
@@ -88,9 +103,10 @@ pub(crate) fn witness_text(alloc: Global, ran: &Ran) -> Result<Vec<u8>, Memory>
     requires { IsReadyRun ran.now }
     ensures { IfOk result (λ text. text.items ≡ witness_text ran.now) }
 {
-    match have!(witness(alloc, ran)) {
-        Some(journal) => print_journal(alloc, &journal),
-        None => Ok(Vec::new(alloc)),
+    match witness(alloc, ran) {
+        Ok(Some(journal)) => print_journal(alloc, &journal),
+        Ok(None) => Ok(Vec::new(alloc)),
+        Err(_) => Err(Memory),
     }
 }
 
@@ -99,7 +115,6 @@ pub(crate) fn generated_output(alloc: Global, size: u32, ran: &Ran) -> Result<Ve
     requires { IsTellable ran.now }
     ensures { IfOk result (λ text. text.items ≡ generated_output size ran.now) }
 {
-    let lines = have!(end_lines(alloc, ran));
     let mut out = Writer::new(alloc);
     out.extend(b"size ");
     out.decimal(size as u64);
@@ -108,7 +123,7 @@ pub(crate) fn generated_output(alloc: Global, size: u32, ran: &Ran) -> Result<Ve
     out.extend(b"\nentries ");
     out.decimal(ran.closed.journal().entries.len() as u64);
     out.extend(b"\n");
-    out.extend(lines.as_slice());
+    put_end_lines(&mut out, alloc, ran);
     out.finish()
 }
 
@@ -122,14 +137,14 @@ pub(crate) fn ending_of_replay(end: &Option<End>) -> Ending
     }
 }
 
-// The lines of the end, or that there is none.
-fn lines_of_replay(alloc: Global, end: &Option<End>) -> Result<Vec<u8>, Memory>
+// Puts the lines of the end, or that there is none.
+fn put_last(out: &mut Writer<u8>, alloc: Global, end: &Option<End>)
     requires { HasEndLines end.now }
-    ensures { IfOk result (λ text. text.items ≡ lines_of_replay end.now) }
+    ensures { Adds out.old out.new (lines_of_replay end.now) }
 {
     match end {
-        None => Ok(have!(Vec::from_slice(alloc, b"no end\n"))),
-        Some(end) => sp_print::end_lines(alloc, end),
+        None => out.extend(b"no end\n"),
+        Some(end) => put_end(out, alloc, end),
     }
 }
 
@@ -138,9 +153,8 @@ pub(crate) fn replay_notes(alloc: Global, end: &Option<End>) -> Result<Vec<u8>, 
     requires { HasEndLines end.now }
     ensures { IfOk result (λ text. text.items ≡ codes "replayed\n" ++ lines_of_replay end.now) }
 {
-    let lines = have!(lines_of_replay(alloc, end));
     let mut out = Writer::new(alloc);
     out.extend(b"replayed\n");
-    out.extend(lines.as_slice());
+    put_last(&mut out, alloc, end);
     out.finish()
 }

@@ -97,10 +97,7 @@ fn entries(
         state,
     } = traced;
     drop(state);
-    let text = have!(
-        trace_text(alloc, symbols, journal, told.items()),
-        Ending::OutOfMemory
-    );
+    let text = have!(trace_text(alloc, symbols, journal, told.items()));
     Ok(Account {
         end: replayed.end,
         text: Text::of(text),
@@ -123,12 +120,9 @@ fn state(
         → HasSymbols program tree symbols.now
         → AccountsFor view.State program input.value limits.now journal.now result }
 {
-    let lent = have!(Arc::try_clone(&code), Ending::OutOfMemory);
+    let lent = have!(Arc::try_clone(&code));
     let traced = trace_code(alloc, lent, input, limits, journal)?;
-    let text = have!(
-        where_text(alloc, symbols, &code, journal, &traced),
-        Ending::OutOfMemory
-    );
+    let text = have!(where_text(alloc, symbols, &code, journal, &traced));
     Ok(Account {
         end: traced.replayed.end,
         text: Text::of(text),
@@ -149,8 +143,8 @@ fn account(
     ensures { (program : List ℕ) (tree : Checked) (view : AView) → HasCode program tree ready.code
         → HasTeller program tree view ready.teller → AccountsFor view program input limits.now journal.now result }
 {
-    let code = have!(Arc::new(alloc, ready.code), Ending::OutOfMemory);
-    let input = have!(Arc::new(alloc, input), Ending::OutOfMemory);
+    let code = have!(Arc::new(alloc, ready.code));
+    let input = have!(Arc::new(alloc, input));
     match &ready.teller {
         Teller::Output => output(alloc, code, input, limits, journal),
         Teller::Entries(symbols) => entries(alloc, code, symbols, input, limits, journal),
@@ -163,7 +157,7 @@ fn tell_replay(alloc: Global, account: Account) -> Result<Answer, Ending>
     requires lines { HasEndLines account.end }
     ensures { TellsReplay account result }
 {
-    let notes = have!(replay_notes(alloc, &account.end), Ending::OutOfMemory);
+    let notes = have!(replay_notes(alloc, &account.end));
     Ok(Answer {
         ending: ending_of_replay(&account.end),
         ran: None,

@@ -15,9 +15,9 @@ ghost use Rattle.superpascal.specs.Steps.{AnswersCommand, ReportsGenerated, Repo
 use crate::ending::{Answer, Ending};
 use crate::have;
 use crate::host::Host;
-use crate::notes::{end_lines, ending_of, generated_output, run_notes, witness_text};
+use crate::notes::{ending_of, generated_output, put_end_lines, run_notes, witness_text};
 use crate::prepare::compile;
-use sp_base::{Limits, Memory, Show, Text};
+use sp_base::{Limits, Memory, Show, Text, Writer};
 use sp_code::Code;
 use sp_execute::{Ran, accepted_programs_are_ready, races_are_shown, run_program};
 use sp_gen::generated;
@@ -44,8 +44,12 @@ pub(crate) fn run_prepared<R: Threads + Wait + Sync, G: Gate>(
 {
     accepted_programs_are_ready();
     races_are_shown();
-    let code = have!(Arc::new(host.alloc, code));
-    let input = have!(Arc::new(host.alloc, input));
+    let Ok(code) = Arc::new(host.alloc, code) else {
+        return Err(Memory);
+    };
+    let Ok(input) = Arc::new(host.alloc, input) else {
+        return Err(Memory);
+    };
     run_program(host.rt, host.alloc, code, input, workers, limits, host.gate)
 }
 
@@ -60,7 +64,7 @@ fn reported(
     requires run { IsReadyRun ran }
     ensures { ReportsRun (reports text title watchers.items) (Reports show) ran result }
 {
-    let notes = have!(run_notes(alloc, watchers, show, &ran), Ending::OutOfMemory);
+    let notes = have!(run_notes(alloc, watchers, show, &ran));
     Ok(Answer {
         ending: ending_of(ran.closed.end()),
         ran: Some(ran),
@@ -75,8 +79,10 @@ fn witnessed(alloc: Global, ran: Ran) -> Result<Answer, Ending>
     requires run { IsReadyRun ran }
     ensures { (made : AReports) → ReportsRun made Witness ran result }
 {
-    let output = have!(witness_text(alloc, &ran), Ending::OutOfMemory);
-    let notes = have!(end_lines(alloc, &ran), Ending::OutOfMemory);
+    let output = have!(witness_text(alloc, &ran));
+    let mut notes = Writer::new(alloc);
+    put_end_lines(&mut notes, alloc, &ran);
+    let notes = have!(notes.finish());
     Ok(Answer {
         ending: ending_of(ran.closed.end()),
         ran: Some(ran),
@@ -108,7 +114,7 @@ fn tell_generated(alloc: Global, size: u32, ran: Ran) -> Result<Answer, Ending>
     requires run { IsReadyRun ran }
     ensures { ReportsGenerated size ran result }
 {
-    let output = have!(generated_output(alloc, size, &ran), Ending::OutOfMemory);
+    let output = have!(generated_output(alloc, size, &ran));
     Ok(Answer {
         ending: ending_of(ran.closed.end()),
         ran: Some(ran),
@@ -130,12 +136,9 @@ pub(crate) fn run_generated<R: Threads + Wait + Sync, G: Gate>(
         → AnswersCommand f s made (Gen size workers) result }
 {
     accepted_options_are_in_range();
-    let text = have!(generated(host.alloc, size), Ending::OutOfMemory);
+    let text = have!(generated(host.alloc, size));
     let code = compile(host.rt, host.alloc, text.as_slice())?;
     let input = Text::of(Vec::new(host.alloc));
-    let ran = have!(
-        run_prepared(host, code, input, workers, &default_limits()),
-        Ending::OutOfMemory
-    );
+    let ran = have!(run_prepared(host, code, input, workers, &default_limits()));
     tell_generated(host.alloc, size, ran)
 }

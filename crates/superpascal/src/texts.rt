@@ -36,7 +36,7 @@ pub(crate) fn check<L: Library>(
 {
     let text = load_text(alloc, library, file)?;
     accepts_apart(rt, alloc, text.as_slice())?;
-    let line = have!(Vec::from_slice(alloc, b"accepted\n"), Ending::OutOfMemory);
+    let line = have!(Vec::from_slice(alloc, b"accepted\n"));
     Ok(accepted(Vec::new(alloc), line))
 }
 
@@ -53,7 +53,7 @@ pub(crate) fn list<L: Library>(
     let code = prepare(rt, alloc, library, file)?;
     let lines = listing(alloc, &code);
     drop(code);
-    let lines = have!(lines, Ending::OutOfMemory);
+    let lines = have!(lines);
     Ok(accepted(lines, Vec::new(alloc)))
 }
 
@@ -70,7 +70,7 @@ pub(crate) fn build<L: Library>(
     let code = prepare(rt, alloc, library, file)?;
     let bytes = encode(alloc, &code);
     drop(code);
-    let bytes = have!(bytes, Ending::OutOfMemory);
+    let bytes = have!(bytes);
     if bytes.len() > LONGEST_CODE {
         return Err(Ending::LongCode);
     }

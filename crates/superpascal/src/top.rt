@@ -62,10 +62,7 @@ fn run<R: Threads + Wait + Sync, L: Library, I: Source, G: Gate>(
 {
     let code = prepare(host.rt, host.alloc, library, &asked.file)?;
     let input = read_input(host.alloc, input)?;
-    let ran = have!(
-        run_prepared(host, code, input, asked.workers, &asked.limits),
-        Ending::OutOfMemory
-    );
+    let ran = have!(run_prepared(host, code, input, asked.workers, &asked.limits));
     tell_run(host.alloc, watchers, asked.telling, ran)
 }
 

@@ -6,7 +6,7 @@ pub run_code_file-requires-clause-sound : goal.run_code_file-requires-clause-sou
 run_code_file-requires-clause-sound g c κs within =
     sound_held c.accepted_programs_are_ready.ensures c.a_text_is_of_one_code.ensures c.args.code c.args.input
     c.args.workers c.args.limits.now
-    c.requires.range c.in-Ok.value.value c.in-Ok-new.value.value c.in-Ok.ensures.ok c.in-Ok-new.ensures.ok
+    c.requires.range c.in-Ok.code.value c.in-Ok-new.input.value c.in-Ok.ensures.ok c.in-Ok-new.ensures.ok
     c.verified_code_is_sound.ensures.sound c.requires.file
 
 pub run_code_file-requires-clause-limits : goal.run_code_file-requires-clause-limits
@@ -16,5 +16,5 @@ pub returns : goal.returns
 returns g c =
     execution_if c.accepted_programs_are_ready.ensures c.a_text_is_of_one_code.ensures c.args.code c.args.input
     c.args.workers c.args.limits.now
-    c.requires.range c.in-Ok.value.value c.in-Ok-new.value.value c.in-Ok.ensures.ok c.in-Ok-new.ensures.ok
+    c.requires.range c.in-Ok.code.value c.in-Ok-new.input.value c.in-Ok.ensures.ok c.in-Ok-new.ensures.ok
     c.run_code_file.result c.run_code_file.ensures

@@ -5,13 +5,13 @@ pub run_program-requires-clause-program : goal.run_program-requires-clause-progr
 run_program-requires-clause-program g c κs within =
     ready_held c.accepted_programs_are_ready.ensures c.args.code c.args.input c.args.workers c.args.limits.now
     c.requires.range
-    c.in-Ok.value.value c.in-Ok-new.value.value c.in-Ok.ensures.ok c.in-Ok-new.ensures.ok c.requires.code
+    c.in-Ok.code.value c.in-Ok-new.input.value c.in-Ok.ensures.ok c.in-Ok-new.ensures.ok c.requires.code
 
 pub returns-clause-ready : goal.returns-clause-ready
 returns-clause-ready g c =
     ready_if c.accepted_programs_are_ready.ensures c.args.code c.args.input c.args.workers c.args.limits.now
     c.requires.range
-    c.in-Ok.value.value c.in-Ok-new.value.value c.in-Ok.ensures.ok c.in-Ok-new.ensures.ok c.requires.code
+    c.in-Ok.code.value c.in-Ok-new.input.value c.in-Ok.ensures.ok c.in-Ok-new.ensures.ok c.requires.code
     c.run_program.result
     c.run_program.ensures.program
 
@@ -19,6 +19,6 @@ pub returns-clause-run : goal.returns-clause-run
 returns-clause-run g c =
     is_run_if c.accepted_programs_are_ready.ensures c.args.code c.args.input c.args.workers c.args.limits.now
     c.requires.range
-    c.in-Ok.value.value c.in-Ok-new.value.value c.in-Ok.ensures.ok c.in-Ok-new.ensures.ok
+    c.in-Ok.code.value c.in-Ok-new.input.value c.in-Ok.ensures.ok c.in-Ok-new.ensures.ok
     c.races_are_shown.ensures.shown
     c.run_program.result c.run_program.ensures.program
