@@ -104,7 +104,3 @@ fits_not st fs (suc m) n below g s some at e f = let i : m ≡ suc m - 1 = omega
     ap (first_fit fs (suc m)) e ∙ one_formal fs m g s (list_of st below) (ap (slice_get fs) i ∙ at)
     ∙ ap (λ b. first_fit fs m (list_of st below) && b) f
     ∙ and_with_false (first_fit fs m (list_of st below))
-
--- no formal is left
-pub fits_empty : (fs : List Formal) (k : ℕ) (ss : List Shape) → k ≡ 0 → first_fit fs k ss ≡ true
-fits_empty fs k ss e = ap (λ n. first_fit fs n ss) e

@@ -13,4 +13,6 @@ pub mod ReachLaws
 pub mod CallRepeats
 mod Formals
 mod Memos
+mod AlikeLists
+mod SeenJumps
 mod MessageLengths

@@ -1,22 +1,18 @@
 -- Operands and formals that were seen to fit.
-use Rattle.std.proofs.Common.{◌≡◌, ◌⊎◌, inl, inr, ⊎_elim, refl, sym, ◌∙◌, ap, subst, ℕ, ◌<◌, List, [], Some, Bool}
+use Rattle.std.proofs.Common.{◌≡◌, ◌⊎◌, inl, inr, ⊎_elim, refl, sym, ◌∙◌, ap, ℕ, ◌≤◌, List, [], Bool}
 use Rattle.std.proofs.Common.{true, false, arith, eqb-true}
-use Rattle.std.specs.Prelude.{cond, slice_get}
+use Rattle.std.specs.Prelude.{cond}
 use Rattle.std.specs.List.{list_any}
 use Rattle.std.specs.Ordering.{nat_cmp, is_eq, ordering_then}
 use Rattle.std.specs.Cmp.{unsigned_tied}
 use Rattle.std.specs.BTreeMap.{is_at}
 use Rattle.std.specs.BTreeSet.{contains}
 use Rattle.std.proofs.lemmas.Bool.{and_parts}
-use Rattle.std.proofs.lemmas.Option.{same_Some}
 use Rattle.sp_base.proofs.Facts.{tie_of_both}
 use Rattle.sp_code.specs.declared.code.Formal.{Formal}
-use Rattle.sp_code.specs.declared.code.Layout.{Layout}
 use Rattle.sp_verify_shapes.specs.declared.memo.Memo.{Memo}
 use Rattle.sp_verify_shapes.specs.declared.stacks.Stacks.{Stacks}
-use Rattle.sp_verify_shapes.specs.Fits.{first_fit}
-use Rattle.sp_verify_shapes.specs.Memos.{AddsFit, AddsFits, AreFits, AreFitsOf, fit_cmp, has_fit}
-use Rattle.sp_verify_shapes.specs.Stacks.{list_of}
+use Rattle.sp_verify_shapes.specs.Memos.{AddsFit, AddsFits, fit_cmp, has_fit}
 
 -- ---- one more
 
@@ -53,36 +49,8 @@ adds_none old new p k n e q i m h = inl (ap (list_any (is_at (fit_cmp (q, i, m))
 
 -- ---- while operands are compared
 
--- one more, with fewer formals
-pub adds_lower : (st : Stacks) (fs : List Formal) (p k j n : ℕ) (b : Bool) (old mid new : Memo) → j < k
-    → first_fit fs j (list_of st n) ≡ b → AddsFits st fs p k b old mid → AddsFit mid new p j n
-    → AddsFits st fs p j b old new
-adds_lower st fs p k j n b old mid new l fit before one q i m e = ⊎_elim
-    (λ h. ⊎_elim (λ o. inl o) (λ w. inr (w.0, (let x = w.1 in omega (arith, l, x)), w.2)) (before q i m h))
-    (λ h. inr (
-      h.0,
-      (let x = h.1 in omega (arith, x)),
-      ap (λ y. first_fit fs y (list_of st m)) h.1 ∙ ap (λ y. first_fit fs j (list_of st y)) h.2 ∙ fit,
-    ))
-    (one q i m e)
-
-pub adds_all : (st : Stacks) (fs : List Formal) (p k : ℕ) (b : Bool) (old new : Memo) → AddsFits st fs p k b old new
-    → AddsFits st fs p 0 b old new
-adds_all st fs p k b old new before q i n e = ⊎_elim (λ o. inl o) (λ w. inr (w.0, omega arith, w.2)) (before q i n e)
-
--- what is met with fewer formals was kept before
-pub known_before : (st : Stacks) (fs : List Formal) (p k j n : ℕ) (b : Bool) (old mid : Memo) → j < k
-    → AddsFits st fs p k b old mid → AreFitsOf fs st p old → has_fit mid p j n ≡ true
-    → first_fit fs j (list_of st n) ≡ true
-known_before st fs p k j n b old mid l before are e =
-    ⊎_elim (λ o. are j n o) (λ w. let x = w.1 in absurd (omega (arith, l, x))) (before p j n e)
-
--- ---- where all fit
-
-pub fits_after : (ls : List Layout) (st : Stacks) (p : ℕ) (l : Layout) (b : Bool) (old new : Memo)
-    → slice_get ls p ≡ Some l → b ≡ true → AddsFits st l.formals p 0 b old new → AreFits ls st old
-    → AreFits ls st new
-fits_after ls st p l b old new at whole adds are q m e i n h = ⊎_elim (λ o. are q m e i n o)
-    (λ w. let same : l ≡ m = same_Some l m (sym at ∙ ap (slice_get ls) (sym w.0) ∙ e) in
-    subst (λ (x : Layout). first_fit x.formals i (list_of st n) ≡ true) same (w.2 ∙ whole))
-    (adds q i n h)
+-- those with at least so many formals
+pub adds_fewer : (st : Stacks) (fs : List Formal) (p j k : ℕ) (b : Bool) (old new : Memo) → j ≤ k
+    → AddsFits st fs p k b old new → AddsFits st fs p j b old new
+adds_fewer st fs p j k b old new l before q i n e =
+    ⊎_elim (λ o. inl o) (λ w. inr (w.0, (let x = w.1 in omega (arith, l, x)), w.2)) (before q i n e)

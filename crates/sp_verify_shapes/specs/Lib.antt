@@ -2,6 +2,8 @@ pub mod Asks
 pub mod Stacks
 pub mod Fits
 pub mod Memos
+pub mod Names
+pub mod Seen
 pub mod Plans
 pub mod Remainders
 pub mod Steps

@@ -1,11 +1,10 @@
 -- None of this belongs to what the program promises: it is for contracts between crates.
 -- Operands and formals that were seen to fit.
-use Rattle.std.specs.Prelude.{◌≡◌, ◌⊎◌, ℕ, ◌≤◌, List, Some, Bool, true, slice_get}
+use Rattle.std.specs.Prelude.{◌≡◌, ◌⊎◌, ℕ, ◌≤◌, List, Bool, true}
 use Rattle.std.specs.declared.cmp.Ordering.{Ordering}
 use Rattle.std.specs.Ordering.{nat_cmp, ordering_then}
 use Rattle.std.specs.BTreeSet.{contains}
 use Rattle.sp_code.specs.declared.code.Formal.{Formal}
-use Rattle.sp_code.specs.declared.code.Layout.{Layout}
 use Rattle.sp_verify_shapes.specs.declared.memo.Memo.{Memo}
 use Rattle.sp_verify_shapes.specs.declared.stacks.Stacks.{Stacks}
 use Rattle.sp_verify_shapes.specs.Fits.{first_fit}
@@ -27,10 +26,6 @@ AddsFit old new p k n = (q i m : ℕ) → has_fit new q i m ≡ true
 -- those of a layout do fit
 abbrev pub AreFitsOf : List Formal → Stacks → ℕ → Memo → Type 0
 AreFitsOf fs st p memo = (k n : ℕ) → has_fit memo p k n ≡ true → first_fit fs k (list_of st n) ≡ true
-
--- all do
-abbrev pub AreFits : List Layout → Stacks → Memo → Type 0
-AreFits ls st memo = (p : ℕ) (l : Layout) → slice_get ls p ≡ Some l → AreFitsOf l.formals st p memo
 
 -- no others are kept than before, and some of a layout, with at least k formals: these fit if b says so
 abbrev pub AddsFits : Stacks → List Formal → ℕ → ℕ → Bool → Memo → Memo → Type 0

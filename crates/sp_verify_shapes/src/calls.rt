@@ -8,15 +8,15 @@ ghost use Rattle.sp_verify_areas.specs.declared.owners.Owner.{Owner};
 ghost use Rattle.sp_verify_rules.specs.Rules.{BreaksV5, call_fits, fits_formal, some_reference};
 ghost use Rattle.sp_verify_shapes.specs.Asks.{AreAsked, AreAsks};
 ghost use Rattle.sp_verify_shapes.specs.Fits.{Passes, first_fit, layout_fits};
-ghost use Rattle.sp_verify_shapes.specs.Memos.{AddsFits, AreFits, AreFitsOf};
 ghost use Rattle.sp_verify_shapes.specs.ReachRules.{answers_by_reference, fails_at};
 ghost use Rattle.sp_verify_shapes.specs.Repeats.{AreRepeats};
+ghost use Rattle.sp_verify_shapes.specs.Seen.{AddsSeen, AreSeen, AreSeenOf};
 ghost use Rattle.sp_verify_shapes.specs.Shapes.{AreShapes};
 ghost use Rattle.sp_verify_shapes.specs.Stacks.{IsListNumber, IsStacks, list_of, shape_of};
 
 use crate::asks::{Ask, covers_all};
-use crate::memo::Memo;
 use crate::reach::reached;
+use crate::seen::Seen;
 use crate::shapes::Shapes;
 use crate::stacks::{Jump, Shape, Stacks};
 use sp_base::List;
@@ -86,40 +86,46 @@ fn is_due(ahead: usize, count: usize, left: usize) -> bool {
     ahead == 0 && left / STRIDE < count / STRIDE
 }
 
-// Whether the first shapes of a list, the last operand first, fit the formals of the layout at a place. It keeps in the
-// memo at which places of the list this was asked: what is kept there is true if they fit.
+// Whether the first shapes of a list, the last operand first, fit the formals of the layout at a place. It keeps at
+// which places of the list this was asked, and of which jumps: what is kept there is true if they fit.
 fn fit_formals(
     stacks: &Stacks,
     formals: &[Formal],
     asks: &List<Ask>,
-    memo: &mut Memo,
+    seen: &mut Seen,
     place: usize,
     n: u32,
 ) -> bool
     requires stacks { IsStacks stacks.now }
     requires there { IsListNumber stacks.now n }
     requires asks { AreAsks formals.now asks.now }
-    requires known { AreFitsOf formals.now stacks.now place memo.old }
+    requires known { AreSeenOf formals.now stacks.now place seen.old }
     ensures fit { result ≡ first_fit formals.now (length formals.now) (list_of stacks.now n) }
-    ensures adds { AddsFits stacks.now formals.now place 0
-        (first_fit formals.now (length formals.now) (list_of stacks.now n)) memo.old memo.new }
+    ensures adds { AddsSeen stacks.now formals.now place
+        (first_fit formals.now (length formals.now) (list_of stacks.now n)) seen.old seen.new }
 {
     let mut count = formals.len();
     let mut rest = n;
     let mut ahead = STRIDE;
     'operands: while 0 < count {
-        match pass(stacks, formals, asks, rest, count) {
-            None => return false,
+        match seen.passes(stacks, ahead == 0, place, count, rest) {
             Some(jump) => {
-                let left = count - jump.far as usize;
-                ahead = ahead.saturating_sub(1);
-                let due = is_due(ahead, count, left);
-                if memo.meets(due, place, left, jump.to) {
-                    return true;
-                }
                 rest = jump.to;
-                count = left;
+                count -= jump.far as usize;
             }
+            None => match pass(stacks, formals, asks, rest, count) {
+                None => return false,
+                Some(jump) => {
+                    let left = count - jump.far as usize;
+                    ahead = ahead.saturating_sub(1);
+                    let due = is_due(ahead, count, left);
+                    if seen.wholes.meets(due, place, left, jump.to) {
+                        return true;
+                    }
+                    rest = jump.to;
+                    count = left;
+                }
+            },
         }
     }
     true
@@ -129,16 +135,16 @@ fn fit_formals(
 fn layout_fits(
     layouts: &List<Layout>,
     shapes: &Shapes,
-    memo: &mut Memo,
+    seen: &mut Seen,
     place: usize,
     n: u32,
 ) -> bool
     requires stacks { IsStacks shapes.now.stacks }
     requires asked { AreAsked layouts.now shapes.now.asked }
-    requires known { AreFits layouts.now shapes.now.stacks memo.old }
+    requires known { AreSeen layouts.now shapes.now.stacks seen.old }
     requires there { IsListNumber shapes.now.stacks n }
     ensures fit { result ≡ layout_fits (slice_get layouts.now place) (list_of shapes.now.stacks n) }
-    ensures known { result ≡ true → AreFits layouts.now shapes.now.stacks memo.new }
+    ensures known { result ≡ true → AreSeen layouts.now shapes.now.stacks seen.new }
 {
     match layouts.get(place) {
         None => false,
@@ -146,7 +152,7 @@ fn layout_fits(
             &shapes.stacks,
             l.formals.items(),
             &shapes.asked.items()[place],
-            memo,
+            seen,
             place,
             n,
         ),
@@ -158,22 +164,22 @@ fn call_fits(
     parts: &Parts,
     blocks: &Blocks,
     shapes: &Shapes,
-    memo: &mut Memo,
+    seen: &mut Seen,
     instr: Instr,
     n: u32,
 ) -> bool
     requires blocks { IsNumbered blocks.now.first parts.now.layouts }
     requires stacks { IsStacks shapes.now.stacks }
     requires asked { AreAsked parts.now.layouts shapes.now.asked }
-    requires known { AreFits parts.now.layouts shapes.now.stacks memo.old }
+    requires known { AreSeen parts.now.layouts shapes.now.stacks seen.old }
     requires there { IsListNumber shapes.now.stacks n }
     ensures fit { result ≡ call_fits parts.now (Some instr) (list_of shapes.now.stacks n) }
-    ensures known { result ≡ true → AreFits parts.now.layouts shapes.now.stacks memo.new }
+    ensures known { result ≡ true → AreSeen parts.now.layouts shapes.now.stacks seen.new }
 {
     match instr {
         Instr::Call { block, up: _ } => match blocks.place(block) {
             None => false,
-            Some(place) => layout_fits(&parts.layouts, shapes, memo, place as usize, n),
+            Some(place) => layout_fits(&parts.layouts, shapes, seen, place as usize, n),
         },
         _ => true,
     }
@@ -185,14 +191,14 @@ fn misfits(
     blocks: &Blocks,
     shapes: &Shapes,
     repeats: &List<bool>,
-    memo: &mut Memo,
+    seen: &mut Seen,
     p: u32,
 ) -> bool
     requires blocks { IsNumbered blocks.now.first code.now.layouts }
     requires shapes { AreShapes code.now shapes.now }
-    requires known { AreFits code.now.layouts shapes.now.stacks memo.old }
+    requires known { AreSeen code.now.layouts shapes.now.stacks seen.old }
     ensures fails { result ≡ (not (flag_at repeats.now p) && fails_at (call_fits code.now) code.now shapes.now p) }
-    ensures known { result ≡ false → AreFits code.now.layouts shapes.now.stacks memo.new }
+    ensures known { result ≡ false → AreSeen code.now.layouts shapes.now.stacks seen.new }
 {
     if flag_at(repeats, p as usize) {
         return false;
@@ -201,7 +207,7 @@ fn misfits(
         None => false,
         Some(n) => match code.instr(p) {
             None => false,
-            Some(instr) => !call_fits(code.parts(), blocks, shapes, memo, instr, n),
+            Some(instr) => !call_fits(code.parts(), blocks, shapes, seen, instr, n),
         },
     }
 }
@@ -214,9 +220,9 @@ fn first_misfit(code: &Code, blocks: &Blocks, shapes: &Shapes, repeats: &List<bo
     ensures { IsLeast (λ p. fails_at (call_fits code.now) code.now shapes.now p ≡ true) result }
 {
     let instrs = &code.parts().instrs;
-    let mut memo = Memo::new(instrs.alloc());
+    let mut seen = Seen::new(instrs.alloc());
     for p in 0..instrs.len() {
-        if misfits(code, blocks, shapes, repeats, &mut memo, p as u32) {
+        if misfits(code, blocks, shapes, repeats, &mut seen, p as u32) {
             return Some(p as u32);
         }
     }

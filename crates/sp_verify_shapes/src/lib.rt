@@ -15,7 +15,8 @@
 //!
 //! To know:
 //! - The types are `Shapes` and `Outcome` (`shapes`), `Shape` and `Stacks` (`stacks`), `Ask` (`asks`), `Plan`
-//!   (`plans`), `Step` and `Arrival` (`steps`), `Search` (`search`), `Message` (`messages`), `Memo` (`memo`).
+//!   (`plans`), `Step` and `Arrival` (`steps`), `Search` (`search`), `Message` (`messages`), `Memo` (`memo`),
+//!   `Names` (`names`), `Seen` (`seen`).
 //! - Each answer is exact. The only other one is want of memory.
 //! - Where V2 is kept, all ways bring the same shapes to an instruction: so `Shapes` has one list for each.
 //! - `stacks.rt` keeps each list of shapes once. `plans.rt` has what each instruction takes, leaves and goes on to, in
@@ -26,7 +27,9 @@
 //!   operands of calls that say nothing new. `stacks.rt` has jumps, by which `operands.rt` takes many operands at once.
 //! - Each jump keeps a formal that all of its operands fit. `asks.rt` keeps, for parts of the formals of each block, a
 //!   formal such that what fits it fits them all. So V5 compares many operands with many formals at once. `memo.rt`
-//!   keeps what was seen to fit: calls of one block with lists that end alike are compared down to there.
+//!   keeps what was seen to fit: calls of one block with lists that end alike are compared down to there. Lists whose
+//!   jumps pass alike shapes have one name (`names.rt`), so operands that come again at another height are known too
+//!   (`seen.rt`).
 //!
 //! Lemmas for others, in `proofs`:
 //! - `ReachLaws`: the table of shapes has, at each instruction, the shapes that ways bring there.
@@ -40,11 +43,13 @@ pub mod cells;
 pub mod have;
 pub mod memo;
 pub mod messages;
+pub mod names;
 pub mod operands;
 pub mod plans;
 pub mod reach;
 pub mod repeats;
 pub mod search;
+pub mod seen;
 pub mod shapes;
 pub mod stacks;
 pub mod steps;

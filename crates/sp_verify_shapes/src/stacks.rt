@@ -1,7 +1,8 @@
 //! Lists of shapes, each kept once: equal lists have equal numbers, and a deep one is not copied.
 
-ghost use Rattle.std.specs.Prelude.{◌≡◌, ◌∷◌, [], ◌<◌, ◌≤◌, IfOk, MatchOption, Some, true};
+ghost use Rattle.std.specs.Prelude.{◌≡◌, ◌∷◌, [], ◌<◌, ◌≤◌, IfOk, MatchOption, Some, length, true};
 ghost use Rattle.sp_verify_rules.specs.Rules.{fits_formal};
+ghost use Rattle.sp_verify_shapes.specs.Names.{IsCell};
 ghost use Rattle.sp_verify_shapes.specs.Stacks.{Extends, IsJump, IsListNumber, IsSmall, IsStacks, key_of, list_of};
 ghost use Rattle.sp_verify_shapes.specs.Stacks.{number_at};
 ghost use Rattle.sp_verify_shapes.specs.Stacks.{shape_of};
@@ -195,6 +196,24 @@ impl Stacks {
             None => None,
             Some(cell) => Some((cell.shape, cell.below)),
         }
+    }
+
+    /// How many lists there are, the empty one left out.
+    pub(crate) fn count(&self) -> u32
+        requires stacks { IsStacks self.now }
+        ensures { result ≡ length self.now.cells }
+    {
+        self.cells.len() as u32
+    }
+
+    /// The first shape of a list, the rest and the jump; nothing of the empty list.
+    pub(crate) fn cell(&self, n: u32) -> Option<Cell>
+        ensures { MatchOption result (Unit {0}) (IsCell self.now n) }
+    {
+        if n == 0 {
+            return None;
+        }
+        self.cells.get(n as usize - 1).copied()
     }
 
     /// A jump from a list, no farther than so many shapes; nothing from the empty list.

@@ -10,7 +10,7 @@ use Rattle.sp_verify_shapes.proofs.CallRepeats.{fails_again, not_here, none_more
 use Rattle.sp_verify_shapes.proofs.calls.first_misfit.Goals as goal
 
 pub loop-p-init : goal.loop-p-init
-loop-p-init c = (λ k l. absurd (omega (arith, l)), λ p l at k n e. absurd (c.new-memo.ensures p k n e))
+loop-p-init c = (λ k l. absurd (omega (arith, l)), c.new-seen.ensures c.args.code.now.layouts c.args.shapes.now.stacks)
 
 pub returns-then-misfits : goal.returns-then-misfits
 returns-then-misfits c =

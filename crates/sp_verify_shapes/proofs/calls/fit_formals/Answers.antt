@@ -1,74 +1,36 @@
-use Rattle.std.proofs.Common.{◌≡◌, ◌-◌, inl, refl, sym, ◌∙◌, arith, length}
+use Rattle.std.proofs.Common.{◌+◌, ◌-◌, inl, refl, sym, ◌∙◌, arith, length, subst}
 use Rattle.sp_verify_shapes.specs.Fits.{first_fit}
+use Rattle.sp_verify_shapes.specs.Memos.{AddsFits}
 use Rattle.sp_verify_shapes.specs.Stacks.{list_of}
-use Rattle.sp_verify_shapes.proofs.Formals.{fits_empty}
-use Rattle.sp_verify_shapes.proofs.Memos.{adds_all, adds_lower, known_before}
+use Rattle.sp_verify_shapes.proofs.Memos.{adds_fewer}
+use Rattle.sp_verify_shapes.proofs.SeenJumps.{parts_all, parts_lower, passes_seen}
 use Rattle.sp_verify_shapes.proofs.calls.fit_formals.Goals as goal
 
 pub operands-init : goal.operands-init
-operands-init c = (c.requires.there, omega arith, refl, λ q i n e. inl e)
+operands-init c = (c.requires.there, omega arith, refl, (λ q i n e. inl e), (λ q i n e. inl e), c.requires.known.2)
 
-pub operands-preserved : goal.operands-preserved
-operands-preserved c =
+pub operands-preserved-in-Some : goal.operands-preserved-in-Some
+operands-preserved-in-Some c =
     let fs = c.args.formals.now in
     let st = c.args.stacks.now in
-    let p = c.in-Some.ensures in
-    let l = c.operands.invariant.1 in
-    let some = p.some in
-    let within = p.within in
-    let same = sym p.same ∙ c.operands.invariant.2 in (
-      p.held,
-      omega (arith, l),
-      same,
-      adds_lower st fs c.args.place c.operands.count (c.operands.count - c.in-Some.jump.far) c.in-Some.jump.to
-          (first_fit fs (length fs) (list_of st c.args.n)) c.args.memo.now c.operands.memo c.meets.new.self
-          (omega (arith, some, within)) same c.operands.invariant.3 c.meets.ensures.adds,
-    )
-
-pub returns-then-meets-clause-fit : goal.returns-then-meets-clause-fit
-returns-then-meets-clause-fit c =
-    let fs = c.args.formals.now in
-    let st = c.args.stacks.now in
-    let p = c.in-Some.ensures in
-    let some = p.some in
-    let within = p.within in
-    sym (known_before st fs c.args.place c.operands.count (c.operands.count - c.in-Some.jump.far) c.in-Some.jump.to
-    (first_fit fs (length fs) (list_of st c.args.n)) c.args.memo.now c.operands.memo (omega (arith, some, within))
-    c.operands.invariant.3 c.requires.known (c.meets.ensures.known c.if-meets.true))
-    ∙ sym p.same ∙ c.operands.invariant.2
-
-pub returns-then-meets-clause-adds : goal.returns-then-meets-clause-adds
-returns-then-meets-clause-adds c =
-    let fs = c.args.formals.now in
-    let st = c.args.stacks.now in
-    let p = c.in-Some.ensures in
+    let p = c.args.place in
+    let k = c.operands.count in
+    let j = c.in-Some.jump in
     let b = first_fit fs (length fs) (list_of st c.args.n) in
-    let some = p.some in
-    let within = p.within in
-    adds_all st fs c.args.place (c.operands.count - c.in-Some.jump.far) b c.args.memo.now c.meets.new.self
-    (adds_lower st fs c.args.place c.operands.count (c.operands.count - c.in-Some.jump.far) c.in-Some.jump.to b
-    c.args.memo.now c.operands.memo c.meets.new.self (omega (arith, some, within))
-    (sym p.same ∙ c.operands.invariant.2) c.operands.invariant.3 c.meets.ensures.adds)
-
-pub returns-in-None-clause-fit : goal.returns-in-None-clause-fit
-returns-in-None-clause-fit c = sym c.in-None.ensures ∙ c.operands.invariant.2
-
-pub returns-in-None-clause-adds : goal.returns-in-None-clause-adds
-returns-in-None-clause-adds c =
-    let fs = c.args.formals.now in
-    let st = c.args.stacks.now in
-    adds_all st fs c.args.place c.operands.count (first_fit fs (length fs) (list_of st c.args.n)) c.args.memo.now
-    c.operands.memo c.operands.invariant.3
-
-pub returns-clause-fit : goal.returns-clause-fit
-returns-clause-fit c =
-    let e : c.operands.count ≡ 0 = omega arith in
-    sym (fits_empty c.args.formals.now c.operands.count (list_of c.args.stacks.now c.operands.rest) e)
-    ∙ c.operands.invariant.2
-
-pub returns-clause-adds : goal.returns-clause-adds
-returns-clause-adds c =
-    let fs = c.args.formals.now in
-    let st = c.args.stacks.now in
-    adds_all st fs c.args.place c.operands.count (first_fit fs (length fs) (list_of st c.args.n)) c.args.memo.now
-    c.operands.memo c.operands.invariant.3
+    let h = c.in-Some.ensures.seen in
+    let i = c.operands.invariant in
+    let within = i.1 in
+    let some = h.some in
+    let few = h.within in
+    let to = passes_seen st fs p k c.operands.rest j b c.args.seen.now.parts c.operands.seen.parts within i.4
+    c.requires.known.1 h in (
+      to.held,
+      omega (arith, within),
+      sym to.same ∙ i.2,
+      subst (λ m. AddsFits st fs p (k - j.far) b c.args.seen.now.wholes m) (sym c.in-Some.ensures.wholes)
+          (adds_fewer st fs p (k - j.far) k b c.args.seen.now.wholes c.operands.seen.wholes (omega arith) i.3),
+      parts_all st fs p (k - j.far + 1) k b c.args.seen.now.parts c.passes.new.self.parts (omega (arith, some, few))
+          (parts_lower st fs p k c.operands.rest b c.args.seen.now.parts c.operands.seen.parts c.passes.new.self.parts
+          i.2 i.4 c.in-Some.ensures.adds),
+      c.in-Some.ensures.names,
+    )

@@ -4,9 +4,9 @@ use Rattle.sp_code.specs.declared.code.Formal.{Formal}
 use Rattle.sp_verify_shapes.specs.declared.asks.Ask.{Ask}
 use Rattle.sp_verify_shapes.specs.Asks.{AreAsks}
 use Rattle.sp_verify_shapes.specs.Fits.{first_fit}
-use Rattle.sp_verify_shapes.specs.Memos.{AddsFits, AreFitsOf}
+use Rattle.sp_verify_shapes.specs.Seen.{AddsSeen, AreSeenOf}
 use Rattle.sp_verify_shapes.specs.Stacks.{list_of}
-use Rattle.sp_verify_shapes.proofs.Memos.{fits_after}
+use Rattle.sp_verify_shapes.proofs.SeenJumps.{seen_after, seen_of}
 use Rattle.sp_verify_shapes.proofs.calls.layout_fits.Goals as goal
 
 pub fit_formals-requires-clause-asks : goal.fit_formals-requires-clause-asks
@@ -26,8 +26,10 @@ fit_formals-requires-clause-asks c =
 
 pub fit_formals-requires-clause-known : goal.fit_formals-requires-clause-known
 fit_formals-requires-clause-known c =
-    subst (λ fs. AreFitsOf fs c.args.shapes.now.stacks c.args.place c.args.memo.now) (sym c.items.ensures)
-    (c.requires.known c.args.place c.in-Some.l.now (sym c.in-Some.ensures))
+    let st = c.args.shapes.now.stacks in
+    let l = c.in-Some.l.now in
+    subst (λ fs. AreSeenOf fs st c.args.place c.args.seen.now) (sym c.items.ensures)
+    (seen_of c.args.layouts.now st c.args.place l c.args.seen.now (sym c.in-Some.ensures) c.requires.known)
 
 pub returns-in-Some-clause-known : goal.returns-in-Some-clause-known
 returns-in-Some-clause-known c = λ whole.
@@ -35,8 +37,8 @@ returns-in-Some-clause-known c = λ whole.
     let ss = list_of st c.args.n in
     let l = c.in-Some.l.now in
     let b = λ (fs : List Formal). first_fit fs (length fs) ss in
-    fits_after c.args.layouts.now st c.args.place l (b l.formals) c.args.memo.now c.fit_formals.new.memo
+    seen_after c.args.layouts.now st c.args.place l (b l.formals) c.args.seen.now c.fit_formals.new.seen
     (sym c.in-Some.ensures) (ap b (sym c.items.ensures) ∙ sym c.fit_formals.ensures.fit ∙ whole)
-    (subst (λ fs. AddsFits st fs c.args.place 0 (b fs) c.args.memo.now c.fit_formals.new.memo) c.items.ensures
+    (subst (λ fs. AddsSeen st fs c.args.place (b fs) c.args.seen.now c.fit_formals.new.seen) c.items.ensures
     c.fit_formals.ensures.adds)
     c.requires.known
