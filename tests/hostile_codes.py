@@ -487,6 +487,8 @@ FILES = {
     "unfit_values": lambda: calls_at_heights(kinds=("value 1",), unfit=True),
     "unfit_mixed": lambda: calls_of_lists(kinds=("reference 2", "value 1"), unfit=True),
     "unfit_own_cells": lambda: calls_of_lists(kinds=("reference 2", "reference 3"), unfit=True),
+    "unfit_mixed_at_heights": lambda: calls_at_heights(200_000, 50_000, ("reference 2", "value 1"), True, 2),
+    "unfit_threes_at_heights": lambda: calls_at_heights(200_000, 50_000, ("reference 2", "value 1", "value 1"), True, 3),
 }
 
 # Files in which two sizes still multiply: they take more than 10 seconds, or more than 2 GB.
@@ -495,5 +497,4 @@ OPEN = {
     "calls_of_one_again": lambda: calls_of_lists(own=2, again=True),
     "calls_in_child": lambda: calls_of_lists(in_child=True),
     "writer_at_heights": lambda: calls_at_heights(writes=True),
-    "unfit_mixed_at_heights": lambda: calls_at_heights(200_000, 50_000, ("reference 2", "value 1"), True, 2),
 }
